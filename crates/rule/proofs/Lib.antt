@@ -1,0 +1,9 @@
+pub mod Lists
+pub mod Calendar
+pub mod Counts
+pub mod Months
+pub mod Terms
+pub mod Years
+pub mod Leap
+pub mod Eclipses
+pub mod Paper

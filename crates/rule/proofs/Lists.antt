@@ -1,0 +1,146 @@
+-- Laws of the lists of specs/Lists: how long `those` is, its values under a map, and an entry of a table.
+-- Assumes nothing.
+use Prim.Native.Nat.{ℕ, zero, suc, _+_, _<_}
+use native.Mathlib.Nat.{add-zero, zero-add, add-suc, add-assoc, le-of-suc-le-suc, not-suc-le-zero}
+use native.Mathlib.Numerals.{add-one}
+use native.Mathlib.Omega.{arith}
+use mathlib.Core.Path.{_≡_, refl, ap, sym, _∙_, ap₂}
+use mathlib.Core.Bool.{Bool, true, false, not, _&&_}
+use mathlib.Core.List.{List, [], _∷_, _++_, map}
+use lib.ListN.{length, getD, length-append}
+use Rattle.rule.specs.Lists.{kept, those, table}
+
+-- a test as a number: 1 where it holds
+abbrev pub bit : Bool → ℕ
+bit true = 1
+bit false = 0
+
+length-kept : (b : Bool) (x : ℕ) → length (kept b x) ≡ bit b
+length-kept true x = refl
+length-kept false x = refl
+
+-- one count more
+pub length-more : (p : ℕ → Bool) (a k : ℕ) → length (those p a (suc k)) ≡ length (those p a k) + bit (p (a + k))
+unfolding those
+length-more p a k = omega (arith, length-append (those p a k) (kept (p (a + k)) (a + k)), length-kept (p (a + k)) (a + k))
+
+-- where f rises by one at each count that passes p and stays at each other, those that pass are counted by f
+pub counted : (f : ℕ → ℕ) (p : ℕ → Bool) → ((n : ℕ) → f (n + 1) ≡ f n + bit (p n)) → (a k : ℕ) → f (a + k) ≡ f a + length (those p a k)
+unfolding those
+counted f p step a zero = ap f (add-zero a) ∙ sym (add-zero (f a))
+counted f p step a (suc k) =
+    let e : f (a + suc k) ≡ f (a + k + 1) = ap f (omega arith) in
+    omega (arith, e, step (a + k), counted f p step a k, length-more p a k)
+
+-- those that pass a test and those that do not are all
+pub complement : (p : ℕ → Bool) (a k : ℕ) → length (those p a k) + length (those (λ n. not (p n)) a k) ≡ k
+unfolding those
+complement p a zero = refl
+complement p a (suc k) =
+    omega (arith, length-more p a k, length-more (λ n. not (p n)) a k, complement p a k, both (p (a + k)))
+  where
+    both : (b : Bool) → bit b + bit (not b) ≡ 1
+    both true = refl
+    both false = refl
+
+-- two tests that agree on a run pass as many of it
+pub length-same : (p q : ℕ → Bool) (a k : ℕ) → ((i : ℕ) → i < k → p (a + i) ≡ q (a + i)) → length (those p a k) ≡ length (those q a k)
+unfolding those
+length-same p q a zero h = refl
+length-same p q a (suc k) h =
+    omega (
+      arith,
+      length-more p a k,
+      length-more q a k,
+      length-same p q a k (λ i l. h i (omega arith)),
+      ap bit (h k (omega arith)),
+    )
+
+pub length-all : (a k : ℕ) → length (those (λ n. true) a k) ≡ k
+unfolding those
+length-all a zero = refl
+length-all a (suc k) = omega (arith, length-more (λ n. true) a k, length-all a k)
+
+length-none : (a k : ℕ) → length (those (λ n. false) a k) ≡ 0
+length-none a k = omega (arith, complement (λ n. true) a k, length-all a k)
+
+-- a run is its first part and the rest
+length-split : (p : ℕ → Bool) (a k l : ℕ) → length (those p a (k + l)) ≡ length (those p a k) + length (those p (a + k) l)
+unfolding those
+length-split p a k zero = omega (arith, ap (λ (n : ℕ). length (those p a n)) (add-zero k))
+length-split p a k (suc l) =
+    omega (
+      arith,
+      ap (λ (n : ℕ). length (those p a n)) (add-suc k l),
+      length-more p a (k + l),
+      length-more p (a + k) l,
+      length-split p a k l,
+      ap (λ (n : ℕ). bit (p n)) (add-assoc a k l),
+    )
+
+-- of all counts, those that lie in a window and pass p are those of the window that pass p: w tells the window, k counts from
+-- a on, with l counts after it
+pub within : (w p : ℕ → Bool) (a k l : ℕ) →
+    ((i : ℕ) → i < a → w i ≡ false) →
+    ((i : ℕ) → i < k → w (a + i) ≡ true) →
+    ((i : ℕ) → i < l → w (a + k + i) ≡ false) →
+    length (those (λ n. w n && p n) 0 (a + k + l)) ≡ length (those p a k)
+within w p a k l low mid high =
+    omega (
+      arith,
+      length-split both 0 (a + k) l,
+      length-split both 0 a k,
+      ap (λ (n : ℕ). length (those both n k)) (zero-add a),
+      ap (λ (n : ℕ). length (those both n l)) (zero-add (a + k)),
+      length-same both (λ n. false) 0 a (λ i h. ap (λ (b : Bool). b && p (0 + i)) (ap w (zero-add i) ∙ low i h)),
+      length-none 0 a,
+      length-same both p a k (λ i h. ap (λ (b : Bool). b && p (a + i)) (mid i h)),
+      length-same both (λ n. false) (a + k) l (λ i h. ap (λ (b : Bool). b && p (a + k + i)) (high i h)),
+      length-none (a + k) l,
+    )
+  where
+    both : ℕ → Bool
+    both n = w n && p n
+
+map-append : (f : ℕ → ℕ) (s t : List ℕ) → map f (s ++ t) ≡ map f s ++ map f t
+map-append f [] t = refl
+map-append f (x ∷ s) t = ap (λ (l : List ℕ). f x ∷ l) (map-append f s t)
+
+map-kept : (f : ℕ → ℕ) (b : Bool) (x : ℕ) → map f (kept b x) ≡ kept b (f x)
+map-kept f true x = refl
+map-kept f false x = refl
+
+-- the values of f at those that pass p, with one count more
+pub map-more : (f : ℕ → ℕ) (p : ℕ → Bool) (a k : ℕ) → map f (those p a (suc k)) ≡ map f (those p a k) ++ kept (p (a + k)) (f (a + k))
+unfolding those
+map-more f p a k = map-append f (those p a k) (kept (p (a + k)) (a + k)) ∙ ap (λ (l : List ℕ). map f (those p a k) ++ l) (map-kept f (p (a + k)) (a + k))
+
+table-from : (f : ℕ → ℕ) (i k j : ℕ) → j < k → getD (table f i k) j 0 ≡ f (i + j)
+unfolding table
+table-from f i zero j h = absurd (not-suc-le-zero h)
+table-from f i (suc k) zero h = ap f (sym (add-zero i))
+table-from f i (suc k) (suc j) h = table-from f (suc i) k j (le-of-suc-le-suc h) ∙ ap f (omega arith)
+
+-- an entry of a table is the function's value there
+pub entry : (f : ℕ → ℕ) (k j : ℕ) → j < k → getD (table f 0 k) j 0 ≡ f j
+entry f k j h = table-from f 0 k j h ∙ ap f (zero-add j)
+
+-- a table with one value more
+pub table-more : (f : ℕ → ℕ) (i k : ℕ) → table f i (suc k) ≡ table f i k ++ (f (i + k) ∷ [])
+unfolding table
+table-more f i zero = ap (λ (x : ℕ). f x ∷ []) (sym (add-zero i))
+table-more f i (suc k) =
+    ap (λ (l : List ℕ). f i ∷ l) (table-more f (suc i) k ∙ ap (λ (x : ℕ). table f (suc i) k ++ (f x ∷ [])) (omega arith))
+
+-- two tables are equal where the functions agree
+pub table-same : (f g : ℕ → ℕ) (i j k : ℕ) → ((l : ℕ) → f (i + l) ≡ g (j + l)) → table f i k ≡ table g j k
+unfolding table
+table-same f g i j zero h = refl
+table-same f g i j (suc k) h =
+    ap₂ _∷_ (ap f (sym (add-zero i)) ∙ h 0 ∙ ap g (add-zero j))
+    (table-same f g (suc i) (suc j) k (λ l. ap f (omega arith) ∙ h (suc l) ∙ ap g (omega arith)))
+
+pub table-length : (f : ℕ → ℕ) (i k : ℕ) → length (table f i k) ≡ k
+unfolding table
+table-length f i zero = refl
+table-length f i (suc k) = ap suc (table-length f (suc i) k)

@@ -1,0 +1,5 @@
+pub mod Counts
+pub mod Lists
+pub mod Rule
+pub mod Reasons
+pub mod Paper

@@ -1,0 +1,285 @@
+// The rule as arithmetic on counts: "Counts and names" and "The rule" of the paper, a function for each definition of specs/.
+// All of these are inner: what asks for a range in its `requires` is called where the range has been tested.
+ghost use mathlib.Core.Path.{_≡_};
+ghost use Prim.Native.Nat.{_+_, _≤_, _<_};
+ghost use lib.ListN.{getD};
+ghost use Rattle.rule.specs.Counts.{YearInRange, DayInRange, MonthInRange, dayName, yearName, ji, bu, yearInBu, headName};
+ghost use Rattle.rule.specs.Rule.{
+  monthStart,
+  smallRemainder,
+  monthLength,
+  monthOfDay,
+  quarterDay,
+  quarterParts,
+  termDay,
+  yearTerm,
+  firstMonth,
+  leapRemainder,
+  monthsInYear,
+  yearOfMonth,
+  midTermsBefore,
+  leap,
+  monthNumber,
+  monthAt,
+  eclipse,
+  printedList,
+};
+ghost use Rattle.rule.specs.Reasons.{reasonNumber};
+
+mod printed;
+
+use printed::PRINTED;
+
+// A month as a date holds it: ordinary or leap, with its number.
+pub enum Month {
+    Ordinary(u8),
+    Leap(u8),
+}
+
+// Why a query comes back, in the paper's order; `reason_number` gives its number.
+pub enum Reason {
+    NoSuchYear,
+    NoSuchMonthNumber,
+    NoSuchDayOfMonth,
+    NoSuchLeapMonth,
+    NoThirtiethDay,
+    NoSuchDay,
+    NoSuchMonth,
+    MoveOutOfRange,
+    SheetEndsEarly,
+    CountTooLarge,
+    BytesAfterLast,
+    LentTooShort,
+    BadWindow,
+    FieldOutOfRange,
+    NoSuchTermOrQuarter,
+}
+
+// The place of a year: ji 1 to 3, bu 1 to 20, year in bu 1 to 76.
+pub struct Place {
+    pub ji: u8,
+    pub bu: u8,
+    pub year_in_bu: u8,
+}
+
+// A quarter of a month: its day, and the rest in parts of 3,760.
+pub struct Quarter {
+    pub day: u32,
+    pub parts: u16,
+}
+
+// The number that the paper gives a reason.
+pub fn reason_number(r: Reason) -> u8
+    ensures { λ k. ⌜ k ≡ reasonNumber r ⌝ }
+{
+    match r {
+        Reason::NoSuchYear => 1,
+        Reason::NoSuchMonthNumber => 2,
+        Reason::NoSuchDayOfMonth => 3,
+        Reason::NoSuchLeapMonth => 4,
+        Reason::NoThirtiethDay => 5,
+        Reason::NoSuchDay => 6,
+        Reason::NoSuchMonth => 7,
+        Reason::MoveOutOfRange => 8,
+        Reason::SheetEndsEarly => 9,
+        Reason::CountTooLarge => 10,
+        Reason::BytesAfterLast => 11,
+        Reason::LentTooShort => 12,
+        Reason::BadWindow => 13,
+        Reason::FieldOutOfRange => 14,
+        Reason::NoSuchTermOrQuarter => 15,
+    }
+}
+
+// The name of a day.
+pub fn day_name(day: u32) -> u8
+    ensures { λ r. ⌜ r ≡ dayName day ⌝ }
+{
+    (day % 60 + 1) as u8
+}
+
+// The name of a year.
+pub fn year_name(year: u16) -> u8
+    ensures { λ r. ⌜ r ≡ yearName year ⌝ }
+{
+    ((year as u32 + 15) % 60 + 1) as u8
+}
+
+// The place of a year, from its elapsed years.
+pub fn place_of(year: u16) -> Place
+    requires { ⌜ YearInRange year ⌝ }
+    ensures { λ r. ⌜ (r .ji ≡ ji year) × (r .bu ≡ bu year) × (r .«year_in_bu» ≡ yearInBu year) ⌝ }
+{
+    let elapsed = year - 1;
+    Place {
+        ji: (elapsed % 4560 / 1520 + 1) as u8,
+        bu: (elapsed % 1520 / 76 + 1) as u8,
+        year_in_bu: (elapsed % 76 + 1) as u8,
+    }
+}
+
+// The head name of a bu, which is that of its first day.
+pub fn head_name(b: u8) -> u8
+    requires { ⌜ (1 ≤ b) × (b ≤ 20) ⌝ }
+    ensures { λ r. ⌜ r ≡ headName b ⌝ }
+{
+    day_name(27759 * (b as u32 - 1))
+}
+
+// The first day of a month; of the month after the last too, where the last month ends.
+pub fn month_start(n: u32) -> u32
+    requires { ⌜ n ≤ 507600 ⌝ }
+    ensures { λ r. ⌜ r ≡ monthStart n ⌝ }
+{
+    (27759 * (n as u64) / 940) as u32
+}
+
+// The small remainder of a month.
+pub fn small_remainder(n: u32) -> u16
+    ensures { λ r. ⌜ r ≡ smallRemainder n ⌝ }
+{
+    (27759 * (n as u64) % 940) as u16
+}
+
+// The length of a month: 30 days at a small remainder of 441 or more, else 29.
+pub fn month_length(n: u32) -> u8
+    ensures { λ r. ⌜ r ≡ monthLength n ⌝ }
+{
+    if small_remainder(n) < 441 { 29 } else { 30 }
+}
+
+// A quarter of a month: 0 new, 1 first, 2 full, 3 last.
+pub fn quarter_of(n: u32, q: u8) -> Quarter
+    requires { ⌜ MonthInRange n × (q ≤ 3) ⌝ }
+    ensures { λ r. ⌜ (r .day ≡ quarterDay n q) × (r .parts ≡ quarterParts n q) ⌝ }
+{
+    let parts = 27759 * (4 * (n as u64) + q as u64);
+    Quarter {
+        day: (parts / 3760) as u32,
+        parts: (parts % 3760) as u16,
+    }
+}
+
+// The day of a term of a year: 0 the solstice, even ones the mid-terms.
+pub fn term_day(year: u16, k: u8) -> u32
+    requires { ⌜ YearInRange year × (k ≤ 23) ⌝ }
+    ensures { λ r. ⌜ r ≡ termDay (yearTerm year k) ⌝ }
+{
+    487 * (24 * (year as u32 - 1) + k as u32) / 32
+}
+
+// The first month of a year; of the year after the last too, where the last year ends.
+pub fn first_month(year: u16) -> u32
+    requires { ⌜ (1 ≤ year) × (year ≤ 41041) ⌝ }
+    ensures { λ r. ⌜ r ≡ firstMonth year ⌝ }
+{
+    235 * (year as u32 - 1) / 19
+}
+
+// The leap remainder of a year.
+pub fn leap_remainder(year: u16) -> u8
+    requires { ⌜ YearInRange year ⌝ }
+    ensures { λ r. ⌜ r ≡ leapRemainder year ⌝ }
+{
+    (235 * (year as u32 - 1) % 19) as u8
+}
+
+// How many months a year has: 13 at a leap remainder of 12 or more, else 12.
+pub fn months_in_year(year: u16) -> u8
+    requires { ⌜ YearInRange year ⌝ }
+    ensures { λ r. ⌜ r ≡ monthsInYear year ⌝ }
+{
+    if leap_remainder(year) < 12 { 12 } else { 13 }
+}
+
+// The year that a month is in.
+pub fn year_of_month(n: u32) -> u16
+    requires { ⌜ MonthInRange n ⌝ }
+    ensures { λ r. ⌜ r ≡ yearOfMonth n ⌝ }
+{
+    ((19 * n + 18) / 235 + 1) as u16
+}
+
+// How many mid-terms fall on days before a month; whole days are compared.
+pub fn mid_terms_before(n: u32) -> u32
+    requires { ⌜ n ≤ 507600 ⌝ }
+    ensures { λ r. ⌜ r ≡ midTermsBefore n ⌝ }
+{
+    (16 * month_start(n) + 486) / 487
+}
+
+// Whether a month is leap: no mid-term falls on any of its days.
+pub fn is_leap(n: u32) -> bool
+    requires { ⌜ MonthInRange n ⌝ }
+    ensures { λ r. ⌜ r ≡ leap n ⌝ }
+{
+    mid_terms_before(n + 1) == mid_terms_before(n)
+}
+
+// The number of a month, that of the last mid-term before its end.
+pub fn month_number(n: u32) -> u8
+    requires { ⌜ MonthInRange n ⌝ }
+    ensures { λ r. ⌜ r ≡ monthNumber n ⌝ }
+{
+    ((mid_terms_before(n + 1) - 1 + 10) % 12 + 1) as u8
+}
+
+// A month as a date holds it.
+pub fn month_at(n: u32) -> Month
+    requires { ⌜ MonthInRange n ⌝ }
+    ensures { λ r. ⌜ r ≡ monthAt n ⌝ }
+{
+    if is_leap(n) {
+        Month::Leap(month_number(n))
+    } else {
+        Month::Ordinary(month_number(n))
+    }
+}
+
+// Whether a month is an eclipse month; a count without remainder belongs to the month already counted.
+pub fn is_eclipse(n: u32) -> bool
+    requires { ⌜ MonthInRange n ⌝ }
+    ensures { λ r. ⌜ r ≡ eclipse n ⌝ }
+{
+    23 * (n + 1) % 135 < 23
+}
+
+fn wide(x: u16) -> u32
+    ensures { λ r. ⌜ r ≡ x ⌝ }
+{
+    x as u32
+}
+
+// An entry of the printed list of a bu.
+pub fn printed_day(k: u32) -> u32
+    requires { ⌜ k < 940 ⌝ }
+    ensures { λ r. ⌜ r ≡ getD printedList k 0 ⌝ }
+{
+    wide(PRINTED[k as usize])
+}
+
+// Where a day, counted from its bu's head, falls in the printed list: the last entry that is not after it, by halving.
+fn place_in_list(d: u32) -> u32
+    requires { ⌜ d < 27759 ⌝ }
+    ensures { λ r. ⌜ r ≡ monthOfDay d ⌝ }
+{
+    let mut low: u32 = 0;
+    let mut high: u32 = 940;
+    while 1 < high - low {
+        let middle = low + (high - low) / 2;
+        if d < printed_day(middle) {
+            high = middle;
+        } else {
+            low = middle;
+        }
+    }
+    low
+}
+
+// The month that a day is in: whole bu before it, and its place in the printed list.
+pub fn month_of_day(day: u32) -> u32
+    requires { ⌜ DayInRange day ⌝ }
+    ensures { λ r. ⌜ r ≡ monthOfDay day ⌝ }
+{
+    940 * (day / 27759) + place_in_list(day % 27759)
+}
