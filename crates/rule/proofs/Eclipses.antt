@@ -1,16 +1,15 @@
 -- Laws of the eclipse months. Assumes nothing.
-use Prim.Native.Nat.{ℕ, _+_, _*_, _/_, _%_, _≤_, _<_}
+use Prim.Native.Nat.{ℕ, _+_, _*_, _/_, _%_, _<_}
 use native.Mathlib.Omega.{arith}
-use mathlib.Core.Path.{_≡_, refl, ap, sym, _∙_}
+use mathlib.Core.Path.{_≡_, refl, ap}
 use mathlib.Core.Logic.{_↔_}
 use mathlib.Core.Bool.{Bool, true, false}
 use lib.Dec.{ltb}
 use lib.ListN.{length}
 use borrow.Author.Tests.{ltb-true, ltb-false, lt-ltb, le-ltb}
 use Rattle.rule.specs.Lists.{those}
-use Rattle.rule.specs.Rule.{eclipse, monthOfDay}
+use Rattle.rule.specs.Rule.{eclipse}
 use Rattle.rule.proofs.Lists.{bit, counted}
-use Rattle.rule.proofs.Months.{of-day-shift}
 
 pub eclipse-rule : (n : ℕ) → (eclipse n ≡ true) ↔ (23 * (n + 1) % 135 < 23)
 unfolding eclipse
@@ -47,7 +46,3 @@ unfolding eclipse
 kept k n =
     let e : 23 * (n + 135 * k + 1) % 135 ≡ 23 * (n + 1) % 135 = omega arith in
     ap (λ (r : ℕ). ltb r 23) e
-
--- 749,493 days are 27 times 940 months, and these 188 times 135
-pub kept-days : (d : ℕ) → eclipse (monthOfDay (d + 749493)) ≡ eclipse (monthOfDay d)
-kept-days d = ap eclipse (of-day-shift 27 d) ∙ kept 188 (monthOfDay d)

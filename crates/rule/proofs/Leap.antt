@@ -1,23 +1,34 @@
 -- Laws of leap months and of numbers: the rule of the paper is an instance of Calendar. Assumes nothing.
-use Prim.Native.Nat.{ℕ, zero, suc, _+_, _-_, _*_, _/_, _%_, _≤_, _<_}
+use Prim.Native.Nat.{ℕ, _+_, _-_, _*_, _≤_, _<_}
 use native.Mathlib.Omega.{arith}
-use native.Mathlib.Numerals.{add-one}
 use mathlib.Core.Path.{_≡_, refl, ap, sym, _∙_}
 use mathlib.Core.Logic.{_↔_}
-use mathlib.Core.Bool.{Bool, true, false, not}
-use mathlib.Core.List.{List, map}
-use lib.Dec.{eqb}
+use mathlib.Core.Bool.{Bool, true, false}
+use mathlib.Core.List.{map}
 use lib.ListN.{length}
 use borrow.Author.Tests.{eq-eqb, ne-eqb}
 use Rattle.rule.specs.Lists.{those, table}
-use Rattle.rule.specs.Rule.{monthStart, termDay, midTermDay, midTermsBefore, firstMonth, leapRemainder, monthsInYear, InMonth, InYear, leap, midTermNumber, monthNumber, monthAt}
+use Rattle.rule.specs.Rule.{
+  monthStart,
+  termDay,
+  midTermDay,
+  midTermsBefore,
+  firstMonth,
+  monthsInYear,
+  InMonth,
+  InYear,
+  leap,
+  midTermNumber,
+  monthNumber,
+  monthAt,
+}
 use Rattle.rule.specs.declared.Month.the-variants.{Ordinary, Leap}
-use Rattle.rule.specs.Paper.{ordinary, monthsOf, After-namesake}
+use Rattle.rule.specs.Paper.{ordinary, monthsOf, AfterNamesake}
 use Rattle.rule.proofs.Lists.{table-same}
 use Rattle.rule.proofs.Months.{start-least, start-most}
 use Rattle.rule.proofs.Terms.{mid-apart, before-low, before-high, solstice-mid, solstice-low, solstice-high, before-shift}
-use Rattle.rule.proofs.Years.{first-step, first-next, months-long, months-short, nineteen}
-use Rattle.rule.proofs.Calendar.{Calendar, Fit, isLeap, isOrdinary}
+use Rattle.rule.proofs.Years.{first-step, first-next}
+use Rattle.rule.proofs.Calendar.{Calendar, Fit}
 use Rattle.rule.proofs.Calendar
 
 abbrev quarterRule : Calendar
@@ -154,7 +165,7 @@ leap-not-first y n h e =
     omega (arith, ap midTermsBefore e, ap (λ (m : ℕ). midTermsBefore (m + 1)) e, first-ordinary y, leap-stays n h)
 
 -- a leap month stands in its year after an ordinary month of its number
-pub after-namesake : (y n : ℕ) → InYear y n → leap n ≡ true → After-namesake y n
+pub after-namesake : (y n : ℕ) → InYear y n → leap n ≡ true → AfterNamesake y n
 after-namesake y n i h =
     record {
       later = omega (arith, later);

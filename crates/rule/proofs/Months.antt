@@ -1,7 +1,7 @@
 -- Laws of the months: starts, lengths, the month of a day, quarters. Assumes nothing.
-use Prim.Native.Nat.{ℕ, _+_, _-_, _*_, _/_, _%_, _≤_, _<_}
+use Prim.Native.Nat.{ℕ, _+_, _*_, _/_, _%_, _≤_, _<_}
 use native.Mathlib.Omega.{arith}
-use mathlib.Core.Path.{_≡_, refl, ap, sym, _∙_}
+use mathlib.Core.Path.{_≡_, ap, _∙_}
 use mathlib.Core.Logic.{_↔_}
 use Rattle.rule.specs.Counts.{DayInRange, MonthInRange}
 use Rattle.rule.specs.Rule.{monthStart, smallRemainder, monthLength, InMonth, monthOfDay, quarterDay, quarterParts}

@@ -1,15 +1,14 @@
 -- The sentences of specs/Paper, proved, each under its name in small letters. Assumes nothing.
 use Prim.Native.Nat.{ℕ, zero, suc, _+_, _-_, _*_, _/_, _%_, _≤_, _<_}
-use native.Mathlib.Nat.{zero-add}
 use native.Mathlib.Numerals.{add-one}
 use native.Mathlib.Omega.{arith}
 use mathlib.Core.Path.{_≡_, refl, ap, sym, _∙_}
-use mathlib.Core.Logic.{_↔_, _≢_}
+use mathlib.Core.Logic.{_≢_}
 use mathlib.Core.Bool.{Bool, true, false, _&&_, and-true, and-false, false≢true}
-use lib.Dec.{leb, eqb, ltb}
+use lib.Dec.{leb}
 use lib.ListN.{length, getD}
 use borrow.Author.Tests.{le-leb, lt-leb}
-use Rattle.rule.specs.Counts.{elapsed, YearInRange, dayName, yearName, ji, bu, yearInBu, headName}
+use Rattle.rule.specs.Counts.{elapsed, YearInRange, dayName, yearName, bu, yearInBu}
 use Rattle.rule.specs.Lists.{those, table}
 use Rattle.rule.specs.Rule.{
   monthStart,
@@ -19,12 +18,9 @@ use Rattle.rule.specs.Rule.{
   monthOfDay,
   termDay,
   yearTerm,
-  solsticeDay,
   midTermDay,
   firstMonth,
   leapRemainder,
-  monthsInYear,
-  InYear,
   yearOfMonth,
   midTermsBefore,
   leap,
@@ -34,8 +30,27 @@ use Rattle.rule.specs.Rule.{
   printedList,
   shortcutNumber,
 }
+use Rattle.rule.specs.Reasons.{reasonNumber}
+use Rattle.rule.specs.declared.Reason.{Reason}
+use Rattle.rule.specs.declared.Reason.the-variants.{
+  NoSuchYear,
+  NoSuchMonthNumber,
+  NoSuchDayOfMonth,
+  NoSuchLeapMonth,
+  NoThirtiethDay,
+  NoSuchDay,
+  NoSuchMonth,
+  MoveOutOfRange,
+  SheetEndsEarly,
+  CountTooLarge,
+  BytesAfterLast,
+  LentTooShort,
+  BadWindow,
+  FieldOutOfRange,
+  NoSuchTermOrQuarter,
+}
 use Rattle.rule.specs.Paper as Paper
-use Rattle.rule.specs.Paper.{MidTerm, NumberSentences, numbersInOrder, inNineteen, monthsOf, ordinary}
+use Rattle.rule.specs.Paper.{MidTerm, NumberSentences, numbersInOrder, inNineteen, reasonsInOrder}
 use Rattle.rule.proofs.Lists.{entry, table-length, within, length-same, length-all}
 use Rattle.rule.proofs.Counts
 use Rattle.rule.proofs.Months
@@ -89,7 +104,7 @@ head-name y l = Counts.bu-head y ∙ ap dayName (sym first-day)
 pub start-rises : Paper.Start-rises
 start-rises = Months.start-rises
 
-pub month-lengths : (n : ℕ) → Paper.Month-lengths n
+pub month-lengths : Paper.Month-lengths
 month-lengths n =
     record {
       least = Months.length-range n .0;
@@ -119,7 +134,7 @@ solstice-is-term-0 = Terms.solstice
 pub solstice-in-first-month : Paper.Solstice-in-first-month
 solstice-in-first-month y l = (Terms.solstice-low y, Terms.solstice-high y)
 
-pub thirteen-months : (y : ℕ) → 1 ≤ y → Paper.Thirteen-months y
+pub thirteen-months : Paper.Thirteen-months
 thirteen-months y l =
     record {
       thirteen = (
@@ -200,8 +215,8 @@ only-number f s (suc n) = rw (← add-one n) (go (only-number f s n) (leap (n + 
 pub numbers : Paper.Numbers
 numbers = record { said = number-said; only = only-number; first = first-not-leap }
 
-pub leap-months-of : (y : ℕ) → 1 ≤ y → Paper.Leap-months-of y
-leap-months-of y l =
+pub leap-months-of-year : Paper.Leap-months-of-year
+leap-months-of-year y l =
     record {
       one = λ h. omega (arith, Leap.year-leaps y l, Years.months-long y l h);
       none = λ h. omega (arith, Leap.year-leaps y l, Years.months-short y l h);
@@ -246,24 +261,19 @@ counted-in-nineteen p y r s =
     all = omega (arith, Years.nineteen y (r .0), Years.first-end (y + 19) (omega (arith, s .1)))
 
 pub nineteen-years : Paper.Nineteen-years
-nineteen-years y r s = (months, leaps)
-  where
-    months : length (those (inNineteen y) 0 507600) ≡ 235
-    months =
-        length-same (inNineteen y) (λ n. inNineteen y n && true) 0 507600 (λ i h. sym (and-true (inNineteen y (0 + i))))
-        ∙ counted-in-nineteen (λ n. true) y r s ∙ length-all (firstMonth y) 235
-
-    leaps : length (those (λ n. inNineteen y n && leap n) 0 507600) ≡ 7
-    leaps =
-        counted-in-nineteen leap y r s
-        ∙ omega (
-          arith,
-          Leap.leaps-counted (firstMonth y) 235,
-          ap midTermsBefore (Years.nineteen y (r .0)),
-          Leap.before-first y,
-          Leap.before-first (y + 19),
-          r .0,
-        )
+nineteen-years y r s = (
+  length-same (inNineteen y) (λ n. inNineteen y n && true) 0 507600 (λ i h. sym (and-true (inNineteen y (0 + i))))
+      ∙ counted-in-nineteen (λ n. true) y r s ∙ length-all (firstMonth y) 235,
+  counted-in-nineteen leap y r s
+      ∙ omega (
+        arith,
+        Leap.leaps-counted (firstMonth y) 235,
+        ap midTermsBefore (Years.nineteen y (r .0)),
+        Leap.before-first y,
+        Leap.before-first (y + 19),
+        r .0,
+      ),
+)
 
 pub eclipse-rule : Paper.Eclipse-rule
 eclipse-rule = Eclipses.eclipse-rule
@@ -274,15 +284,21 @@ eclipses-in-135 = Eclipses.in-135
 pub eclipse-already-counted : Paper.Eclipse-already-counted
 eclipse-already-counted = Eclipses.already-counted
 
+-- 749,493 days are 27 times 940 months, and these 188 times 135
 pub eclipses-kept : Paper.Eclipses-kept
-eclipses-kept = record { months = Eclipses.kept 1; days = Eclipses.kept-days }
+unfolding monthOfDay
+eclipses-kept =
+    record {
+      months = Eclipses.kept 1;
+      days = λ d. ap eclipse {y = monthOfDay d + 135 * 188} (omega arith) ∙ Eclipses.kept 188 (monthOfDay d);
+    }
 
 -- day 147 lies in month 5, the first eclipse month, and day 27,906 in month 945, which is none
 pub eclipses-not-kept : Paper.Eclipses-not-kept
 unfolding eclipse monthOfDay
 eclipses-not-kept = (147, omega arith, false≢true)
 
-pub shift : (k : ℕ) → Paper.Shift k
+pub shift : Paper.Shift
 shift k =
     record {
       starts = Months.start-shift k;
@@ -291,6 +307,7 @@ shift k =
       days = Months.of-day-shift k;
       mid-terms = Terms.mid-shift k;
       years = Years.first-shift k;
+      solstices = Terms.solstice-shift k;
       leap-remainders = Years.leap-remainder-shift k;
       months = Years.of-month-shift k;
       leap-months = Leap.leap-shift k;
@@ -326,3 +343,24 @@ instants-mislead = (refl, omega arith)
 pub turns-mislead : Paper.Turns-mislead
 unfolding monthLength monthStart
 turns-mislead = (refl, refl)
+
+-- a table of fifteen, read off and back
+pub reasons-numbered : Paper.Reasons-numbered
+reasons-numbered = record { in-order = refl; back = back }
+  where
+    back : (r : Reason) → getD reasonsInOrder (reasonNumber r - 1) NoSuchYear ≡ r
+    back NoSuchYear = refl
+    back NoSuchMonthNumber = refl
+    back NoSuchDayOfMonth = refl
+    back NoSuchLeapMonth = refl
+    back NoThirtiethDay = refl
+    back NoSuchDay = refl
+    back NoSuchMonth = refl
+    back MoveOutOfRange = refl
+    back SheetEndsEarly = refl
+    back CountTooLarge = refl
+    back BytesAfterLast = refl
+    back LentTooShort = refl
+    back BadWindow = refl
+    back FieldOutOfRange = refl
+    back NoSuchTermOrQuarter = refl

@@ -1,7 +1,7 @@
 -- Laws of the terms and mid-terms. Assumes nothing.
-use Prim.Native.Nat.{ℕ, _+_, _-_, _*_, _/_, _%_, _≤_, _<_}
+use Prim.Native.Nat.{ℕ, _+_, _-_, _*_, _≤_, _<_}
 use native.Mathlib.Omega.{arith}
-use mathlib.Core.Path.{_≡_, refl, ap, sym, _∙_}
+use mathlib.Core.Path.{_≡_}
 use Rattle.rule.specs.Rule.{monthStart, termDay, yearTerm, solsticeDay, midTermDay, midTermsBefore, firstMonth}
 use Rattle.rule.proofs.Months.{start-shift, start-end}
 
@@ -20,11 +20,11 @@ mid-apart m = omega arith
 
 -- the mid-terms before month n, by their days
 pub before-low : (n m : ℕ) → m < midTermsBefore n → midTermDay m < monthStart n
-unfolding midTermDay termDay midTermsBefore
+unfolding monthStart midTermDay termDay midTermsBefore
 before-low n m h = omega arith
 
 pub before-high : (n : ℕ) → monthStart n ≤ midTermDay (midTermsBefore n)
-unfolding midTermDay termDay midTermsBefore
+unfolding monthStart midTermDay termDay midTermsBefore
 before-high n = omega arith
 
 pub before-end : (n : ℕ) → n ≤ 507600 → midTermsBefore n ≤ 492480
@@ -40,7 +40,11 @@ pub solstice-high : (y : ℕ) → solsticeDay y < monthStart (firstMonth y + 1)
 unfolding monthStart firstMonth solsticeDay
 solstice-high y = omega arith
 
--- the shift: 912 mid-terms are 27,759 days, and 940 months
+-- the shift: 912 mid-terms and 76 years are 27,759 days, and 940 months
+pub solstice-shift : (k y : ℕ) → 1 ≤ y → solsticeDay (y + 76 * k) ≡ solsticeDay y + 27759 * k
+unfolding solsticeDay
+solstice-shift k y l = omega arith
+
 pub mid-shift : (k m : ℕ) → midTermDay (m + 912 * k) ≡ midTermDay m + 27759 * k
 unfolding midTermDay termDay
 mid-shift k m = omega arith

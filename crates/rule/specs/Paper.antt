@@ -9,6 +9,25 @@ use lib.ListN.{length, getD}
 use lib.Dec.{leb}
 use Rattle.rule.specs.Counts.{YearInRange, DayInRange, MonthInRange, elapsed, dayName, yearName, ji, bu, yearInBu, headName}
 use Rattle.rule.specs.Lists.{those}
+use Rattle.rule.specs.Reasons.{reasonNumber}
+use Rattle.rule.specs.declared.Reason.{Reason}
+use Rattle.rule.specs.declared.Reason.the-variants.{
+  NoSuchYear,
+  NoSuchMonthNumber,
+  NoSuchDayOfMonth,
+  NoSuchLeapMonth,
+  NoThirtiethDay,
+  NoSuchDay,
+  NoSuchMonth,
+  MoveOutOfRange,
+  SheetEndsEarly,
+  CountTooLarge,
+  BytesAfterLast,
+  LentTooShort,
+  BadWindow,
+  FieldOutOfRange,
+  NoSuchTermOrQuarter,
+}
 use Rattle.rule.specs.Rule.{
   monthStart,
   smallRemainder,
@@ -102,11 +121,14 @@ abbrev pub Start-rises : Type 0
 Start-rises = (n m : ℕ) → n < m → monthStart n < monthStart m
 
 -- "It is 30 exactly when the remainder is 441 or more, else 29."
-pub record Month-lengths (n : ℕ) : Type 0 where
+pub record TwoLengths (n : ℕ) : Type 0 where
   pub least : 29 ≤ monthLength n
   pub most : monthLength n ≤ 30
   pub thirty : (monthLength n ≡ 30) ↔ (441 ≤ smallRemainder n)
   pub twenty-nine : (monthLength n ≡ 29) ↔ (smallRemainder n < 441)
+
+abbrev pub Month-lengths : Type 0
+Month-lengths = (n : ℕ) → TwoLengths n
 
 -- each day lies in exactly one month
 abbrev pub One-month-a-day : Type 0
@@ -133,9 +155,12 @@ abbrev pub Solstice-in-first-month : Type 0
 Solstice-in-first-month = (y : ℕ) → 1 ≤ y → InMonth (firstMonth y) (solsticeDay y)
 
 -- "It has 13 months exactly when that is 12 or more, else 12."
-pub record Thirteen-months (y : ℕ) : Type 0 where
+pub record TwelveOrThirteen (y : ℕ) : Type 0 where
   pub thirteen : (monthsInYear y ≡ 13) ↔ (12 ≤ leapRemainder y)
   pub twelve : (monthsInYear y ≡ 12) ↔ (leapRemainder y < 12)
+
+abbrev pub Thirteen-months : Type 0
+Thirteen-months = (y : ℕ) → 1 ≤ y → TwelveOrThirteen y
 
 -- at most one mid-term falls in a month
 abbrev pub One-mid-term-a-month : Type 0
@@ -177,23 +202,26 @@ abbrev pub monthsOf : (ℕ → Bool) → ℕ → List ℕ
 monthsOf p y = those p (firstMonth y) (monthsInYear y)
 
 -- a year of 13 months has exactly one leap month, any other none
-pub record Leap-months-of (y : ℕ) : Type 0 where
+pub record OneLeapOrNone (y : ℕ) : Type 0 where
   pub one : 12 ≤ leapRemainder y → length (monthsOf leap y) ≡ 1
   pub none : leapRemainder y < 12 → length (monthsOf leap y) ≡ 0
+
+abbrev pub Leap-months-of-year : Type 0
+Leap-months-of-year = (y : ℕ) → 1 ≤ y → OneLeapOrNone y
 
 -- "The year's months run 11, 12, 1 to 10": the ordinary ones bear these numbers in this order, each once
 abbrev pub Numbers-of-year : Type 0
 Numbers-of-year = (y : ℕ) → 1 ≤ y → map monthNumber (monthsOf ordinary y) ≡ numbersInOrder
 
 -- "a leap month after its namesake": before it stands, in its year, an ordinary month of its number
-pub record After-namesake (y n : ℕ) : Type 0 where
+pub record AfterNamesake (y n : ℕ) : Type 0 where
   pub later : 1 ≤ n
   pub same-year : InYear y (n - 1)
   pub ordinary-one : leap (n - 1) ≡ false
   pub same-number : monthNumber (n - 1) ≡ monthNumber n
 
 abbrev pub Leap-after-namesake : Type 0
-Leap-after-namesake = (y n : ℕ) → InYear y n → leap n ≡ true → After-namesake y n
+Leap-after-namesake = (y n : ℕ) → InYear y n → leap n ≡ true → AfterNamesake y n
 
 -- month n lies in one of the nineteen years from y on
 abbrev pub inNineteen : ℕ → ℕ → Bool
@@ -231,19 +259,23 @@ abbrev pub further : ℕ → ℕ → ℕ
 further k name = (name - 1 + k) % 60 + 1
 
 -- 940 months, 912 mid-terms and 76 years are 27,759 days, and k times so many k times that: what is kept, and what moves on
-pub record Shift (k : ℕ) : Type 0 where
+pub record ShiftedBy (k : ℕ) : Type 0 where
   pub starts : (n : ℕ) → monthStart (n + 940 * k) ≡ monthStart n + 27759 * k
   pub remainders : (n : ℕ) → smallRemainder (n + 940 * k) ≡ smallRemainder n
   pub lengths : (n : ℕ) → monthLength (n + 940 * k) ≡ monthLength n
   pub days : (d : ℕ) → monthOfDay (d + 27759 * k) ≡ monthOfDay d + 940 * k
   pub mid-terms : (m : ℕ) → midTermDay (m + 912 * k) ≡ midTermDay m + 27759 * k
   pub years : (y : ℕ) → 1 ≤ y → firstMonth (y + 76 * k) ≡ firstMonth y + 940 * k
+  pub solstices : (y : ℕ) → 1 ≤ y → solsticeDay (y + 76 * k) ≡ solsticeDay y + 27759 * k
   pub leap-remainders : (y : ℕ) → 1 ≤ y → leapRemainder (y + 76 * k) ≡ leapRemainder y
   pub months : (n : ℕ) → yearOfMonth (n + 940 * k) ≡ yearOfMonth n + 76 * k
   pub leap-months : (n : ℕ) → leap (n + 940 * k) ≡ leap n
   pub numbers : (n : ℕ) → monthNumber (n + 940 * k) ≡ monthNumber n
   pub day-names : (d : ℕ) → dayName (d + 27759 * k) ≡ further (39 * k) (dayName d)
   pub year-names : (y : ℕ) → yearName (y + 76 * k) ≡ further (16 * k) (yearName y)
+
+abbrev pub Shift : Type 0
+Shift = (k : ℕ) → ShiftedBy k
 
 -- "It follows the month rule at every place."
 pub record Printed-list-follows : Type 0 where
@@ -275,3 +307,13 @@ Instants-mislead = (leap 32 ≡ true) × InMonthByInstant 32 32
 -- months are not strictly big and small by turns: 128 and 129 are both big
 abbrev pub Turns-mislead : Type 0
 Turns-mislead = (monthLength 128 ≡ 30) × (monthLength 129 ≡ 30)
+
+-- "Why a query comes back": the paper's table, from number 1 on
+abbrev pub reasonsInOrder : List Reason
+reasonsInOrder =
+    NoSuchYear ∷ NoSuchMonthNumber ∷ NoSuchDayOfMonth ∷ NoSuchLeapMonth ∷ NoThirtiethDay ∷ NoSuchDay ∷ NoSuchMonth ∷ MoveOutOfRange ∷ SheetEndsEarly ∷ CountTooLarge ∷ BytesAfterLast ∷ LentTooShort ∷ BadWindow ∷ FieldOutOfRange ∷ NoSuchTermOrQuarter ∷ []
+
+-- the numbers run from 1 to 15 in the table's order, and a number gives its reason back
+pub record Reasons-numbered : Type 0 where
+  pub in-order : map reasonNumber reasonsInOrder ≡ 1 ∷ 2 ∷ 3 ∷ 4 ∷ 5 ∷ 6 ∷ 7 ∷ 8 ∷ 9 ∷ 10 ∷ 11 ∷ 12 ∷ 13 ∷ 14 ∷ 15 ∷ []
+  pub back : (r : Reason) → getD reasonsInOrder (reasonNumber r - 1) NoSuchYear ≡ r

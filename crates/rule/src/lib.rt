@@ -244,27 +244,21 @@ pub fn is_eclipse(n: u32) -> bool
     23 * (n + 1) % 135 < 23
 }
 
-fn wide(x: u16) -> u32
-    ensures { λ r. ⌜ r ≡ x ⌝ }
-{
-    x as u32
-}
-
 // An entry of the printed list of a bu.
-pub fn printed_day(k: u32) -> u32
+pub fn printed_day(k: u16) -> u16
     requires { ⌜ k < 940 ⌝ }
     ensures { λ r. ⌜ r ≡ getD printedList k 0 ⌝ }
 {
-    wide(PRINTED[k as usize])
+    PRINTED[k as usize]
 }
 
-// Where a day, counted from its bu's head, falls in the printed list: the last entry that is not after it, by halving.
-fn place_in_list(d: u32) -> u32
+// The look along the printed list: the last entry that is not after a day counted from the bu's head, found by halving.
+fn place_in_list(d: u16) -> u16
     requires { ⌜ d < 27759 ⌝ }
     ensures { λ r. ⌜ r ≡ monthOfDay d ⌝ }
 {
-    let mut low: u32 = 0;
-    let mut high: u32 = 940;
+    let mut low: u16 = 0;
+    let mut high: u16 = 940;
     while 1 < high - low {
         let middle = low + (high - low) / 2;
         if d < printed_day(middle) {
@@ -276,10 +270,10 @@ fn place_in_list(d: u32) -> u32
     low
 }
 
-// The month that a day is in: whole bu before it, and its place in the printed list.
+// The month that a day is in: 940 for each whole bu before it, and its place in the printed list.
 pub fn month_of_day(day: u32) -> u32
     requires { ⌜ DayInRange day ⌝ }
     ensures { λ r. ⌜ r ≡ monthOfDay day ⌝ }
 {
-    940 * (day / 27759) + place_in_list(day % 27759)
+    940 * (day / 27759) + place_in_list((day % 27759) as u16) as u32
 }
