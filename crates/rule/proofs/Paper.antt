@@ -3,7 +3,7 @@ use Prim.Native.Nat.{ℕ, zero, suc, _+_, _-_, _*_, _/_, _%_, _≤_, _<_}
 use native.Mathlib.Numerals.{add-one}
 use native.Mathlib.Omega.{arith}
 use mathlib.Core.Path.{_≡_, refl, ap, sym, _∙_}
-use mathlib.Core.Logic.{_≢_}
+use mathlib.Core.Logic.{_↔_, _≢_}
 use mathlib.Core.Bool.{Bool, true, false, _&&_, and-true, and-false, false≢true}
 use lib.Dec.{leb}
 use lib.ListN.{length, getD}
@@ -21,6 +21,7 @@ use Rattle.rule.specs.Rule.{
   midTermDay,
   firstMonth,
   leapRemainder,
+  monthsInYear,
   yearOfMonth,
   midTermsBefore,
   leap,
@@ -104,20 +105,24 @@ head-name y l = Counts.bu-head y ∙ ap dayName (sym first-day)
 pub start-rises : Paper.Start-rises
 start-rises = Months.start-rises
 
+-- where x is `big` at r ≥ b and `small` below, it is so exactly there
+exactly-at : (x r b big small : ℕ) → small < big → (b ≤ r → x ≡ big) → (r < b → x ≡ small) → ((x ≡ big) ↔ (b ≤ r)) × ((x ≡ small) ↔ (r < b))
+exactly-at x r b big small l f g = (
+  (λ e. let no : ¬ (r < b) = λ h. omega (arith, g h) in omega arith, f),
+  (λ e. let no : ¬ (b ≤ r) = λ h. omega (arith, f h) in omega arith, g),
+)
+
 pub month-lengths : Paper.Month-lengths
 month-lengths n =
     record {
       least = Months.length-range n .0;
       most = Months.length-range n .1;
-      thirty = (
-        λ e. let no : ¬ (smallRemainder n < 441) = λ h. omega (arith, Months.length-small n h) in omega arith,
-        Months.length-big n,
-      );
-      twenty-nine = (
-        λ e. let no : ¬ (441 ≤ smallRemainder n) = λ h. omega (arith, Months.length-big n h) in omega arith,
-        Months.length-small n,
-      );
+      thirty = exactly .0;
+      twenty-nine = exactly .1;
     }
+  where
+    exactly : ((monthLength n ≡ 30) ↔ (441 ≤ smallRemainder n)) × ((monthLength n ≡ 29) ↔ (smallRemainder n < 441))
+    exactly = exactly-at (monthLength n) (smallRemainder n) 441 30 29 (omega arith) (Months.length-big n) (Months.length-small n)
 
 pub one-month-a-day : Paper.One-month-a-day
 one-month-a-day = Months.of-day
@@ -135,17 +140,10 @@ pub solstice-in-first-month : Paper.Solstice-in-first-month
 solstice-in-first-month y l = (Terms.solstice-low y, Terms.solstice-high y)
 
 pub thirteen-months : Paper.Thirteen-months
-thirteen-months y l =
-    record {
-      thirteen = (
-        λ e. let no : ¬ (leapRemainder y < 12) = λ h. omega (arith, Years.months-short y l h) in omega arith,
-        Years.months-long y l,
-      );
-      twelve = (
-        λ e. let no : ¬ (12 ≤ leapRemainder y) = λ h. omega (arith, Years.months-long y l h) in omega arith,
-        Years.months-short y l,
-      );
-    }
+thirteen-months y l = record { thirteen = exactly .0; twelve = exactly .1 }
+  where
+    exactly : ((monthsInYear y ≡ 13) ↔ (12 ≤ leapRemainder y)) × ((monthsInYear y ≡ 12) ↔ (leapRemainder y < 12))
+    exactly = exactly-at (monthsInYear y) (leapRemainder y) 12 13 12 (omega arith) (Years.months-long y l) (Years.months-short y l)
 
 -- an even term is a mid-term of its own count
 half : (n t : ℕ) → MidTerm t → InMonth n (termDay t) → InMonth n (midTermDay (t / 2))
