@@ -20,8 +20,12 @@ use Rattle.rule.specs.Rule.{
   leap,
   midTermNumber,
   monthNumber,
+  marked,
+  numberOf,
+  leapMark,
   monthAt,
 }
+use Rattle.rule.specs.declared.Month.{Month}
 use Rattle.rule.specs.declared.Month.the-variants.{Ordinary, Leap}
 use Rattle.rule.specs.Paper.{ordinary, monthsOf, AfterNamesake}
 use Rattle.rule.proofs.Lists.{table-same}
@@ -124,6 +128,26 @@ pub as-ordinary : (n k : ℕ) → leap n ≡ false → k ≡ monthNumber n → O
 unfolding monthAt
 as-ordinary n k h e = rw (h, e)
 
+-- and what it says of the month
+marked-again : (b : Bool) (k : ℕ) → (b ≡ leapMark (marked b k)) × (k ≡ numberOf (marked b k))
+marked-again true k = (refl, refl)
+marked-again false k = (refl, refl)
+
+pub mark-of : (n k : ℕ) (l : Bool) → monthAt n ≡ marked l k → (leap n ≡ l) × (monthNumber n ≡ k)
+unfolding monthAt
+mark-of n k l e = (
+  marked-again (leap n) (monthNumber n) .0 ∙ ap leapMark e ∙ sym (marked-again l k .0),
+  marked-again (leap n) (monthNumber n) .1 ∙ ap numberOf e ∙ sym (marked-again l k .1),
+)
+
+pub month-again : (m : Month) → marked (leapMark m) (numberOf m) ≡ m
+month-again (Ordinary k) = refl
+month-again (Leap k) = refl
+
+pub number-range : (n : ℕ) → (1 ≤ monthNumber n) × (monthNumber n ≤ 12)
+unfolding monthNumber midTermNumber
+number-range n = omega arith
+
 -- over a year's months twelve mid-terms fall
 pub year-mid-terms : (y : ℕ) → 1 ≤ y → midTermsBefore (firstMonth y + monthsInYear y) ≡ midTermsBefore (firstMonth y) + 12
 year-mid-terms y l = ap midTermsBefore (first-next y l) ∙ omega (arith, before-first y, before-first (y + 1))
@@ -189,6 +213,39 @@ after-namesake y n i h =
     go : (b : Bool) → leap (n - 1) ≡ b → leap (n - 1) ≡ false
     go true g = absurd (not-both-leap y (n - 1) (i .0) (omega (arith, later)) (omega (arith, later, i .2)) g h′)
     go false g = g
+
+-- a year and its mid-terms
+pub before-mono : (a b : ℕ) → a ≤ b → midTermsBefore a ≤ midTermsBefore b
+before-mono a b h =
+    let e : midTermsBefore (a + (b - a)) ≡ midTermsBefore b = ap midTermsBefore (omega arith) in
+    omega (arith, e, ordinary-counted a (b - a))
+
+-- an ordinary month is in the year of the mid-term that it holds
+pub ordinary-year : (y n : ℕ) → 1 ≤ y → leap n ≡ false → 12 * (y - 1) ≤ midTermsBefore n → midTermsBefore n < 12 * y → InYear y n
+ordinary-year y n l o low high =
+    let a : ¬ (n + 1 ≤ firstMonth y) = λ h. omega (arith, before-mono (n + 1) (firstMonth y) h, before-first y, ordinary-rises n o) in
+    let b : ¬ (firstMonth (y + 1) ≤ n) = λ h. omega (arith, before-mono (firstMonth (y + 1)) n h, before-first (y + 1)) in
+    (l, omega arith, omega arith)
+
+-- and only of that year
+pub year-mid : (y n : ℕ) → InYear y n → leap n ≡ false → (12 * (y - 1) ≤ midTermsBefore n) × (midTermsBefore n < 12 * y)
+year-mid y n i o = (
+  omega (arith, before-mono (firstMonth y) n (i .1), before-first y),
+  omega (arith, before-mono (n + 1) (firstMonth (y + 1)) (omega (arith, i .2)), before-first (y + 1), ordinary-rises n o),
+)
+
+-- the month before a leap one is ordinary, and a month after it that is leap is in its year
+pub leap-follows : (y n : ℕ) → InYear y n → leap (n + 1) ≡ true → InYear y (n + 1)
+leap-follows y n i h =
+    let no : ¬ (firstMonth (y + 1) ≡ n + 1) = leap-not-first (y + 1) (n + 1) h in
+    (i .0, omega arith, omega (arith, i .2))
+
+-- no two ordinary months hold one mid-term
+pub same-mid : (a b : ℕ) → leap a ≡ false → leap b ≡ false → midTermsBefore a ≡ midTermsBefore b → a ≡ b
+same-mid a b o p e =
+    let x : ¬ (a + 1 ≤ b) = λ h. omega (arith, before-mono (a + 1) b h, ordinary-rises a o) in
+    let y : ¬ (b + 1 ≤ a) = λ h. omega (arith, before-mono (b + 1) a h, ordinary-rises b p) in
+    omega arith
 
 -- the shift: over 940 months the mid-terms go on by 912, so that leap months and numbers are kept
 module _ (k : ℕ) where

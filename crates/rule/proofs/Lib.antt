@@ -6,4 +6,5 @@ pub mod Terms
 pub mod Years
 pub mod Leap
 pub mod Eclipses
+pub mod Answers
 pub mod Paper

@@ -31,27 +31,8 @@ use Rattle.rule.specs.Rule.{
   printedList,
   shortcutNumber,
 }
-use Rattle.rule.specs.Reasons.{reasonNumber}
-use Rattle.rule.specs.declared.Reason.{Reason}
-use Rattle.rule.specs.declared.Reason.the-variants.{
-  NoSuchYear,
-  NoSuchMonthNumber,
-  NoSuchDayOfMonth,
-  NoSuchLeapMonth,
-  NoThirtiethDay,
-  NoSuchDay,
-  NoSuchMonth,
-  MoveOutOfRange,
-  SheetEndsEarly,
-  CountTooLarge,
-  BytesAfterLast,
-  LentTooShort,
-  BadWindow,
-  FieldOutOfRange,
-  NoSuchTermOrQuarter,
-}
 use Rattle.rule.specs.Paper as Paper
-use Rattle.rule.specs.Paper.{MidTerm, NumberSentences, numbersInOrder, inNineteen, reasonsInOrder}
+use Rattle.rule.specs.Paper.{MidTerm, NumberSentences, numbersInOrder, inNineteen}
 use Rattle.rule.proofs.Lists.{entry, table-length, within, length-same, length-all}
 use Rattle.rule.proofs.Counts
 use Rattle.rule.proofs.Months
@@ -59,6 +40,7 @@ use Rattle.rule.proofs.Terms
 use Rattle.rule.proofs.Years
 use Rattle.rule.proofs.Leap
 use Rattle.rule.proofs.Eclipses
+use Rattle.rule.proofs.Answers
 
 pub origin : Paper.Origin
 unfolding monthStart smallRemainder termDay firstMonth
@@ -179,24 +161,19 @@ in-order : (j : ℕ) → j < 12 → midTermNumber j ≡ getD numbersInOrder j 0
 unfolding midTermNumber table
 in-order j h = sym (entry midTermNumber 12 j h)
 
--- mid-term m of all is mid-term 2j of a year
-year-mid-term : (y j m : ℕ) → m ≡ 12 * elapsed y + j → termDay (yearTerm y (2 * j)) ≡ midTermDay m
-unfolding midTermDay
-year-mid-term y j m e = ap termDay (omega arith)
-
 number-said : NumberSentences monthNumber
 number-said = record { holding = holding; leap-one = Leap.number-before }
   where
     holding : (n y j : ℕ) → 1 ≤ y → j < 12 → InMonth n (termDay (yearTerm y (2 * j))) → monthNumber n ≡ getD numbersInOrder j 0
     holding n y j l h i =
-        Leap.number-holding n (12 * elapsed y + j) (rw (year-mid-term y j (12 * elapsed y + j) refl) at i)
+        Leap.number-holding n (12 * elapsed y + j) (rw (Terms.year-mid-term y j (12 * elapsed y + j) refl) at i)
         ∙ Leap.mid-number-round (elapsed y) j ∙ in-order j h
 
 -- what the sentences say of an ordinary month
 ordinary-said : (f : ℕ → ℕ) → NumberSentences f → (n : ℕ) → leap n ≡ false → f n ≡ getD numbersInOrder (midTermsBefore n % 12) 0
 ordinary-said f s n h =
     s .holding n (midTermsBefore n / 12 + 1) (midTermsBefore n % 12) (omega arith) (omega arith)
-    (rw (year-mid-term (midTermsBefore n / 12 + 1) (midTermsBefore n % 12) (midTermsBefore n) (omega arith)) (Leap.ordinary-holds n h))
+    (rw (Terms.year-mid-term (midTermsBefore n / 12 + 1) (midTermsBefore n % 12) (midTermsBefore n) (omega arith)) (Leap.ordinary-holds n h))
 
 first-not-leap : leap 0 ≡ false
 unfolding leap midTermsBefore monthStart
@@ -342,23 +319,5 @@ pub turns-mislead : Paper.Turns-mislead
 unfolding monthLength monthStart
 turns-mislead = (refl, refl)
 
--- a table of fifteen, read off and back
 pub reasons-numbered : Paper.Reasons-numbered
-reasons-numbered = record { in-order = refl; back = back }
-  where
-    back : (r : Reason) → getD reasonsInOrder (reasonNumber r - 1) NoSuchYear ≡ r
-    back NoSuchYear = refl
-    back NoSuchMonthNumber = refl
-    back NoSuchDayOfMonth = refl
-    back NoSuchLeapMonth = refl
-    back NoThirtiethDay = refl
-    back NoSuchDay = refl
-    back NoSuchMonth = refl
-    back MoveOutOfRange = refl
-    back SheetEndsEarly = refl
-    back CountTooLarge = refl
-    back BytesAfterLast = refl
-    back LentTooShort = refl
-    back BadWindow = refl
-    back FieldOutOfRange = refl
-    back NoSuchTermOrQuarter = refl
+reasons-numbered = record { in-order = refl; back = Answers.reason-back }

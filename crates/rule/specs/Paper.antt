@@ -9,25 +9,9 @@ use lib.ListN.{length, getD}
 use lib.Dec.{leb}
 use Rattle.rule.specs.Counts.{YearInRange, DayInRange, MonthInRange, elapsed, dayName, yearName, ji, bu, yearInBu, headName}
 use Rattle.rule.specs.Lists.{those}
-use Rattle.rule.specs.Reasons.{reasonNumber}
+use Rattle.rule.specs.Reasons.{reasonNumber, reasonsInOrder}
 use Rattle.rule.specs.declared.Reason.{Reason}
-use Rattle.rule.specs.declared.Reason.the-variants.{
-  NoSuchYear,
-  NoSuchMonthNumber,
-  NoSuchDayOfMonth,
-  NoSuchLeapMonth,
-  NoThirtiethDay,
-  NoSuchDay,
-  NoSuchMonth,
-  MoveOutOfRange,
-  SheetEndsEarly,
-  CountTooLarge,
-  BytesAfterLast,
-  LentTooShort,
-  BadWindow,
-  FieldOutOfRange,
-  NoSuchTermOrQuarter,
-}
+use Rattle.rule.specs.declared.Reason.the-variants.{NoSuchYear}
 use Rattle.rule.specs.Rule.{
   monthStart,
   smallRemainder,
@@ -308,10 +292,7 @@ Instants-mislead = (leap 32 ≡ true) × InMonthByInstant 32 32
 abbrev pub Turns-mislead : Type 0
 Turns-mislead = (monthLength 128 ≡ 30) × (monthLength 129 ≡ 30)
 
--- "Why a query comes back": the paper's table, from number 1 on
-abbrev pub reasonsInOrder : List Reason
-reasonsInOrder =
-    NoSuchYear ∷ NoSuchMonthNumber ∷ NoSuchDayOfMonth ∷ NoSuchLeapMonth ∷ NoThirtiethDay ∷ NoSuchDay ∷ NoSuchMonth ∷ MoveOutOfRange ∷ SheetEndsEarly ∷ CountTooLarge ∷ BytesAfterLast ∷ LentTooShort ∷ BadWindow ∷ FieldOutOfRange ∷ NoSuchTermOrQuarter ∷ []
+-- "Why a query comes back"
 
 -- the numbers run from 1 to 15 in the table's order, and a number gives its reason back
 pub record Reasons-numbered : Type 0 where

@@ -98,6 +98,15 @@ abbrev pub marked : Bool → ℕ → Month
 marked true k = Leap k
 marked false k = Ordinary k
 
+-- a month's number, and whether it is leap
+abbrev pub numberOf : Month → ℕ
+numberOf (Ordinary k) = k
+numberOf (Leap k) = k
+
+abbrev pub leapMark : Month → Bool
+leapMark (Ordinary k) = false
+leapMark (Leap k) = true
+
 -- month n as a date holds it
 unfoldable pub monthAt : ℕ → Month
 monthAt n = marked (leap n) (monthNumber n)

@@ -21,10 +21,12 @@ ghost use Rattle.rule.specs.Rule.{
   leap,
   monthNumber,
   monthAt,
+  numberOf,
+  leapMark,
   eclipse,
   printedList,
 };
-ghost use Rattle.rule.specs.Reasons.{reasonNumber};
+ghost use Rattle.rule.specs.Reasons.{reasonNumber, within};
 
 mod printed;
 
@@ -89,6 +91,15 @@ pub fn reason_number(r: Reason) -> u8
         Reason::FieldOutOfRange => 14,
         Reason::NoSuchTermOrQuarter => 15,
     }
+}
+
+// Whether a number lies within a range, both ends included.
+pub fn in_range(least: u32, most: u32, a: u32) -> bool
+    ensures { λ r. ⌜ r ≡ within least most a ⌝ }
+{
+    let low = least <= a;
+    let high = a <= most;
+    low & high
 }
 
 // The name of a day.
@@ -222,6 +233,26 @@ pub fn month_number(n: u32) -> u8
     ensures { λ r. ⌜ r ≡ monthNumber n ⌝ }
 {
     ((mid_terms_before(n + 1) - 1 + 10) % 12 + 1) as u8
+}
+
+// The number of a month that a date holds.
+pub fn number_of(m: Month) -> u8
+    ensures { λ r. ⌜ r ≡ numberOf m ⌝ }
+{
+    match m {
+        Month::Ordinary(k) => k,
+        Month::Leap(k) => k,
+    }
+}
+
+// Whether a month that a date holds is leap.
+pub fn leap_mark(m: Month) -> bool
+    ensures { λ r. ⌜ r ≡ leapMark m ⌝ }
+{
+    match m {
+        Month::Ordinary(_) => false,
+        Month::Leap(_) => true,
+    }
 }
 
 // A month as a date holds it.

@@ -1,0 +1,3 @@
+pub mod Named
+pub mod Days
+pub mod Paper

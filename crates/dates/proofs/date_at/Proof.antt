@@ -1,0 +1,62 @@
+-- `dates::date_at` meets its contract: a date made of its parts, each as the rule has it. Assumes nothing.
+use native.Mathlib.Omega.{arith}
+use mathlib.Core.Path.{_≡_, ap, _∙_}
+use Rattle.rule.specs.Rule.{monthStart, monthOfDay}
+use Rattle.rule.proofs.Months.{of-day-range, of-day-low, length-range}
+use Rattle.dates.proofs.Days.{day-of-month, made}
+use borrow.Author.Needs.{needs}
+use Rattle.dates.proofs.date_at.Statement.{statement}
+use Rattle.dates.proofs.date_at.Tie as tie
+
+month-of-day-requires : tie.Need-month-of-day-requires
+month-of-day-requires c κs = search needs
+
+year-of-month-requires : tie.Need-year-of-month-requires
+year-of-month-requires c κs = omega (arith, of-day-range (c .before .args .day) .0 (c .before .pre))
+
+month-at-requires : tie.Need-month-at-requires
+month-at-requires c κs = omega (arith, of-day-range (c .before .before .args .day) .0 (c .before .before .pre))
+
+month-start-requires : tie.Need-month-start-requires
+month-start-requires c κs = omega (arith, of-day-range (c .before .before .before .args .day) .0 (c .before .before .before .pre))
+
+-- the month's start is that of the day's month
+start : (c : tie.After-month-start) → c .month-start .result ≡ monthStart (monthOfDay (c .before .before .before .before .args .day))
+start c = c .month-start .ensures ∙ ap monthStart (c .before .before .before .month-of-day .ensures)
+
+sub-t6 : tie.Need-sub-t6
+sub-t6 c = omega (arith, start (c), of-day-low (c .before .before .before .before .args .day))
+
+add-t7 : tie.Need-add-t7
+add-t7 c = search needs
+
+cast-t8 : tie.Need-cast-t8
+cast-t8 c = omega (arith, start (c), day-of-month (c .before .before .before .before .args .day), length-range (monthOfDay (c .before .before .before .before .args .day)))
+
+month-length-requires : tie.Need-month-length-requires
+month-length-requires c κs = search needs
+
+day-name-requires : tie.Need-day-name-requires
+day-name-requires c κs = search needs
+
+year-name-requires : tie.Need-year-name-requires
+year-name-requires c κs = search needs
+
+returns : tie.Need-returns
+returns c = made (c .before .before .before .before .before .before .before .args .day) (c .before .before .before .before .before .before .month-of-day .result) (c .before .before .before .before .before .year-of-month .result) (c .before .before .before .month-start .result) (c .before .before .month-length .result) (c .before .day-name .result) (c .year-name .result) (c .before .before .before .before .month-at .result) (c .before .before .before .before .before .before .month-of-day .ensures) (c .before .before .before .before .before .year-of-month .ensures) (c .before .before .before .before .month-at .ensures) (c .before .before .before .month-start .ensures) (c .before .before .month-length .ensures) (c .before .day-name .ensures) (c .year-name .ensures)
+
+pub date-at-spec : {M : Type 1} → statement M
+date-at-spec =
+    tie.close
+    (tie.spec
+    month-of-day-requires
+    year-of-month-requires
+    month-at-requires
+    month-start-requires
+    sub-t6
+    add-t7
+    cast-t8
+    month-length-requires
+    day-name-requires
+    year-name-requires
+    returns)

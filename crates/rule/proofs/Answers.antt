@@ -1,0 +1,107 @@
+-- Laws of answers: a reason's number gives it back, and which guard of a row a refusal comes from. Assumes nothing.
+use Prim.Native.Nat.{ℕ, _-_, _≤_, _<_}
+use native.Mathlib.Omega.{arith}
+use mathlib.Core.Path.{_≡_, refl, ap, sym, _∙_}
+use mathlib.Core.Logic.{_↔_}
+use mathlib.Core.Bool.{Bool, true, false, _&&_}
+use lib.Dec.{leb}
+use lib.ListN.{getD}
+use borrow.Author.Tests.{leb-true, le-leb}
+use Rattle.rule.specs.Reasons.{Answer, is, refused, within, guard, reasonNumber, reasonsInOrder}
+use Rattle.rule.specs.declared.Reason.{Reason}
+use Rattle.rule.specs.declared.Reason.the-variants.{
+  NoSuchYear,
+  NoSuchMonthNumber,
+  NoSuchDayOfMonth,
+  NoSuchLeapMonth,
+  NoThirtiethDay,
+  NoSuchDay,
+  NoSuchMonth,
+  MoveOutOfRange,
+  SheetEndsEarly,
+  CountTooLarge,
+  BytesAfterLast,
+  LentTooShort,
+  BadWindow,
+  FieldOutOfRange,
+  NoSuchTermOrQuarter,
+}
+
+-- the reason of a number, and that a reason's own number gives it back
+abbrev pub reasonOf : ℕ → Reason
+reasonOf k = getD reasonsInOrder (k - 1) NoSuchYear
+
+pub reason-back : (r : Reason) → reasonOf (reasonNumber r) ≡ r
+reason-back NoSuchYear = refl
+reason-back NoSuchMonthNumber = refl
+reason-back NoSuchDayOfMonth = refl
+reason-back NoSuchLeapMonth = refl
+reason-back NoThirtiethDay = refl
+reason-back NoSuchDay = refl
+reason-back NoSuchMonth = refl
+reason-back MoveOutOfRange = refl
+reason-back SheetEndsEarly = refl
+reason-back CountTooLarge = refl
+reason-back BytesAfterLast = refl
+reason-back LentTooShort = refl
+reason-back BadWindow = refl
+reason-back FieldOutOfRange = refl
+reason-back NoSuchTermOrQuarter = refl
+
+-- what can be read back is one-to-one
+pub one-to-one : {A B : Type 0} (said : A → B) (back : B → A) → ((a : A) → back (said a) ≡ a) → (a b : A) → said a ≡ said b → a ≡ b
+one-to-one said back h a b e = sym (h a) ∙ ap back e ∙ h b
+
+pub within-true : (least most a : ℕ) → (within least most a ≡ true) ↔ ((least ≤ a) × (a ≤ most))
+within-true least most a = (fwd (leb least a) (leb a most) refl refl, λ h. rw (le-leb least a (h .0), le-leb a most (h .1)))
+  where
+    fwd : (p q : Bool) → leb least a ≡ p → leb a most ≡ q → (p && q) ≡ true → (least ≤ a) × (a ≤ most)
+    fwd true true e f h = (leb-true least a e, leb-true a most f)
+    fwd true false e f h = absurd (let o : _≡_ {A = ℕ} 0 1 = cc in omega arith)
+    fwd false q e f h = absurd (let o : _≡_ {A = ℕ} 0 1 = cc in omega arith)
+
+-- a test fails exactly where what it tests does not hold
+pub fails : (t : Bool) {P : Type 0} → ((t ≡ true) ↔ P) → (t ≡ false) ↔ (P → ⊥)
+fails true e = (λ h. absurd (let o : _≡_ {A = ℕ} 0 1 = cc in omega arith), λ no. absurd (no (e .0 refl)))
+fails false e = (λ h p. let g : false ≡ true = e .1 p in let o : _≡_ {A = ℕ} 0 1 = cc in omega arith, λ no. refl)
+
+-- every reason of the answer a is beyond number k
+abbrev pub Beyond : {A : Type 0} → ℕ → Answer A → Type 0
+Beyond k a = (j : ℕ) → a ≡ refused j → k < j
+
+module _ {A : Type 0} where
+  pub beyond-is : (k : ℕ) (x : A) → Beyond k (is x)
+  beyond-is k x j e = absurd (let o : _≡_ {A = ℕ} 0 1 = cc in omega arith)
+
+  pub beyond-guard : (t : Bool) (k j : ℕ) (a : Answer A) → k < j → Beyond k a → Beyond k (guard t j a)
+  beyond-guard true k j a l h = h
+  beyond-guard false k j a l h = λ i e. let f : j ≡ i = cc in omega arith
+
+  -- an answer with reason k: the guard of number k fails
+  pub fails-here : (t : Bool) (k : ℕ) (a : Answer A) → Beyond k a → (guard t k a ≡ refused k) ↔ (t ≡ false)
+  fails-here true k a h = (λ e. absurd (omega (arith, h k e)), λ f. absurd (let o : _≡_ {A = ℕ} 0 1 = cc in omega arith))
+  fails-here false k a h = (λ e. refl, λ f. refl)
+
+  -- an answer with a later reason: this guard holds, and the rest has the reason
+  pub fails-later : (t : Bool) (k j : ℕ) (a : Answer A) → k < j → (guard t k a ≡ refused j) ↔ ((t ≡ true) × (a ≡ refused j))
+  fails-later true k j a l = (λ e. (refl, e), λ h. h .1)
+  fails-later false k j a l = (
+    λ e. absurd (let f : k ≡ j = cc in omega arith),
+    λ h. absurd (let e : false ≡ true = h .0 in let o : _≡_ {A = ℕ} 0 1 = cc in omega arith),
+  )
+
+  -- an answer that is given: every guard holds
+  pub holds-all : (t : Bool) (k : ℕ) (a : Answer A) (x : A) → (guard t k a ≡ is x) ↔ ((t ≡ true) × (a ≡ is x))
+  holds-all true k a x = (λ e. (refl, e), λ h. h .1)
+  holds-all false k a x = (
+    λ e. absurd (let o : _≡_ {A = ℕ} 0 1 = cc in omega arith),
+    λ h. absurd (let e : false ≡ true = h .0 in let o : _≡_ {A = ℕ} 0 1 = cc in omega arith),
+  )
+
+-- tests one after the other: what the rest comes to, under the test before it
+pub then-iff : {A T B C : Type 0} → (A ↔ (T × B)) → (B ↔ C) → A ↔ (T × C)
+then-iff e f = (λ a. (e .0 a .0, f .0 (e .0 a .1)), λ h. e .1 (h .0, f .1 (h .1)))
+
+-- a test for what it tests
+pub test-iff : {A T P B : Type 0} → (A ↔ (T × B)) → (T ↔ P) → A ↔ (P × B)
+test-iff e f = (λ a. (f .0 (e .0 a .0), e .0 a .1), λ h. e .1 (f .1 (h .0), h .1))
