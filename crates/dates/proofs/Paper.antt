@@ -438,13 +438,16 @@ back-to-dated (is r) = Dated'.Is r
 back-to-dated (refused k) = Dated'.Refused (reasonOf k)
 back-to-dated (refused-with k n) = Dated'.Refused (reasonOf k)
 
-pub unique-date : Paper.Unique-date
+pub dated-once : (a b : Dated) → saidDate a ≡ saidDate b → a ≡ b
 unfolding back-to-dated
-unique-date d a b p q = one-to-one saidDate back-to-dated again a b (p ∙ sym q)
+dated-once = one-to-one saidDate back-to-dated again
   where
     again : (a : Dated) → back-to-dated (saidDate a) ≡ a
     again (Dated'.Is r) = refl
     again (Dated'.Refused r) = ap Dated'.Refused (reason-back r)
+
+pub unique-date : Paper.Unique-date
+unique-date d a b p q = dated-once a b (p ∙ sym q)
 
 back-to-found : Answer ℕ → DayFound
 back-to-found (is d) = DayFound'.Is d

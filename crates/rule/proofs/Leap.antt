@@ -1,7 +1,7 @@
 -- Laws of leap months and of numbers: the rule of the paper is an instance of Calendar. Assumes nothing.
 use Prim.Native.Nat.{ℕ, _+_, _-_, _*_, _≤_, _<_}
 use native.Mathlib.Omega.{arith}
-use mathlib.Core.Path.{_≡_, refl, ap, sym, _∙_}
+use mathlib.Core.Path.{_≡_, refl, ap, ap₂, sym, _∙_}
 use mathlib.Core.Logic.{_↔_}
 use mathlib.Core.Bool.{Bool, true, false}
 use mathlib.Core.List.{map}
@@ -140,6 +140,10 @@ mark-of n k l e = (
   marked-again (leap n) (monthNumber n) .1 ∙ ap numberOf e ∙ sym (marked-again l k .1),
 )
 
+pub mark-at : (n : ℕ) → leapMark (monthAt n) ≡ leap n
+unfolding monthAt
+mark-at n = sym (marked-again (leap n) (monthNumber n) .0)
+
 pub month-again : (m : Month) → marked (leapMark m) (numberOf m) ≡ m
 month-again (Ordinary k) = refl
 month-again (Leap k) = refl
@@ -263,3 +267,7 @@ module _ (k : ℕ) where
   unfolding monthNumber
   number-shift n =
       ap midTermNumber (omega (arith, next-shift n, before-pos n)) ∙ mid-number-round (76 * k) (midTermsBefore (n + 1) - 1)
+
+  pub month-shift : (n : ℕ) → monthAt (n + 940 * k) ≡ monthAt n
+  unfolding monthAt
+  month-shift n = ap₂ marked (leap-shift n) (number-shift n)

@@ -70,6 +70,10 @@ of-day n d = (
       (omega (arith, of-day-low d), omega (arith, of-day-high d)),
 )
 
+-- a month's first day is one of its days
+pub of-first-day : (n : ℕ) → monthOfDay (monthStart n) ≡ n
+of-first-day n = of-day-only n (monthStart n) (omega arith, omega (arith, start-least n))
+
 pub of-day-range : (d : ℕ) → DayInRange d ↔ MonthInRange (monthOfDay d)
 unfolding monthOfDay
 of-day-range d = omega arith

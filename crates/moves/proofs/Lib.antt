@@ -1,0 +1,3 @@
+pub mod Landing
+pub mod Sign
+pub mod Paper

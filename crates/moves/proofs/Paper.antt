@@ -1,0 +1,183 @@
+-- Demand 3, proved, each statement under its name in small letters. Assumes nothing.
+use Prim.Native.Nat.{ℕ, _+_, _-_, _≤_}
+use native.Mathlib.Omega.{arith}
+use mathlib.Core.Path.{_≡_, refl, ap, ap₂, sym, _∙_, subst₂}
+use mathlib.Core.Logic.{_↔_}
+use mathlib.Core.Bool.{Bool, true, false, _&&_}
+use lib.Dec.{leb}
+use lib.IntN.{ℤ, pos, negsuc, _+ℤ_, +ℤ-assoc}
+use borrow.Author.Tests.{leb-true, leb-false}
+use Rattle.rule.specs.Counts.{DayInRange, dayName, yearName}
+use Rattle.rule.specs.Rule.{monthStart, monthLength, monthOfDay, yearOfMonth, leap, monthAt, numberOf, leapMark}
+use Rattle.rule.specs.Reasons.{Answer, is, refused, refused-with}
+use Rattle.rule.specs.Paper.{inNineteen}
+use Rattle.rule.proofs.Months
+use Rattle.rule.proofs.Years
+use Rattle.rule.proofs.Counts
+use Rattle.rule.proofs.Leap as Leaps
+use Rattle.rule.proofs.Lists.{length-same}
+use Rattle.rule.proofs.Paper as Rules
+use Rattle.dates.specs.declared.Date.{Date}
+use Rattle.dates.specs.Dates.{dateIn, dateOf, dayOfDate}
+use Rattle.dates.proofs.Days
+use Rattle.dates.proofs.Paper as Dates
+use Rattle.moves.specs.Moves.{landed, moved}
+use Rattle.moves.specs.Paper as Paper
+use Rattle.moves.specs.Paper.{SeventySixLater}
+use Rattle.moves.proofs.Landing
+
+-- a landing in range, and outside it
+landing : (z : ℤ) → (landed z ≡ refused 8) ↔ (((e : ℕ) × (z ≡ pos e) × DayInRange e) → ⊥)
+landing (pos d) = (out, back)
+  where
+    out : landed (pos d) ≡ refused 8 → ((e : ℕ) × (pos d ≡ pos e) × DayInRange e) → ⊥
+    out h w =
+        let f : d ≡ w .0 = let g : pos d ≡ pos (w .0) = w .1 in cc in
+        let a : _≡_ {A = Answer Date} (is (dateOf d)) (refused 8) = sym (Landing.lands d (omega (arith, w .2))) ∙ h in
+        let o : _≡_ {A = ℕ} 0 1 = cc in
+        omega arith
+
+    back : (((e : ℕ) × (pos d ≡ pos e) × DayInRange e) → ⊥) → landed (pos d) ≡ refused 8
+    back w = let o : ¬ (d ≤ 14989859) = λ h. w (d, refl, h) in Landing.lands-out d (omega arith)
+landing (negsuc d) = (λ h w. let g : negsuc d ≡ pos (w .0) = w .1 in let o : _≡_ {A = ℕ} 0 1 = cc in omega arith, λ w. refl)
+
+pub move-of-a-date : Paper.Move-of-a-date
+move-of-a-date y k l m d n found =
+    record {
+      gives = λ e f r. Landing.moved-found y k l m n d found ∙ ap landed f ∙ Landing.lands e r ∙ sym (Days.a-day e r);
+      eight = (
+        λ h. landing (pos d +ℤ n) .0 (sym (Landing.moved-found y k l m n d found) ∙ h),
+        λ w. Landing.moved-found y k l m n d found ∙ landing (pos d +ℤ n) .1 w,
+      );
+    }
+
+-- a landing has no reason but 8
+only-eight : (z : ℤ) (r : ℕ) → landed z ≡ refused r → r ≡ 8
+only-eight (pos d) r = go (leb d 14989859) refl
+  where
+    go : (b : Bool) → leb d 14989859 ≡ b → landed (pos d) ≡ refused r → r ≡ 8
+    go true e h = let a : _≡_ {A = Answer Date} (is (dateOf d)) (refused r) = sym (Landing.lands d (leb-true d 14989859 e)) ∙ h in absurd (let o : _≡_ {A = ℕ} 0 1 = cc in omega arith)
+    go false e h = let a : _≡_ {A = Answer Date} (refused 8) (refused r) = sym (Landing.lands-out d (leb-false d 14989859 e)) ∙ h in cc
+only-eight (negsuc d) r = λ h. let a : _≡_ {A = Answer Date} (refused 8) (refused r) = h in cc
+
+pub date's-own-reasons : Paper.Date's-own-reasons
+date's-own-reasons y k l m r n h = (own (dayOfDate y k l m) refl, Landing.moved-refused y k l m n r)
+  where
+    own : (a : Answer ℕ) → dayOfDate y k l m ≡ a → moved y k l m n ≡ refused r → dayOfDate y k l m ≡ refused r
+    own (is d) e g = absurd (omega (arith, only-eight (pos d +ℤ n) r (sym (Landing.moved-found y k l m n d e) ∙ g)))
+    own (refused j) e g = let a : _≡_ {A = Answer Date} (refused j) (refused r) = sym (Landing.moved-refused y k l m n j e) ∙ g in e ∙ ap refused (cc)
+    own (refused-with j i) e g =
+        let a : _≡_ {A = Answer Date} (refused-with j i) (refused r) = sym (Landing.moved-refused-with y k l m n j i e) ∙ g in
+        absurd (let o : _≡_ {A = ℕ} 0 1 = cc in omega arith)
+
+-- a landing that is answered: the day, in range, whose date it is
+pub record Landed (z : ℤ) (r : Date) : Type 0 where
+  pub e : ℕ
+  pub there : z ≡ pos e
+  pub inside : DayInRange e
+  pub date : r ≡ dateOf e
+
+landed-at : (z : ℤ) (r : Date) → landed z ≡ is r → Landed z r
+landed-at (pos d) r = go (leb d 14989859) refl
+  where
+    go : (b : Bool) → leb d 14989859 ≡ b → landed (pos d) ≡ is r → Landed (pos d) r
+    go true e h =
+        let i : DayInRange d = leb-true d 14989859 e in
+        let a : _≡_ {A = Answer Date} (is (dateOf d)) (is r) = sym (Landing.lands d i) ∙ h in
+        record { e = d; there = refl; inside = i; date = cc }
+    go false e h =
+        let a : _≡_ {A = Answer Date} (refused 8) (is r) = sym (Landing.lands-out d (leb-false d 14989859 e)) ∙ h in
+        absurd (let o : _≡_ {A = ℕ} 0 1 = cc in omega arith)
+landed-at (negsuc d) r = λ h. let a : _≡_ {A = Answer Date} (refused 8) (is r) = h in absurd (let o : _≡_ {A = ℕ} 0 1 = cc in omega arith)
+
+-- a move that is answered: the date has a day, from which it lands
+answered : (y k : ℕ) (l : Bool) (m : ℕ) (n : ℤ) (r : Date) → moved y k l m n ≡ is r → (d : ℕ) × (dayOfDate y k l m ≡ is d) × Landed (pos d +ℤ n) r
+answered y k l m n r h = go (dayOfDate y k l m) refl
+  where
+    go : (a : Answer ℕ) → dayOfDate y k l m ≡ a → (d : ℕ) × (dayOfDate y k l m ≡ is d) × Landed (pos d +ℤ n) r
+    go (is d) e = (d, e, landed-at (pos d +ℤ n) r (sym (Landing.moved-found y k l m n d e) ∙ h))
+    go (refused j) e = let a : _≡_ {A = Answer Date} (refused j) (is r) = sym (Landing.moved-refused y k l m n j e) ∙ h in absurd (let o : _≡_ {A = ℕ} 0 1 = cc in omega arith)
+    go (refused-with j i) e = let a : _≡_ {A = Answer Date} (refused-with j i) (is r) = sym (Landing.moved-refused-with y k l m n j i e) ∙ h in absurd (let o : _≡_ {A = ℕ} 0 1 = cc in omega arith)
+
+-- from a date's own four things a move starts at its day
+from-date : (e : ℕ) (n : ℤ) (r : Date) → DayInRange e → r ≡ dateOf e →
+    moved (r .year) (numberOf (r .month)) (leapMark (r .month)) (r .«day_of_month») n ≡ landed (pos e +ℤ n)
+from-date e n r i f =
+    ap (λ (s : Date). moved (s .year) (numberOf (s .month)) (leapMark (s .month)) (s .«day_of_month») n) f
+    ∙ Landing.moved-found (dateOf e .year) (numberOf (dateOf e .month)) (leapMark (dateOf e .month)) (dateOf e .«day_of_month») n e (Dates.there-and-back e i)
+
+pub moves-add : Paper.Moves-add
+moves-add y k l m a b date second whole p q s =
+    let w = answered y k l m a date (sym p) in
+    let at : Landed (pos (w .0) +ℤ a) date = w .2 in
+    Dates.dated-once second whole
+    (q
+    ∙ from-date (at .e) b date (at .inside) (at .date)
+    ∙ ap (λ (z : ℤ). landed (z +ℤ b)) (sym (at .there))
+    ∙ ap landed (+ℤ-assoc (pos (w .0)) a b)
+    ∙ sym (Landing.moved-found y k l m (a +ℤ b) (w .0) (w .1))
+    ∙ sym s)
+
+-- the date 27,759 days later
+later : (d : ℕ) → SeventySixLater (dateOf d) (dateOf (d + 27759))
+unfolding dateOf dateIn
+later d =
+    record {
+      month = ap monthAt e ∙ Leaps.month-shift 1 (monthOfDay d);
+      day-of-month = ap (λ (n : ℕ). d + 27759 - monthStart n + 1) e ∙ omega (arith, Months.start-shift 1 (monthOfDay d), Months.of-day-low d);
+      month-length = ap monthLength e ∙ Months.length-shift 1 (monthOfDay d);
+      year = ap yearOfMonth e ∙ Years.of-month-shift 1 (monthOfDay d);
+      day-name = Counts.day-name-further 1 d;
+      year-name = ap (λ (n : ℕ). yearName (yearOfMonth n)) e ∙ ap yearName (Years.of-month-shift 1 (monthOfDay d)) ∙ Counts.year-name-further 1 (yearOfMonth (monthOfDay d));
+    }
+  where
+    e : monthOfDay (d + 27759) ≡ monthOfDay d + 940
+    e = Months.of-day-shift 1 d
+
+pub law-of-76 : Paper.Law-of-76
+law-of-76 y k l m r s p q =
+    let v = answered y k l m (pos 0) r (sym p) in
+    let w = answered y k l m (pos 27759) s (sym q) in
+    let here : Landed (pos (v .0 + 0)) r = v .2 in
+    let there : Landed (pos (w .0 + 27759)) s = w .2 in
+    let f : v .0 ≡ w .0 = let g : _≡_ {A = Answer ℕ} (is (v .0)) (is (w .0)) = sym (v .1) ∙ w .1 in cc in
+    let a : v .0 + 0 ≡ here .e = let g : pos (v .0 + 0) ≡ pos (here .e) = here .there in cc in
+    let b : w .0 + 27759 ≡ there .e = let g : pos (w .0 + 27759) ≡ pos (there .e) = there .there in cc in
+    subst₂ SeventySixLater (sym (here .date)) (ap dateOf {x = here .e + 27759} (omega arith) ∙ sym (there .date)) (later (here .e))
+
+-- the date of a month's first day has the month's own year and mark
+pub law-of-19 : Paper.Law-of-19
+unfolding dateOf dateIn
+law-of-19 y r s = (
+  length-same (Paper.bearsNineteen y) (inNineteen y) 0 507600 (λ i h. years (0 + i)) ∙ Rules.nineteen-years y r s .0,
+  length-same (λ n. Paper.bearsNineteen y n && leapMark (dateOf (monthStart n) .month)) (λ n. inNineteen y n && leap n) 0 507600
+      (λ i h. ap₂ _&&_ (years (0 + i)) (ap (λ (n : ℕ). leapMark (monthAt n)) (Months.of-first-day (0 + i)) ∙ Leaps.mark-at (0 + i)))
+      ∙ Rules.nineteen-years y r s .1,
+)
+  where
+    years : (n : ℕ) → Paper.bearsNineteen y n ≡ inNineteen y n
+    years n = ap (λ (p : ℕ). leb y (yearOfMonth p) && leb (yearOfMonth p) (y + 18)) (Months.of-first-day n)
+
+pub unique-move : Paper.Unique-move
+unique-move y k l m n a b p q = Dates.dated-once a b (p ∙ sym q)
+
+pub wrong-moves : Paper.Wrong-moves
+unfolding dateOf dateIn dayName
+wrong-moves = record { refusing-all = all; never-moving = never }
+  where
+    by : (n : ℕ) → DayInRange (0 + n) → moved (dateOf 0 .year) (numberOf (dateOf 0 .month)) (leapMark (dateOf 0 .month)) (dateOf 0 .«day_of_month») (pos n) ≡ is (dateOf (0 + n))
+    by n h = from-date 0 (pos n) (dateOf 0) (omega arith) refl ∙ Landing.lands (0 + n) h
+
+    all : ((y k : ℕ) (l : Bool) (m : ℕ) (n : ℤ) → (r : ℕ) × (moved y k l m n ≡ refused r)) → ⊥
+    all h =
+        let a = h (dateOf 0 .year) (numberOf (dateOf 0 .month)) (leapMark (dateOf 0 .month)) (dateOf 0 .«day_of_month») (pos 0) in
+        let f : _≡_ {A = Answer Date} (refused (a .0)) (is (dateOf 0)) = sym (a .1) ∙ by 0 (omega arith) in
+        let o : _≡_ {A = ℕ} 0 1 = cc in
+        omega arith
+
+    never : ((y k : ℕ) (l : Bool) (m : ℕ) (n : ℤ) → moved y k l m n ≡ moved y k l m (pos 0)) → ⊥
+    never h =
+        let a : _≡_ {A = Answer Date} (is (dateOf 1)) (is (dateOf 0)) = sym (by 1 (omega arith)) ∙ h (dateOf 0 .year) (numberOf (dateOf 0 .month)) (leapMark (dateOf 0 .month)) (dateOf 0 .«day_of_month») (pos 1) ∙ by 0 (omega arith) in
+        let b : dateOf 1 ≡ dateOf 0 = cc in
+        let c : dateOf 1 .«day_name» ≡ dateOf 0 .«day_name» = ap (λ (s : Date). s .«day_name») b in
+        omega (arith, c)

@@ -1,0 +1,78 @@
+-- Demand 3, as statements. proofs/Paper.antt proves each under the same name in small letters.
+-- Assumes nothing.
+use Prim.Native.Nat.{ℕ, _+_, _<_}
+use mathlib.Core.Path.{_≡_}
+use mathlib.Core.Logic.{_↔_}
+use mathlib.Core.Bool.{Bool, _&&_}
+use lib.ListN.{length}
+use lib.Dec.{leb}
+use lib.IntN.{ℤ, pos, _+ℤ_}
+use Rattle.rule.specs.Counts.{YearInRange, DayInRange}
+use Rattle.rule.specs.Lists.{those}
+use Rattle.rule.specs.Rule.{monthStart, numberOf, leapMark}
+use Rattle.rule.specs.Reasons.{is, refused}
+use Rattle.rule.specs.Paper.{further}
+use Rattle.dates.specs.declared.Date.{Date}
+use Rattle.dates.specs.declared.Dated.{Dated}
+use Rattle.dates.specs.declared.Dated.the-variants.{Is}
+use Rattle.dates.specs.Dates.{dateOf, dateAt, dayOfDate}
+use Rattle.moves.specs.Moves.{moved, MoveDate}
+
+-- "For a date in range, a move by n days gives demand 2's date for the day n later, and is refused only if that day is out of
+-- range": the day n later is e
+pub record MoveOfADate (y k : ℕ) (l : Bool) (m d : ℕ) (n : ℤ) : Type 0 where
+  pub gives : (e : ℕ) → pos d +ℤ n ≡ pos e → DayInRange e → moved y k l m n ≡ dateAt e
+  pub eight : (moved y k l m n ≡ refused 8) ↔ (((e : ℕ) × (pos d +ℤ n ≡ pos e) × DayInRange e) → ⊥)
+
+abbrev pub Move-of-a-date : Type 0
+Move-of-a-date = (y k : ℕ) (l : Bool) (m d : ℕ) (n : ℤ) → dayOfDate y k l m ≡ is d → MoveOfADate y k l m d n
+
+-- "a move first the date's own reasons": it is refused with r, one of 1 to 5, exactly where the date is
+abbrev pub Date's-own-reasons : Type 0
+Date's-own-reasons = (y k : ℕ) (l : Bool) (m r : ℕ) (n : ℤ) → r < 8 → (moved y k l m n ≡ refused r) ↔ (dayOfDate y k l m ≡ refused r)
+
+-- "If the move by a stays in range and a plus b can be written, moving by a and then b equals moving by a plus b, refusals
+-- too": over the calls' own answers, the second move taking the first one's date by its own four things
+abbrev pub Moves-add : Type 0
+Moves-add =
+    (y k : ℕ) (l : Bool) (m : ℕ) (a b : ℤ) (date : Date) (second whole : Dated) →
+    MoveDate y k l m a (Is date) →
+    MoveDate (date .year) (numberOf (date .month)) (leapMark (date .month)) (date .«day_of_month») b second →
+    MoveDate y k l m (a +ℤ b) whole →
+    second ≡ whole
+
+-- "month, leap mark, day of month and month length agree, the year is 76 more, the day name 39 further and the year name 16
+-- further round sixty"
+pub record SeventySixLater (r s : Date) : Type 0 where
+  pub month : s .month ≡ r .month
+  pub day-of-month : s .«day_of_month» ≡ r .«day_of_month»
+  pub month-length : s .«month_length» ≡ r .«month_length»
+  pub year : s .year ≡ r .year + 76
+  pub day-name : s .«day_name» ≡ further 39 (r .«day_name»)
+  pub year-name : s .«year_name» ≡ further 16 (r .«year_name»)
+
+-- "Where a date and the date 27,759 days later are both in range": the law of 76 years, over the call's own answers
+abbrev pub Law-of-76 : Type 0
+Law-of-76 =
+    (y k : ℕ) (l : Bool) (m : ℕ) (r s : Date) →
+    MoveDate y k l m (pos 0) (Is r) → MoveDate y k l m (pos 27759) (Is s) → SeventySixLater r s
+
+-- a month as the date of its first day has it: its year is one of the nineteen from y on
+abbrev pub bearsNineteen : ℕ → ℕ → Bool
+bearsNineteen y n = leb y (dateOf (monthStart n) .year) && leb (dateOf (monthStart n) .year) (y + 18)
+
+-- "Any nineteen consecutive years in range hold 235 months, exactly seven of them leap", over the years that dates bear
+abbrev pub Law-of-19 : Type 0
+Law-of-19 =
+    (y : ℕ) → YearInRange y → YearInRange (y + 18) →
+    (length (those (bearsNineteen y) 0 507600) ≡ 235)
+    × (length (those (λ n. bearsNineteen y n && leapMark (dateOf (monthStart n) .month)) 0 507600) ≡ 7)
+
+-- the promise leaves one answer
+abbrev pub Unique-move : Type 0
+Unique-move = (y k : ℕ) (l : Bool) (m : ℕ) (n : ℤ) (a b : Dated) → MoveDate y k l m n a → MoveDate y k l m n b → a ≡ b
+
+-- wrong versions, each shut out at some input: one that refuses all, one that never moves
+pub record Wrong-moves : Type 0 where
+  pub refusing-all : ((y k : ℕ) (l : Bool) (m : ℕ) (n : ℤ) → (r : ℕ) × (moved y k l m n ≡ refused r)) → ⊥
+  pub never-moving : ((y k : ℕ) (l : Bool) (m : ℕ) (n : ℤ) → moved y k l m n ≡ moved y k l m (pos 0)) → ⊥
