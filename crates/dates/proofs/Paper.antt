@@ -24,7 +24,7 @@ use Rattle.rule.specs.Rule.{
   numberOf,
   leapMark,
 }
-use Rattle.rule.specs.Reasons.{Answer, is, refused, refused-with, within, guard}
+use Rattle.rule.specs.Reasons.{Answer, is, refused, within, guard}
 use Rattle.rule.specs.Paper.{AfterNamesake}
 use Rattle.rule.specs.declared.Month.{Month}
 use Rattle.rule.specs.declared.Month.the-variants.{Ordinary, Leap}
@@ -36,7 +36,6 @@ use Rattle.rule.proofs.Paper as Rules
 use Rattle.rule.proofs.Answers.{
   reasonOf,
   reason-back,
-  one-to-one,
   within-true,
   fails,
   Beyond,
@@ -47,6 +46,12 @@ use Rattle.rule.proofs.Answers.{
   holds-all,
   then-iff,
   test-iff,
+  at-most,
+  one-given,
+  one-refused,
+  read-back,
+  once,
+  given-not,
 }
 use Rattle.dates.specs.declared.Date.{Date}
 use Rattle.dates.specs.declared.Dated.{Dated}
@@ -273,8 +278,8 @@ pub reasons-of-a-day : Paper.Reasons-of-a-day
 unfolding dateAt
 reasons-of-a-day d =
     record {
-      given = (λ e. leb-true d 14989859 (holds-all (leb d 14989859) 6 (is (dateOf d)) (dateOf d) .0 e .0), Days.a-day d);
-      six = Iff·trans (fails-here (leb d 14989859) 6 (is (dateOf d)) (beyond-is 6 (dateOf d))) (fails (leb d 14989859) (leb-true d 14989859, le-leb d 14989859));
+      given = one-given (leb d 14989859) 6 (dateOf d) (at-most d 14989859);
+      six = one-refused (leb d 14989859) 6 (dateOf d) (at-most d 14989859);
     }
 
 -- where each reason of a date comes from
@@ -433,47 +438,34 @@ second-of-two-big n i r big also h =
     day = ap (λ (p : ℕ). d - monthStart p + 1) e ∙ omega arith
 
 -- an answer can be read back from what it says
-back-to-dated : Answer Date → Dated
-back-to-dated (is r) = Dated'.Is r
-back-to-dated (refused k) = Dated'.Refused (reasonOf k)
-back-to-dated (refused-with k n) = Dated'.Refused (reasonOf k)
-
 pub dated-once : (a b : Dated) → saidDate a ≡ saidDate b → a ≡ b
-unfolding back-to-dated
-dated-once = one-to-one saidDate back-to-dated again
+unfolding read-back
+dated-once a b e = once saidDate Dated'.Is (λ k. Dated'.Refused (reasonOf k)) again a b (saidDate b) e refl
   where
-    again : (a : Dated) → back-to-dated (saidDate a) ≡ a
+    again : (a : Dated) → read-back saidDate Dated'.Is (λ k. Dated'.Refused (reasonOf k)) (saidDate a) ≡ a
     again (Dated'.Is r) = refl
     again (Dated'.Refused r) = ap Dated'.Refused (reason-back r)
 
 pub unique-date : Paper.Unique-date
 unique-date d a b p q = dated-once a b (p ∙ sym q)
 
-back-to-found : Answer ℕ → DayFound
-back-to-found (is d) = DayFound'.Is d
-back-to-found (refused k) = DayFound'.Refused (reasonOf k)
-back-to-found (refused-with k n) = DayFound'.Refused (reasonOf k)
-
 pub unique-day : Paper.Unique-day
-unfolding back-to-found
-unique-day y k l m a b p q = one-to-one saidDay back-to-found again a b (p ∙ sym q)
+unfolding read-back
+unique-day y k l m a b p q = once saidDay DayFound'.Is (λ j. DayFound'.Refused (reasonOf j)) again a b (dayOfDate y k l m) p q
   where
-    again : (a : DayFound) → back-to-found (saidDay a) ≡ a
+    again : (a : DayFound) → read-back saidDay DayFound'.Is (λ j. DayFound'.Refused (reasonOf j)) (saidDay a) ≡ a
     again (DayFound'.Is d) = refl
     again (DayFound'.Refused r) = ap DayFound'.Refused (reason-back r)
 
 pub refusing-all : Paper.Refusing-all
-refusing-all = record { days = days-shut; dates = dates-shut }
-  where
-    days-shut : ((d : ℕ) → (r : ℕ) × (dateAt d ≡ refused r)) → ⊥
-    days-shut h = let e : _≡_ {A = Answer Date} (refused (h 0 .0)) (is (dateOf 0)) = sym (h 0 .1) ∙ Days.a-day 0 (omega arith) in let o : _≡_ {A = ℕ} 0 1 = cc in omega arith
-
-    dates-shut : ((y k : ℕ) (l : Bool) (m : ℕ) → (r : ℕ) × (dayOfDate y k l m ≡ refused r)) → ⊥
-    dates-shut h =
-        let a = h (dateOf 0 .year) (numberOf (dateOf 0 .month)) (leapMark (dateOf 0 .month)) (dateOf 0 .«day_of_month») in
-        let e : _≡_ {A = Answer ℕ} (refused (a .0)) (is 0) = sym (a .1) ∙ there-and-back 0 (omega arith) in
-        let o : _≡_ {A = ℕ} 0 1 = cc in
-        omega arith
+refusing-all =
+    record {
+      days = λ h. given-not (dateAt 0) (dateOf 0) (h 0 .0) (Days.a-day 0 (omega arith)) (h 0 .1);
+      dates = λ h.
+          let a = h (dateOf 0 .year) (numberOf (dateOf 0 .month)) (leapMark (dateOf 0 .month)) (dateOf 0 .«day_of_month») in
+          given-not (dayOfDate (dateOf 0 .year) (numberOf (dateOf 0 .month)) (leapMark (dateOf 0 .month)) (dateOf 0 .«day_of_month»)) 0 (a .0)
+          (there-and-back 0 (omega arith)) (a .1);
+    }
 
 pub one-fixed-date : Paper.One-fixed-date
 unfolding dateOf dateIn dayName

@@ -16,6 +16,7 @@ use Rattle.rule.proofs.Years
 use Rattle.rule.proofs.Counts
 use Rattle.rule.proofs.Leap as Leaps
 use Rattle.rule.proofs.Lists.{length-same}
+use Rattle.rule.proofs.Answers.{given-not}
 use Rattle.rule.proofs.Paper as Rules
 use Rattle.dates.specs.declared.Date.{Date}
 use Rattle.dates.specs.Dates.{dateIn, dateOf, dayOfDate}
@@ -171,9 +172,8 @@ wrong-moves = record { refusing-all = all; never-moving = never }
     all : ((y k : ℕ) (l : Bool) (m : ℕ) (n : ℤ) → (r : ℕ) × (moved y k l m n ≡ refused r)) → ⊥
     all h =
         let a = h (dateOf 0 .year) (numberOf (dateOf 0 .month)) (leapMark (dateOf 0 .month)) (dateOf 0 .«day_of_month») (pos 0) in
-        let f : _≡_ {A = Answer Date} (refused (a .0)) (is (dateOf 0)) = sym (a .1) ∙ by 0 (omega arith) in
-        let o : _≡_ {A = ℕ} 0 1 = cc in
-        omega arith
+        given-not (moved (dateOf 0 .year) (numberOf (dateOf 0 .month)) (leapMark (dateOf 0 .month)) (dateOf 0 .«day_of_month») (pos 0)) (dateOf 0) (a .0)
+        (by 0 (omega arith)) (a .1)
 
     never : ((y k : ℕ) (l : Bool) (m : ℕ) (n : ℤ) → moved y k l m n ≡ moved y k l m (pos 0)) → ⊥
     never h =

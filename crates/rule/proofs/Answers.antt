@@ -2,12 +2,12 @@
 use Prim.Native.Nat.{ℕ, _-_, _≤_, _<_}
 use native.Mathlib.Omega.{arith}
 use mathlib.Core.Path.{_≡_, refl, ap, sym, _∙_}
-use mathlib.Core.Logic.{_↔_}
-use mathlib.Core.Bool.{Bool, true, false, _&&_}
+use mathlib.Core.Logic.{_↔_, Iff·trans}
+use mathlib.Core.Bool.{Bool, true, false, not, _&&_}
 use lib.Dec.{leb}
 use lib.ListN.{getD}
-use borrow.Author.Tests.{leb-true, le-leb}
-use Rattle.rule.specs.Reasons.{Answer, is, refused, within, guard, reasonNumber, reasonsInOrder}
+use borrow.Author.Tests.{leb-true, le-leb, not-true, not-false}
+use Rattle.rule.specs.Reasons.{Answer, is, refused, refused-with, within, guard, reasonNumber, reasonsInOrder}
 use Rattle.rule.specs.declared.Reason.{Reason}
 use Rattle.rule.specs.declared.Reason.the-variants.{
   NoSuchYear,
@@ -65,6 +65,20 @@ pub fails : (t : Bool) {P : Type 0} → ((t ≡ true) ↔ P) → (t ≡ false) �
 fails true e = (λ h. absurd (let o : _≡_ {A = ℕ} 0 1 = cc in omega arith), λ no. absurd (no (e .0 refl)))
 fails false e = (λ h p. let g : false ≡ true = e .1 p in let o : _≡_ {A = ℕ} 0 1 = cc in omega arith, λ no. refl)
 
+-- a function's answer b that is the test t, negated in an `if`
+pub failed : (b t : Bool) → b ≡ t → not b ≡ true → t ≡ false
+failed b t e h = sym e ∙ not-true b h
+
+pub passed : (b t : Bool) → b ≡ t → not b ≡ false → t ≡ true
+passed b t e h = sym e ∙ not-false b h
+
+-- a guard that stops a query, and one that lets it pass
+pub stops : {A : Type 0} (t : Bool) (k : ℕ) (a : Answer A) → t ≡ false → guard t k a ≡ refused k
+stops t k a h = rw (h)
+
+pub passes : {A : Type 0} (t : Bool) (k : ℕ) (a : Answer A) → t ≡ true → guard t k a ≡ a
+passes t k a h = rw (h)
+
 -- every reason of the answer a is beyond number k
 abbrev pub Beyond : {A : Type 0} → ℕ → Answer A → Type 0
 Beyond k a = (j : ℕ) → a ≡ refused j → k < j
@@ -105,3 +119,39 @@ then-iff e f = (λ a. (e .0 a .0, f .0 (e .0 a .1)), λ h. e .1 (h .0, f .1 (h .
 -- a test for what it tests
 pub test-iff : {A T P B : Type 0} → (A ↔ (T × B)) → (T ↔ P) → A ↔ (P × B)
 test-iff e f = (λ a. (f .0 (e .0 a .0), e .0 a .1), λ h. e .1 (f .1 (h .0), h .1))
+
+-- one guard alone: given where what it tests holds, and refused where it does not
+module _ {A P : Type 0} (t : Bool) (k : ℕ) (x : A) (e : (t ≡ true) ↔ P) where
+  pub one-given : (guard t k (is x) ≡ is x) ↔ P
+  one-given = (λ h. e .0 (holds-all t k (is x) x .0 h .0), λ p. passes t k (is x) (e .1 p))
+
+  pub one-refused : (guard t k (is x) ≡ refused k) ↔ (P → ⊥)
+  one-refused = Iff·trans (fails-here t k (is x) (beyond-is k x)) (fails t e)
+
+-- two guards, one after the other
+module _ {A P Q : Type 0} (t s : Bool) (k j : ℕ) (l : k < j) (x : A) (e : (t ≡ true) ↔ P) (f : (s ≡ true) ↔ Q) where
+  pub two-given : (guard t k (guard s j (is x)) ≡ is x) ↔ (P × Q)
+  two-given = test-iff (then-iff (holds-all t k (guard s j (is x)) x) (one-given s j x f)) e
+
+  pub two-first : (guard t k (guard s j (is x)) ≡ refused k) ↔ (P → ⊥)
+  two-first = Iff·trans (fails-here t k (guard s j (is x)) (beyond-guard s k j (is x) l (beyond-is k x))) (fails t e)
+
+  pub two-second : (guard t k (guard s j (is x)) ≡ refused j) ↔ (P × (Q → ⊥))
+  two-second = test-iff (then-iff (fails-later t k j (guard s j (is x)) l) (one-refused s j x f)) e
+
+pub at-most : (a b : ℕ) → (leb a b ≡ true) ↔ (a ≤ b)
+at-most a b = (leb-true a b, le-leb a b)
+
+-- an answer can be read back from what it says: over any enum of these two cases
+module _ {A E : Type 0} (said : E → Answer A) (given : A → E) (no : ℕ → E) where
+  unfoldable pub read-back : Answer A → E
+  read-back (is a) = given a
+  read-back (refused k) = no k
+  read-back (refused-with k n) = no k
+
+  pub once : ((e : E) → read-back (said e) ≡ e) → (a b : E) (x : Answer A) → said a ≡ x → said b ≡ x → a ≡ b
+  once again a b x p q = one-to-one said read-back again a b (p ∙ sym q)
+
+-- what is given is not refused
+pub given-not : {A : Type 0} (a : Answer A) (x : A) (r : ℕ) → a ≡ is x → a ≡ refused r → ⊥
+given-not a x r p q = let o : _≡_ {A = ℕ} 0 1 = cc in omega arith

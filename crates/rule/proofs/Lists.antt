@@ -1,6 +1,6 @@
 -- Laws of the lists of specs/Lists: how long `those` is, its values under a map, and an entry of a table.
 -- Assumes nothing.
-use Prim.Native.Nat.{ℕ, zero, suc, _+_, _<_}
+use Prim.Native.Nat.{ℕ, zero, suc, _+_, _-_, _≤_, _<_}
 use native.Mathlib.Nat.{add-zero, zero-add, add-suc, add-assoc, le-of-suc-le-suc, not-suc-le-zero}
 use native.Mathlib.Omega.{arith}
 use mathlib.Core.Path.{_≡_, refl, ap, sym, _∙_, ap₂}
@@ -63,8 +63,16 @@ length-all a (suc k) = omega (arith, length-more (λ n. true) a k, length-all a 
 length-none : (a k : ℕ) → length (those (λ n. false) a k) ≡ 0
 length-none a k = omega (arith, complement (λ n. true) a k, length-all a k)
 
+-- the first that passes stands first in the list
+pub first-hit : (p : ℕ → Bool) (a i j : ℕ) → those p a i ≡ [] → p (a + i) ≡ true → (rest : List ℕ) × (those p a (suc i + j) ≡ (a + i) ∷ rest)
+unfolding those
+first-hit p a i zero e h = ([], ap (those p a) (add-zero (suc i)) ∙ rw (e, h))
+first-hit p a i (suc j) e h =
+    let w = first-hit p a i j e h in
+    (w .0 ++ kept (p (a + (suc i + j))) (a + (suc i + j)), ap (those p a) (add-suc (suc i) j) ∙ ap (λ (l : List ℕ). l ++ kept (p (a + (suc i + j))) (a + (suc i + j))) (w .1))
+
 -- a run is its first part and the rest
-length-split : (p : ℕ → Bool) (a k l : ℕ) → length (those p a (k + l)) ≡ length (those p a k) + length (those p (a + k) l)
+pub length-split : (p : ℕ → Bool) (a k l : ℕ) → length (those p a (k + l)) ≡ length (those p a k) + length (those p (a + k) l)
 unfolding those
 length-split p a k zero = omega (arith, ap (λ (n : ℕ). length (those p a n)) (add-zero k))
 length-split p a k (suc l) =
@@ -76,6 +84,38 @@ length-split p a k (suc l) =
       length-split p a k l,
       ap (λ (n : ℕ). bit (p n)) (add-assoc a k l),
     )
+
+-- one that passes is counted
+pub hit-counts : (p : ℕ → Bool) (a i k : ℕ) → i < k → p (a + i) ≡ true → length (those p a i) + 1 ≤ length (those p a k)
+hit-counts p a i k h e =
+    let f : length (those p a (suc i + (k - suc i))) ≡ length (those p a k) = ap (λ (n : ℕ). length (those p a n)) (omega arith) in
+    omega (arith, f, length-split p a (suc i) (k - suc i), length-more p a i, ap bit e)
+
+-- none that passes
+pub none-pass : (p : ℕ → Bool) (a k : ℕ) → ((i : ℕ) → i < k → p (a + i) ≡ false) → length (those p a k) ≡ 0
+none-pass p a k h = length-same p (λ n. false) a k h ∙ length-none a k
+
+pub empty : (l : List ℕ) → length l ≡ 0 → l ≡ []
+empty [] e = refl
+empty (x ∷ l) e = absurd (omega arith)
+
+-- what stands first in the list passes, and is of the run
+pub head-passes : (p : ℕ → Bool) (a k x : ℕ) (xs : List ℕ) → those p a k ≡ x ∷ xs → (p x ≡ true) × (a ≤ x) × (x < a + k)
+unfolding those
+head-passes p a zero x xs e = absurd (let o : _≡_ {A = ℕ} 0 1 = cc in omega arith)
+head-passes p a (suc k) x xs e = go (those p a k) refl (head-passes p a k)
+  where
+    last : (b : Bool) → p (a + k) ≡ b → kept b (a + k) ≡ x ∷ xs → (p x ≡ true) × (a ≤ x) × (x < a + suc k)
+    last true h f = let g : a + k ≡ x = cc in (sym (ap p g) ∙ h, omega arith, omega arith)
+    last false h f = absurd (let o : _≡_ {A = ℕ} 0 1 = cc in omega arith)
+
+    go : (l : List ℕ) → those p a k ≡ l → ((y : ℕ) (ys : List ℕ) → those p a k ≡ y ∷ ys → (p y ≡ true) × (a ≤ y) × (y < a + k)) → (p x ≡ true) × (a ≤ x) × (x < a + suc k)
+    go [] f ih = last (p (a + k)) refl (sym (ap (λ (l : List ℕ). l ++ kept (p (a + k)) (a + k)) f) ∙ e)
+    go (y ∷ ys) f ih =
+        let g : y ∷ (ys ++ kept (p (a + k)) (a + k)) ≡ x ∷ xs = sym (ap (λ (l : List ℕ). l ++ kept (p (a + k)) (a + k)) f) ∙ e in
+        let same : y ≡ x = cc in
+        let h = ih y ys f in
+        (sym (ap p same) ∙ h .0, omega (arith, h .1), omega (arith, h .2))
 
 -- of all counts, those that lie in a window and pass p are those of the window that pass p: w tells the window, k counts from
 -- a on, with l counts after it

@@ -1,0 +1,3 @@
+pub mod Leaps
+pub mod Made
+pub mod Paper

@@ -1,0 +1,37 @@
+-- `facts::leap_month_of` meets its contract: the first leap one among the year's months. Assumes nothing.
+use Prim.Native.Nat.{ℕ, _+_}
+use native.Mathlib.Omega.{arith}
+use mathlib.Core.Path.{ap₂, _∙_}
+use Rattle.rule.specs.Lists.{those}
+use Rattle.rule.specs.Rule.{leap}
+use Rattle.rule.proofs.Years.{first-next, first-end}
+use Rattle.facts.specs.Facts.{firstOf, leapMonth}
+use borrow.Author.Needs.{needs}
+use Rattle.facts.proofs.leap_month_of.Statement.{statement}
+use Rattle.facts.proofs.leap_month_of.Tie as tie
+
+first-month-requires : tie.Need-first-month-requires
+first-month-requires c κs = search needs
+
+months-in-year-requires : tie.Need-months-in-year-requires
+months-in-year-requires c κs = search needs
+
+cast-leap-among : tie.Need-cast-leap-among
+cast-leap-among c = search needs
+
+leap-among-requires : tie.Need-leap-among-requires
+leap-among-requires c κs = omega (arith, first-next (c .before .before .args .year) (c .before .before .pre .0), first-end (c .before .before .args .year + 1) (omega arith))
+
+returns : tie.Need-returns
+unfolding leapMonth
+returns c = c .leap-among .ensures ∙ ap₂ (λ (f m : ℕ). firstOf (those leap f m)) (c .before .before .first-month .ensures) (c .before .months-in-year .ensures)
+
+pub leap-month-of-spec : {M : Type 1} → statement M
+leap-month-of-spec =
+    tie.close
+    (tie.spec
+    first-month-requires
+    months-in-year-requires
+    cast-leap-among
+    leap-among-requires
+    returns)
