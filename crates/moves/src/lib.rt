@@ -15,7 +15,7 @@ pub enum Way {
 }
 
 // The signed number, taken apart once.
-fn way_of(n: i64) -> Way
+pub fn way_of(n: i64) -> Way
     ensures { λ r. ⌜ r ≡ wayOf n ⌝ }
 {
     if n < 0 {

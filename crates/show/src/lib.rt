@@ -1,0 +1,120 @@
+// What the programs that run cases print with, on standard output: numbers, months, dates, and reasons in the paper's words.
+use dates::Date;
+use dates::Dated;
+use dates::DayFound;
+use facts::LeapMonth;
+use moves::Way;
+use rule::Month;
+use rule::Reason;
+
+pub fn text(s: &[u8]) {
+    io::write_all(1, s);
+}
+
+pub fn number(n: u32) {
+    io::print_decimal(1, n as u64);
+}
+
+// A space, and a number.
+pub fn next(n: u32) {
+    text(b" ");
+    number(n);
+}
+
+// A number that may be below nought.
+pub fn signed(n: i64) {
+    match moves::way_of(n) {
+        Way::On(k) => decimal(k),
+        Way::Back(k) => {
+            text(b"-");
+            if k < 9223372036854775808 {
+                decimal(k + 1);
+            }
+        }
+    }
+}
+
+fn decimal(n: u64) {
+    io::print_decimal(1, n);
+}
+
+// `L` for leap, `-` for ordinary.
+pub fn mark(leap: bool) {
+    if leap {
+        text(b" L");
+    } else {
+        text(b" -");
+    }
+}
+
+// A month: its number and its mark.
+pub fn month(m: Month) {
+    next(rule::number_of(m) as u32);
+    mark(rule::leap_mark(m));
+}
+
+// A reason: its number and the paper's words for it.
+pub fn reason(r: Reason) {
+    text(b" REFUSED");
+    next(rule::reason_number(r) as u32);
+    text(b" ");
+    words(r);
+}
+
+pub fn words(r: Reason) {
+    match r {
+        Reason::NoSuchYear => text(b"year outside 1 to 41,040"),
+        Reason::NoSuchMonthNumber => text(b"month number outside 1 to 12"),
+        Reason::NoSuchDayOfMonth => text(b"day of month outside 1 to 30"),
+        Reason::NoSuchLeapMonth => text(b"leap month asked and that year has none of that number"),
+        Reason::NoThirtiethDay => text(b"day 30 of a 29-day month"),
+        Reason::NoSuchDay => text(b"day count outside the range"),
+        Reason::NoSuchMonth => text(b"month count outside the range"),
+        Reason::MoveOutOfRange => text(b"a move ends outside the range"),
+        Reason::SheetEndsEarly => text(b"sheet ends before a count or an item is whole"),
+        Reason::CountTooLarge => text(b"a count above 1,000"),
+        Reason::BytesAfterLast => text(b"bytes after the last section"),
+        Reason::LentTooShort => text(b"a lent list or buffer too short for the whole answer"),
+        Reason::BadWindow => text(b"window's last day before its first, or more than 27,759 days"),
+        Reason::FieldOutOfRange => text(b"a known field of a reading outside its range"),
+        Reason::NoSuchTermOrQuarter => text(b"term above 23 or quarter above 3"),
+    }
+}
+
+// A date: year, number, mark, day of month, month length, day name, year name.
+pub fn date(d: Date) {
+    let m = d.month;
+    next(d.year as u32);
+    month(m);
+    next(d.day_of_month as u32);
+    next(d.month_length as u32);
+    next(d.day_name as u32);
+    next(d.year_name as u32);
+}
+
+pub fn dated(r: Dated) {
+    match r {
+        Dated::Is(d) => date(d),
+        Dated::Refused(why) => reason(why),
+    }
+    text(b"\n");
+}
+
+pub fn day_found(r: DayFound) {
+    match r {
+        DayFound::Is(day) => next(day),
+        DayFound::Refused(why) => reason(why),
+    }
+    text(b"\n");
+}
+
+// A year's leap month: its number and its count, or `-`.
+pub fn leap_month(l: LeapMonth) {
+    match l {
+        LeapMonth::Without => text(b" -"),
+        LeapMonth::With(k, n) => {
+            next(k as u32);
+            next(n);
+        }
+    }
+}

@@ -1,0 +1,238 @@
+#!/usr/bin/env python3
+"""What the programs `tray` must write, by a computation of its own, straight from the sentences of the paper.
+
+It shares nothing with the library: the calendar is walked month by month from the origin, mid-terms are looked for among all
+even terms on each month's days, numbers are given out by the paper's two sentences, and every date is found by looking it up.
+
+usage: tools/expected.py            write the expected output of each program it knows
+       tools/expected.py --check    say whether what stands is what it computes (exit status 1 if not)
+"""
+import pathlib
+import sys
+
+ROOT = pathlib.Path(__file__).resolve().parent.parent
+YEARS, MONTHS, DAYS = 41040, 507600, 14989860
+
+WORDS = {
+    1: "year outside 1 to 41,040",
+    2: "month number outside 1 to 12",
+    3: "day of month outside 1 to 30",
+    4: "leap month asked and that year has none of that number",
+    5: "day 30 of a 29-day month",
+    6: "day count outside the range",
+    7: "month count outside the range",
+    8: "a move ends outside the range",
+    15: "term above 23 or quarter above 3",
+}
+
+
+class Calendar:
+    """Every month of the range: first day, number, leap mark, year; by walking, not by formula."""
+
+    def __init__(self):
+        self.starts = [27759 * n // 940 for n in range(MONTHS + 1)]
+        mid_days = {}
+        for t in range(0, 24 * YEARS + 48, 2):
+            mid_days[487 * t // 32] = t % 24
+        self.number, self.leap, self.year = [], [], []
+        year, previous = 0, None
+        for n in range(MONTHS):
+            held = [mid_days[d] for d in range(self.starts[n], self.starts[n + 1]) if d in mid_days]
+            assert len(held) <= 1
+            if held and held[0] == 0:
+                year += 1
+            if held:
+                previous = [11, 12, 1, 2, 3, 4, 5, 6, 7, 8, 9, 10][held[0] // 2]
+            self.number.append(previous)
+            self.leap.append(not held)
+            self.year.append(year)
+        self.by_name = {}
+        self.months_of = {}
+        for n in range(MONTHS):
+            key = (self.year[n], self.number[n], self.leap[n])
+            assert key not in self.by_name
+            self.by_name[key] = n
+            self.months_of.setdefault(self.year[n], []).append(n)
+
+    def length(self, n):
+        return self.starts[n + 1] - self.starts[n]
+
+    def month_of(self, day):
+        low, high = 0, MONTHS
+        while high - low > 1:
+            middle = (low + high) // 2
+            if self.starts[middle] <= day:
+                low = middle
+            else:
+                high = middle
+        return low
+
+
+def name(count, first):
+    """The name of a count, day 0 having 1 and year 1 having 17: round sixty."""
+    return (first - 1 + count) % 60 + 1
+
+
+def refusal(k):
+    return f" REFUSED {k} {WORDS[k]}"
+
+
+def mark(leap):
+    return "L" if leap else "-"
+
+
+class Desk:
+    def __init__(self):
+        self.c = Calendar()
+
+    def date_fields(self, day):
+        n = self.c.month_of(day)
+        y = self.c.year[n]
+        return (y, self.c.number[n], self.c.leap[n], day - self.c.starts[n] + 1, self.c.length(n), name(day, 1), name(y - 1, 17))
+
+    def date_text(self, day):
+        y, k, l, m, length, dn, yn = self.date_fields(day)
+        return f" {y} {k} {mark(l)} {m} {length} {dn} {yn}"
+
+    def day_line(self, day):
+        return f"DAY {day}:" + (self.date_text(day) if 0 <= day < DAYS else refusal(6))
+
+    def find(self, y, k, l, m):
+        """The day, or the reason's number as a negative."""
+        if not 1 <= y <= YEARS:
+            return -1
+        if not 1 <= k <= 12:
+            return -2
+        if not 1 <= m <= 30:
+            return -3
+        if (y, k, l) not in self.c.by_name:
+            assert l
+            return -4
+        n = self.c.by_name[(y, k, l)]
+        if m > self.c.length(n):
+            return -5
+        return self.c.starts[n] + m - 1
+
+    def date_line(self, y, k, l, m):
+        found = self.find(y, k, l, m)
+        return f"DATE {y} {k} {mark(l)} {m}:" + (f" {found}" if found >= 0 else refusal(-found))
+
+    def move_line(self, y, k, l, m, n):
+        found = self.find(y, k, l, m)
+        if found < 0:
+            answer = refusal(-found)
+        elif 0 <= found + n < DAYS:
+            answer = self.date_text(found + n)
+        else:
+            answer = refusal(8)
+        return f"MOVE {y} {k} {mark(l)} {m} BY {n}:" + answer
+
+    def year_lines(self, y):
+        if not 1 <= y <= YEARS:
+            return [f"PLACE {y}:" + refusal(1), f"YEAR {y}:" + refusal(1)]
+        elapsed = y - 1
+        in_yuan = elapsed % 4560
+        ji, rest = in_yuan // 1520 + 1, in_yuan % 1520
+        bu, year_in_bu = rest // 76 + 1, rest % 76 + 1
+        head_year = y - (year_in_bu - 1)
+        head = name(self.c.starts[self.c.months_of[head_year][0]], 1)
+        months = self.c.months_of[y]
+        leaps = [n for n in months if self.c.leap[n]]
+        leap = f" {self.c.number[leaps[0]]} {leaps[0]}" if leaps else " -"
+        return [
+            f"PLACE {y}: {ji} {bu} {year_in_bu} {head} {months[0]} {235 * elapsed % 19} {len(months)}",
+            f"YEAR {y}: {name(elapsed, 17)} {months[0]} {len(months)}{leap}",
+        ]
+
+    def month_line(self, n):
+        if not 0 <= n < MONTHS:
+            return f"MONTH {n}:" + refusal(7)
+        first = self.c.starts[n]
+        eclipse = "E" if 23 * (n + 1) % 135 < 23 else "-"
+        return f"MONTH {n}: {self.c.number[n]} {mark(self.c.leap[n])} {first} {27759 * n - 940 * first} {self.c.length(n)} {name(first, 1)} {eclipse}"
+
+    def quarter_line(self, n, q):
+        if not 0 <= n < MONTHS:
+            answer = refusal(7)
+        elif q > 3:
+            answer = refusal(15)
+        else:
+            answer = " %d %d" % divmod(27759 * (4 * n + q), 3760)
+        return f"QUARTER {n} {q}:" + answer
+
+    def term_line(self, y, k):
+        if not 1 <= y <= YEARS:
+            answer = refusal(1)
+        elif k > 23:
+            answer = refusal(15)
+        else:
+            answer = f" {487 * (24 * (y - 1) + k) // 32}"
+        return f"TERM {y} {k}:" + answer
+
+
+def tray(desk):
+    least, most = -(2**63), 2**63 - 1
+    out = ["THE REJECT TRAY"]
+    out += [desk.day_line(d) for d in (0, 14989859, 14989860, 4294967295)]
+    for y in (0, 1):
+        out.append(desk.date_line(y, 11, False, 1))
+    out.append(desk.date_line(41040, 10, False, 1))
+    out += [desk.date_line(y, 11, False, 1) for y in (41041, 70000, 4294967295)]
+    out += [desk.date_line(1, k, False, 1) for k in (0, 1, 12, 13, 300)]
+    out += [desk.date_line(1, 12, False, m) for m in (0, 1, 30, 31, 257)]
+    out.append(desk.date_line(1, 11, True, 1))
+    out += [desk.date_line(11, k, True, 1) for k in (8, 9, 10)]
+    out += [desk.date_line(1, 11, False, m) for m in (29, 30)]
+    out += [desk.date_line(11, 9, True, m) for m in (29, 30)]
+    out += [desk.date_line(0, 13, True, 31), desk.date_line(1, 13, True, 31), desk.date_line(1, 11, True, 31), desk.date_line(11, 8, True, 30)]
+    first, last = (1, 11, False, 1), (41040, 10, True, 30)
+    out += [
+        desk.move_line(0, 11, False, 1, 0),
+        desk.move_line(1, 13, False, 1, most),
+        desk.move_line(1, 12, False, 31, -1),
+        desk.move_line(11, 8, True, 1, least),
+        desk.move_line(11, 9, True, 30, 1),
+        desk.move_line(*first, -1),
+        desk.move_line(*first, 14989860),
+        desk.move_line(*last, 1),
+        desk.move_line(*last, -14989860),
+        desk.move_line(*first, most),
+        desk.move_line(*last, least),
+    ]
+    for y in (0, 1, 76, 77, 41040, 41041, 70000, 4294967295):
+        out += desk.year_lines(y)
+    out += [desk.month_line(n) for n in (0, 507599, 507600, 4294967295)]
+    out += [desk.quarter_line(n, q) for n, q in ((0, 0), (507599, 3), (507600, 0), (507600, 4), (0, 4), (0, 256))]
+    out += [desk.term_line(y, k) for y, k in ((1, 0), (41040, 23), (0, 0), (41041, 24), (1, 24), (1, 256))]
+    out.append("WHAT MUST NOT BE REJECTED")
+    out += [desk.day_line(14989859), desk.date_line(*last)]
+    out += [desk.move_line(*first, 0), desk.move_line(*first, 14989859), desk.move_line(*last, -14989859)]
+    out += [desk.move_line(9366, 11, False, 1, -3420558), desk.move_line(9366, 11, False, 1, 11569301)]
+    pairs = 0
+    for n in range(940):
+        if desk.c.length(n) == 30 and desk.c.length(n + 1) == 30:
+            pairs += 1
+            for i in (1, 15, 30):
+                day = desk.c.starts[n + 1] + i - 1
+                y, k, l, m = desk.date_fields(day)[:4]
+                assert m == i and desk.find(y, k, l, m) == day
+                out += [desk.day_line(day), desk.date_line(y, k, l, m)]
+    assert pairs == 58
+    return "\n".join(out) + "\n"
+
+
+def main():
+    desk = Desk()
+    wrong = 0
+    for program, text in {"tray": tray(desk)}.items():
+        path = ROOT / "crates" / program / "stdout"
+        if "--check" in sys.argv[1:]:
+            same = path.exists() and path.read_text(encoding="utf8") == text
+            print(f"expected output of {program}: {'as computed' if same else 'NOT as computed'}")
+            wrong += not same
+        else:
+            path.write_text(text, encoding="utf8")
+    return 1 if wrong else 0
+
+
+sys.exit(main())
