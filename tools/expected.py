@@ -1,5 +1,5 @@
 #!/usr/bin/env python3
-"""What the programs `tray` must write, by a computation of its own, straight from the sentences of the paper.
+"""What the program `tray` must write, by a computation of its own, straight from the sentences of the paper.
 
 It shares nothing with the library: the calendar is walked month by month from the origin, mid-terms are looked for among all
 even terms on each month's days, numbers are given out by the paper's two sentences, and every date is found by looking it up.

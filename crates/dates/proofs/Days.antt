@@ -3,12 +3,14 @@ use Prim.Native.Nat.{ℕ, _+_, _-_, _≤_, _<_}
 use native.Mathlib.Omega.{arith}
 use mathlib.Core.Path.{_≡_}
 use mathlib.Core.Bool.{Bool, true, false}
+use lib.Dec.{leb}
 use borrow.Author.Tests.{le-leb, lt-leb}
 use Rattle.rule.specs.Counts.{DayInRange, MonthInRange, dayName, yearName}
 use Rattle.rule.specs.Rule.{monthStart, monthLength, monthOfDay, yearOfMonth, leap, monthAt}
 use Rattle.rule.specs.Reasons.{is, refused, within}
 use Rattle.rule.specs.declared.Month.{Month}
 use Rattle.rule.proofs.Months.{of-day-low, of-day-high, start-next, start-end}
+use Rattle.rule.proofs.Answers.{stops, passes}
 use Rattle.dates.specs.Dates.{dateIn, dateOf, dateAt, namedMonth, dayInMonth, dayOfNamed, dayOfDate}
 
 -- a day from its month's first on, and before the next month's
@@ -28,19 +30,19 @@ day-in-range n m r l h = omega (arith, start-next n, start-end (n + 1) (omega ar
 
 pub thirtieth : (n m : ℕ) → monthLength n < m → dayInMonth n m ≡ refused 5
 unfolding dayInMonth
-thirtieth n m h = rw (lt-leb m (monthLength n) h)
+thirtieth n m h = stops (leb m (monthLength n)) 5 (is (monthStart n + (m - 1))) (lt-leb m (monthLength n) h)
 
 pub in-month : (n m : ℕ) → m ≤ monthLength n → dayInMonth n m ≡ is (monthStart n + (m - 1))
 unfolding dayInMonth
-in-month n m h = rw (le-leb m (monthLength n) h)
+in-month n m h = passes (leb m (monthLength n)) 5 (is (monthStart n + (m - 1))) (le-leb m (monthLength n) h)
 
 pub no-day : (d : ℕ) → 14989859 < d → dateAt d ≡ refused 6
 unfolding dateAt
-no-day d h = rw (lt-leb d 14989859 h)
+no-day d h = stops (leb d 14989859) 6 (is (dateOf d)) (lt-leb d 14989859 h)
 
 pub a-day : (d : ℕ) → DayInRange d → dateAt d ≡ is (dateOf d)
 unfolding dateAt
-a-day d h = rw (le-leb d 14989859 h)
+a-day d h = passes (leb d 14989859) 6 (is (dateOf d)) (le-leb d 14989859 h)
 
 -- which month is asked for, and that there is none; n is the ordinary month of the number
 module _ (y k m n : ℕ) (l : Bool) (e : n ≡ namedMonth y k) where

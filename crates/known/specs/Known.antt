@@ -5,7 +5,6 @@ use mathlib.Core.Path.{_≡_}
 use mathlib.Core.Bool.{Bool, true, false}
 use mathlib.Core.List.{List, [], _∷_, map}
 use lib.IntN.{ℤ, pos, negsuc}
-use Rattle.rule.specs.Counts.{dayName}
 use Rattle.rule.specs.Rule.{monthOfDay, numberOf, leapMark, shortcutNumber}
 use Rattle.rule.specs.Reasons.{Answer, is, refused, andThen}
 use Rattle.dates.specs.declared.Date.{Date}

@@ -3,20 +3,22 @@ use Prim.Native.Nat.{ℕ, suc, _+_, _-_, _≤_, _<_}
 use native.Mathlib.Omega.{arith}
 use mathlib.Core.Path.{_≡_, refl, ap, sym, _∙_}
 use mathlib.Core.Bool.{Bool}
+use lib.Dec.{leb}
 use lib.IntN.{ℤ, pos, negsuc, _+ℤ_}
 use borrow.Author.Tests.{lt-ltb, le-ltb, le-leb, lt-leb}
 use Rattle.rule.specs.Counts.{DayInRange}
 use Rattle.rule.specs.Reasons.{is, refused, refused-with}
+use Rattle.rule.proofs.Answers.{stops, passes}
 use Rattle.dates.specs.Dates.{dateOf, dayOfDate}
 use Rattle.moves.specs.declared.Way.{Way}
 use Rattle.moves.specs.declared.Way.the-variants.{On, Back}
 use Rattle.moves.specs.Moves.{landed, moved, wayOf, signed, stepped}
 
 pub lands : (d : ℕ) → DayInRange d → landed (pos d) ≡ is (dateOf d)
-lands d h = rw (le-leb d 14989859 h)
+lands d h = passes (leb d 14989859) 8 (is (dateOf d)) (le-leb d 14989859 h)
 
 pub lands-out : (d : ℕ) → 14989859 < d → landed (pos d) ≡ refused 8
-lands-out d h = rw (lt-leb d 14989859 h)
+lands-out d h = stops (leb d 14989859) 8 (is (dateOf d)) (lt-leb d 14989859 h)
 
 pub on-out : (d n : ℕ) → 14989859 < d + n → stepped d (On n) ≡ refused 8
 unfolding stepped

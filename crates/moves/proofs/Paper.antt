@@ -127,7 +127,7 @@ later d =
       month = ap monthAt e ∙ Leaps.month-shift 1 (monthOfDay d);
       day-of-month = ap (λ (n : ℕ). d + 27759 - monthStart n + 1) e ∙ omega (arith, Months.start-shift 1 (monthOfDay d), Months.of-day-low d);
       month-length = ap monthLength e ∙ Months.length-shift 1 (monthOfDay d);
-      year = ap yearOfMonth e ∙ Years.of-month-shift 1 (monthOfDay d);
+      year = omega (arith, ap yearOfMonth e, Years.of-month-shift 1 (monthOfDay d));
       day-name = Counts.day-name-further 1 d;
       year-name = ap (λ (n : ℕ). yearName (yearOfMonth n)) e ∙ ap yearName (Years.of-month-shift 1 (monthOfDay d)) ∙ Counts.year-name-further 1 (yearOfMonth (monthOfDay d));
     }
