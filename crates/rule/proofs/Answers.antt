@@ -52,13 +52,16 @@ reason-back NoSuchTermOrQuarter = refl
 pub one-to-one : {A B : Type 0} (said : A → B) (back : B → A) → ((a : A) → back (said a) ≡ a) → (a b : A) → said a ≡ said b → a ≡ b
 one-to-one said back h a b e = sym (h a) ∙ ap back e ∙ h b
 
+-- two tests, both of which hold
+pub both-true : {P Q : Type 0} (p q : Bool) → ((p ≡ true) ↔ P) → ((q ≡ true) ↔ Q) → ((p && q) ≡ true) ↔ (P × Q)
+both-true true true e f = (λ h. (e .0 refl, f .0 refl), λ h. refl)
+both-true true false e f =
+    (λ h. absurd (let o : _≡_ {A = ℕ} 0 1 = cc in omega arith), λ h. absurd (let g : false ≡ true = f .1 (h .1) in let o : _≡_ {A = ℕ} 0 1 = cc in omega arith))
+both-true false q e f =
+    (λ h. absurd (let o : _≡_ {A = ℕ} 0 1 = cc in omega arith), λ h. absurd (let g : false ≡ true = e .1 (h .0) in let o : _≡_ {A = ℕ} 0 1 = cc in omega arith))
+
 pub within-true : (least most a : ℕ) → (within least most a ≡ true) ↔ ((least ≤ a) × (a ≤ most))
-within-true least most a = (fwd (leb least a) (leb a most) refl refl, λ h. rw (le-leb least a (h .0), le-leb a most (h .1)))
-  where
-    fwd : (p q : Bool) → leb least a ≡ p → leb a most ≡ q → (p && q) ≡ true → (least ≤ a) × (a ≤ most)
-    fwd true true e f h = (leb-true least a e, leb-true a most f)
-    fwd true false e f h = absurd (let o : _≡_ {A = ℕ} 0 1 = cc in omega arith)
-    fwd false q e f h = absurd (let o : _≡_ {A = ℕ} 0 1 = cc in omega arith)
+within-true least most a = both-true (leb least a) (leb a most) (leb-true least a, le-leb least a) (leb-true a most, le-leb a most)
 
 -- a test fails exactly where what it tests does not hold
 pub fails : (t : Bool) {P : Type 0} → ((t ≡ true) ↔ P) → (t ≡ false) ↔ (P → ⊥)

@@ -5,7 +5,7 @@ use native.Mathlib.Nat.{add-zero, zero-add, add-suc, add-assoc, le-of-suc-le-suc
 use native.Mathlib.Omega.{arith}
 use mathlib.Core.Path.{_≡_, refl, ap, sym, _∙_, ap₂}
 use mathlib.Core.Bool.{Bool, true, false, not, _&&_}
-use mathlib.Core.List.{List, [], _∷_, _++_, map}
+use mathlib.Core.List.{List, [], _∷_, _++_, map, append-nil, append-assoc}
 use lib.ListN.{length, getD, length-append}
 use Rattle.rule.specs.Lists.{kept, those, table}
 
@@ -14,7 +14,7 @@ abbrev pub bit : Bool → ℕ
 bit true = 1
 bit false = 0
 
-length-kept : (b : Bool) (x : ℕ) → length (kept b x) ≡ bit b
+pub length-kept : (b : Bool) (x : ℕ) → length (kept b x) ≡ bit b
 length-kept true x = refl
 length-kept false x = refl
 
@@ -42,18 +42,15 @@ complement p a (suc k) =
     both true = refl
     both false = refl
 
--- two tests that agree on a run pass as many of it
-pub length-same : (p q : ℕ → Bool) (a k : ℕ) → ((i : ℕ) → i < k → p (a + i) ≡ q (a + i)) → length (those p a k) ≡ length (those q a k)
+-- two tests that agree on a run pass the same of it
+pub those-same : (p q : ℕ → Bool) (a k : ℕ) → ((i : ℕ) → i < k → p (a + i) ≡ q (a + i)) → those p a k ≡ those q a k
 unfolding those
-length-same p q a zero h = refl
-length-same p q a (suc k) h =
-    omega (
-      arith,
-      length-more p a k,
-      length-more q a k,
-      length-same p q a k (λ i l. h i (omega arith)),
-      ap bit (h k (omega arith)),
-    )
+those-same p q a zero h = refl
+those-same p q a (suc k) h =
+    ap₂ _++_ (those-same p q a k (λ i l. h i (omega arith))) (ap (λ (b : Bool). kept b (a + k)) (h k (omega arith)))
+
+pub length-same : (p q : ℕ → Bool) (a k : ℕ) → ((i : ℕ) → i < k → p (a + i) ≡ q (a + i)) → length (those p a k) ≡ length (those q a k)
+length-same p q a k h = ap length (those-same p q a k h)
 
 pub length-all : (a k : ℕ) → length (those (λ n. true) a k) ≡ k
 unfolding those
@@ -72,18 +69,28 @@ first-hit p a i (suc j) e h =
     (w .0 ++ kept (p (a + (suc i + j))) (a + (suc i + j)), ap (those p a) (add-suc (suc i) j) ∙ ap (λ (l : List ℕ). l ++ kept (p (a + (suc i + j))) (a + (suc i + j))) (w .1))
 
 -- a run is its first part and the rest
-pub length-split : (p : ℕ → Bool) (a k l : ℕ) → length (those p a (k + l)) ≡ length (those p a k) + length (those p (a + k) l)
+pub those-split : (p : ℕ → Bool) (a k l : ℕ) → those p a (k + l) ≡ those p a k ++ those p (a + k) l
 unfolding those
-length-split p a k zero = omega (arith, ap (λ (n : ℕ). length (those p a n)) (add-zero k))
-length-split p a k (suc l) =
-    omega (
-      arith,
-      ap (λ (n : ℕ). length (those p a n)) (add-suc k l),
-      length-more p a (k + l),
-      length-more p (a + k) l,
-      length-split p a k l,
-      ap (λ (n : ℕ). bit (p n)) (add-assoc a k l),
-    )
+those-split p a k zero = ap (those p a) (add-zero k) ∙ sym (append-nil (those p a k))
+those-split p a k (suc l) =
+    ap (those p a) (add-suc k l)
+    ∙ ap₂ _++_ (those-split p a k l) (ap (λ (n : ℕ). kept (p n) n) (sym (add-assoc a k l)))
+    ∙ append-assoc (those p a k) (those p (a + k) l) (kept (p (a + k + l)) (a + k + l))
+
+pub length-split : (p : ℕ → Bool) (a k l : ℕ) → length (those p a (k + l)) ≡ length (those p a k) + length (those p (a + k) l)
+length-split p a k l = ap length (those-split p a k l) ∙ length-append (those p a k) (those p (a + k) l)
+
+-- the same by the counts themselves: from a up to b, and from b up to c
+pub from-to : (p : ℕ → Bool) (a b c : ℕ) → a ≤ b → b ≤ c → those p a (c - a) ≡ those p a (b - a) ++ those p b (c - b)
+from-to p a b c h g =
+    ap (those p a) {y = b - a + (c - b)} (omega arith)
+    ∙ those-split p a (b - a) (c - b)
+    ∙ ap (λ (n : ℕ). those p a (b - a) ++ those p n (c - b)) (omega arith)
+
+-- one more at the end
+pub one-more : (p : ℕ → Bool) (a b : ℕ) → a ≤ b → those p a (b + 1 - a) ≡ those p a (b - a) ++ kept (p b) b
+unfolding those
+one-more p a b h = ap (those p a) {x = b + 1 - a} {y = suc (b - a)} (omega arith) ∙ ap (λ (n : ℕ). those p a (b - a) ++ kept (p n) n) {x = a + (b - a)} (omega arith)
 
 -- one that passes is counted
 pub hit-counts : (p : ℕ → Bool) (a i k : ℕ) → i < k → p (a + i) ≡ true → length (those p a i) + 1 ≤ length (those p a k)
