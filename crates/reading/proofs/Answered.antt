@@ -1,20 +1,19 @@
 -- What a search answers at each return, over plain values. Assumes nothing.
-use Prim.Native.Nat.{ℕ, _+_, _-_, _≤_, _<_}
-use native.Mathlib.Omega.{arith}
-use mathlib.Core.Path.{_≡_, refl, ap, sym, _∙_}
+use Prim.Native.Nat.{ℕ, _≤_, _<_}
+use mathlib.Core.Path.{_≡_, ap, sym, _∙_}
 use mathlib.Core.Logic.{_↔_}
-use mathlib.Core.Bool.{Bool, true, false, _&&_, and-false}
+use mathlib.Core.Bool.{true, false, _&&_, and-false}
 use mathlib.Core.List.{List}
 use lib.Dec.{leb}
 use lib.ListN.{length}
 use borrow.Author.Tests.{leb-true, le-leb, lt-leb}
 use Rattle.rule.specs.Counts.{DayInRange}
-use Rattle.rule.specs.Reasons.{Answer, is, refused, refused-with, guard}
-use Rattle.rule.proofs.Answers.{both-true, stops, passes}
+use Rattle.rule.specs.Reasons.{Answer, is, refused, refused-with}
+use Rattle.rule.proofs.Answers.{both-true}
 use Rattle.reading.specs.declared.Reading.{Reading}
 use Rattle.reading.specs.declared.Found.{Found}
 use Rattle.reading.specs.Readings.{inRanges, windowDays, windowHolds, fitting}
-use Rattle.reading.specs.Search.{total, withRoom, searchAt, saidFound, listAfter, Searched}
+use Rattle.reading.specs.Search.{total, searchAt, saidFound, listAfter, Searched}
 
 -- a window: its last day is not before its first, and it has at most 27,759 days
 pub window-true : (first last : ℕ) → (windowHolds first last ≡ true) ↔ ((first ≤ last) × (windowDays first last ≤ 27759))

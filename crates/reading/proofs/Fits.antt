@@ -1,14 +1,22 @@
 -- Tests put together, over plain values, for the functions that make them. Assumes nothing.
 use Prim.Native.Nat.{ℕ, _+_, _-_, _≤_, _<_}
-use native.Mathlib.Omega.{arith}
-use mathlib.Core.Path.{_≡_, ap, ap₂, sym, _∙_}
-use mathlib.Core.Bool.{Bool, true, false, _&&_}
+use mathlib.Core.Path.{_≡_, ap, ap₂, _∙_}
+use mathlib.Core.Bool.{Bool, false, _&&_}
 use lib.Dec.{leb}
 use borrow.Author.Tests.{le-leb, lt-leb}
 use Rattle.rule.specs.Counts.{dayName, yearName}
 use Rattle.rule.specs.Rule.{monthStart, yearOfMonth, leap, monthNumber}
 use Rattle.reading.specs.declared.Reading.{Reading}
-use Rattle.reading.specs.Readings.{markNumber, fieldFits, fieldInRange, inRanges, monthFits, dayFits, windowDays, windowHolds}
+use Rattle.reading.specs.Readings.{
+  markNumber,
+  fieldFits,
+  fieldInRange,
+  inRanges,
+  monthFits,
+  dayFits,
+  windowDays,
+  windowHolds,
+}
 
 pub day-made : (r : Reading) (s d k : ℕ) (a b : Bool) → a ≡ fieldFits (r .«day_of_month») (d - s + 1) → b ≡ fieldFits (r .«day_name») k → k ≡ dayName d → (a && b) ≡ dayFits r s d
 unfolding dayFits

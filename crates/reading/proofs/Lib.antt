@@ -1,3 +1,4 @@
 pub mod Runs
 pub mod Fits
 pub mod Answered
+pub mod Paper

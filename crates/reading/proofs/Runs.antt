@@ -1,15 +1,15 @@
 -- Runs of days: a month's part of a window, a list filled place by place. Assumes nothing.
-use Prim.Native.Nat.{ℕ, zero, suc, _+_, _-_, _≤_, _<_, min, max}
+use Prim.Native.Nat.{ℕ, suc, _+_, _-_, _≤_, _<_, min, max}
 use native.Mathlib.Nat.{add-zero, zero-add, sub-self}
 use native.Mathlib.Omega.{arith}
-use mathlib.Core.Path.{_≡_, refl, ap, ap₂, sym, _∙_}
+use mathlib.Core.Path.{_≡_, ap, sym, _∙_}
 use mathlib.Core.Bool.{Bool, true, false, _&&_}
 use mathlib.Core.List.{List, [], _∷_, _++_, append-nil}
-use lib.ListN.{length, take, drop, set, length-append}
-use lib.Seq.{sets, sets-eq, length-sets}
-use Rattle.rule.specs.Counts.{DayInRange, MonthInRange}
+use lib.ListN.{length, drop, set, length-append}
+use lib.Seq.{sets, sets-eq}
+use Rattle.rule.specs.Counts.{MonthInRange}
 use Rattle.rule.specs.Lists.{kept, those}
-use Rattle.rule.specs.Rule.{monthStart, InMonth, monthOfDay}
+use Rattle.rule.specs.Rule.{monthStart, monthOfDay}
 use Rattle.rule.proofs.Lists.{bit, complement, length-kept, those-same, none-pass, empty, from-to, one-more}
 use Rattle.rule.proofs.Months.{of-day-only, of-day-low, of-day-high, start-least, start-most, start-inside}
 use Rattle.reading.specs.declared.Reading.{Reading}

@@ -1,14 +1,15 @@
 -- What the paper says of readings and the search, as statements. proofs/Paper.antt proves each under the same name in small
 -- letters. Assumes nothing.
-use Prim.Native.Nat.{ℕ, _+_, _-_, _≤_, _<_}
+use Prim.Native.Nat.{ℕ, _+_, _≤_, _<_}
 use mathlib.Core.Path.{_≡_}
 use mathlib.Core.Logic.{_↔_, _⊎_}
-use mathlib.Core.Bool.{Bool, true, false}
-use mathlib.Core.List.{List, [], _∷_}
+use mathlib.Core.Bool.{true}
+use mathlib.Core.List.{List}
 use lib.ListN.{length, getD, drop}
-use Rattle.rule.specs.Counts.{DayInRange, MonthInRange, dayName}
+use Rattle.rule.specs.Counts.{DayInRange, dayName}
 use Rattle.rule.specs.Rule.{monthStart, monthLength, InMonth, monthOfDay, numberOf, leapMark}
 use Rattle.rule.specs.Reasons.{is, refused, refused-with}
+use Rattle.rule.specs.declared.Reason.{Reason}
 use Rattle.dates.specs.Dates.{dateOf}
 use Rattle.reading.specs.declared.Field.{Field}
 use Rattle.reading.specs.declared.Field.the-variants.{Known, Unread}
@@ -72,7 +73,7 @@ Search-lists =
 
 -- a refused call changes nothing in the list
 pub record Refusal-changes-nothing : Type 0 where
-  pub refused-one : (r : Reading) (first last : ℕ) (old new : List ℕ) (why : _) → Searched r first last old (Refused why) new → new ≡ old
+  pub refused-one : (r : Reading) (first last : ℕ) (old new : List ℕ) (why : Reason) → Searched r first last old (Refused why) new → new ≡ old
   pub too-short : (r : Reading) (first last n : ℕ) (old new : List ℕ) → Searched r first last old (TooShort n) new → new ≡ old
 
 -- "all six may be unread": then the whole window is listed
@@ -128,13 +129,20 @@ pub record FieldsInRange (r : Reading) : Type 0 where
   pub first-name : FieldInRange (r .«first_name») 60
 
 -- "window's last day before its first, or more than 27,759 days"
+abbrev pub NoWindow : ℕ → ℕ → Type 0
+NoWindow first last = (last < first) ⊎ (27759 < windowDays first last)
+
 abbrev pub IsWindow : ℕ → ℕ → Type 0
 IsWindow first last = (first ≤ last) × (windowDays first last ≤ 27759)
 
+-- "6 for either end": a day count outside the range
+abbrev pub EndOutside : ℕ → ℕ → Type 0
+EndOutside first last = (14989859 < first) ⊎ (14989859 < last)
+
 -- the reasons of a search: each exactly where the paper's row holds and no earlier one's does
 pub record SearchReasons (r : Reading) (first last room : ℕ) : Type 0 where
-  pub six : (searchAt r first last room ≡ refused 6) ↔ ((DayInRange first × DayInRange last) → ⊥)
-  pub thirteen : (searchAt r first last room ≡ refused 13) ↔ ((DayInRange first × DayInRange last) × (IsWindow first last → ⊥))
+  pub six : (searchAt r first last room ≡ refused 6) ↔ EndOutside first last
+  pub thirteen : (searchAt r first last room ≡ refused 13) ↔ ((DayInRange first × DayInRange last) × NoWindow first last)
   pub fourteen :
       (searchAt r first last room ≡ refused 14)
       ↔ ((DayInRange first × DayInRange last) × (IsWindow first last × (FieldsInRange r → ⊥)))
@@ -158,7 +166,7 @@ Unique-search =
 -- the first day that fits and skips the rest
 pub record Wrong-searches : Type 0 where
   pub refusing-all :
-      ((r : Reading) (first last : ℕ) (old : List ℕ) → (why : _) × Searched r first last old (Refused why) old) → ⊥
+      ((r : Reading) (first last : ℕ) (old : List ℕ) → (why : Reason) × Searched r first last old (Refused why) old) → ⊥
   pub filling-none :
       ((r : Reading) (first last n : ℕ) (old new : List ℕ) → Searched r first last old (Is n) new → new ≡ old) → ⊥
   pub inventing : (n : ℕ) → ((r : Reading) (first last m : ℕ) (old new : List ℕ) → Searched r first last old (Is m) new → m ≡ n) → ⊥

@@ -1,9 +1,9 @@
 -- "Readings and search" of the paper: the six values of a day, when a field and a reading fit, the ranges of the fields.
 -- Assumes nothing.
-use Prim.Native.Nat.{ℕ, suc, _+_, _-_, _≤_, _<_}
+use Prim.Native.Nat.{ℕ, _+_, _-_, _≤_}
 use mathlib.Core.Bool.{Bool, true, false, _&&_}
 use mathlib.Core.List.{List}
-use lib.Dec.{eqb, leb, ltb}
+use lib.Dec.{eqb, leb}
 use Rattle.rule.specs.Counts.{MonthInRange, dayName, yearName}
 use Rattle.rule.specs.Lists.{those}
 use Rattle.rule.specs.Rule.{monthStart, monthOfDay, yearOfMonth, leap, monthNumber}

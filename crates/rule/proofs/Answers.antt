@@ -99,21 +99,23 @@ module _ {A : Type 0} where
   fails-here true k a h = (λ e. absurd (omega (arith, h k e)), λ f. absurd (let o : _≡_ {A = ℕ} 0 1 = cc in omega arith))
   fails-here false k a h = (λ e. refl, λ f. refl)
 
-  -- an answer with a later reason: this guard holds, and the rest has the reason
+  -- an answer x that is not this guard's reason: the guard holds, and the rest is x
+  pub goes-on : (t : Bool) (k : ℕ) (a x : Answer A) → (refused k ≡ x → ⊥) → (guard t k a ≡ x) ↔ ((t ≡ true) × (a ≡ x))
+  goes-on true k a x n = (λ e. (refl, e), λ h. h .1)
+  goes-on false k a x n = (λ e. absurd (n e), λ h. absurd (let e : false ≡ true = h .0 in let o : _≡_ {A = ℕ} 0 1 = cc in omega arith))
+
+  -- a later reason
   pub fails-later : (t : Bool) (k j : ℕ) (a : Answer A) → k < j → (guard t k a ≡ refused j) ↔ ((t ≡ true) × (a ≡ refused j))
-  fails-later true k j a l = (λ e. (refl, e), λ h. h .1)
-  fails-later false k j a l = (
-    λ e. absurd (let f : k ≡ j = cc in omega arith),
-    λ h. absurd (let e : false ≡ true = h .0 in let o : _≡_ {A = ℕ} 0 1 = cc in omega arith),
-  )
+  fails-later t k j a l = goes-on t k a (refused j) (λ e. let f : k ≡ j = let g : _≡_ {A = Answer A} (refused k) (refused j) = e in cc in omega arith)
 
   -- an answer that is given: every guard holds
   pub holds-all : (t : Bool) (k : ℕ) (a : Answer A) (x : A) → (guard t k a ≡ is x) ↔ ((t ≡ true) × (a ≡ is x))
-  holds-all true k a x = (λ e. (refl, e), λ h. h .1)
-  holds-all false k a x = (
-    λ e. absurd (let o : _≡_ {A = ℕ} 0 1 = cc in omega arith),
-    λ h. absurd (let e : false ≡ true = h .0 in let o : _≡_ {A = ℕ} 0 1 = cc in omega arith),
-  )
+  holds-all t k a x = goes-on t k a (is x) (λ e. let g : _≡_ {A = Answer A} (refused k) (is x) = e in let o : _≡_ {A = ℕ} 0 1 = cc in omega arith)
+
+  -- a reason that says one number more
+  pub holds-with : (t : Bool) (k j n : ℕ) (a : Answer A) → (guard t k a ≡ refused-with j n) ↔ ((t ≡ true) × (a ≡ refused-with j n))
+  holds-with t k j n a =
+      goes-on t k a (refused-with j n) (λ e. let g : _≡_ {A = Answer A} (refused k) (refused-with j n) = e in let o : _≡_ {A = ℕ} 0 1 = cc in omega arith)
 
 -- tests one after the other: what the rest comes to, under the test before it
 pub then-iff : {A T B C : Type 0} → (A ↔ (T × B)) → (B ↔ C) → A ↔ (T × C)

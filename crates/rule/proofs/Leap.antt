@@ -144,6 +144,10 @@ pub mark-at : (n : ℕ) → leapMark (monthAt n) ≡ leap n
 unfolding monthAt
 mark-at n = sym (marked-again (leap n) (monthNumber n) .0)
 
+pub number-at : (n : ℕ) → numberOf (monthAt n) ≡ monthNumber n
+unfolding monthAt
+number-at n = sym (marked-again (leap n) (monthNumber n) .1)
+
 pub month-again : (m : Month) → marked (leapMark m) (numberOf m) ≡ m
 month-again (Ordinary k) = refl
 month-again (Leap k) = refl

@@ -1,12 +1,15 @@
 -- Laws of the lists of specs/Lists: how long `those` is, its values under a map, and an entry of a table.
 -- Assumes nothing.
 use Prim.Native.Nat.{ℕ, zero, suc, _+_, _-_, _≤_, _<_}
-use native.Mathlib.Nat.{add-zero, zero-add, add-suc, add-assoc, le-of-suc-le-suc, not-suc-le-zero}
+use native.Mathlib.Nat.{add-zero, zero-add, add-suc, add-assoc, eq-or-lt-of-le, le-of-suc-le-suc, not-suc-le-zero}
 use native.Mathlib.Omega.{arith}
 use mathlib.Core.Path.{_≡_, refl, ap, sym, _∙_, ap₂}
 use mathlib.Core.Bool.{Bool, true, false, not, _&&_}
 use mathlib.Core.List.{List, [], _∷_, _++_, map, append-nil, append-assoc}
-use lib.ListN.{length, getD, length-append}
+use lib.ListN.{length, getD, length-append, List·getD-append}
+use lib.Seq.{getD-append-seam}
+use mathlib.Core.Logic.{⊎-elim}
+use native.Mathlib.Decide.{decLt}
 use Rattle.rule.specs.Lists.{kept, those, table}
 
 -- a test as a number: 1 where it holds
@@ -123,6 +126,108 @@ head-passes p a (suc k) x xs e = go (those p a k) refl (head-passes p a k)
         let same : y ≡ x = cc in
         let h = ih y ys f in
         (sym (ap p same) ∙ h .0, omega (arith, h .1), omega (arith, h .2))
+
+-- the list by its places: each that passes has one, each place has one that passes, and they rise
+module _ (p : ℕ → Bool) (a : ℕ) where
+  pub has-place : (k i : ℕ) → i < k → p (a + i) ≡ true → (j : ℕ) × (j < length (those p a k)) × (getD (those p a k) j 0 ≡ a + i)
+  unfolding those
+  has-place zero i h e = absurd (not-suc-le-zero h)
+  has-place (suc k) i h e = ⊎-elim last (before (λ l. has-place k i l e)) (eq-or-lt-of-le (le-of-suc-le-suc h))
+    where
+      ks : List ℕ
+      ks = kept (p (a + k)) (a + k)
+
+      before : (i < k → (j : ℕ) × (j < length (those p a k)) × (getD (those p a k) j 0 ≡ a + i)) → i < k → (j : ℕ) × (j < length (those p a k ++ ks)) × (getD (those p a k ++ ks) j 0 ≡ a + i)
+      before ih l =
+          let w = ih l in
+          (w .0, omega (arith, w .1, length-append (those p a k) ks), List·getD-append (those p a k) ks 0 (w .0) (w .1) ∙ w .2)
+
+      last : i ≡ k → (j : ℕ) × (j < length (those p a k ++ ks)) × (getD (those p a k ++ ks) j 0 ≡ a + i)
+      last g =
+          let f : p (a + k) ≡ true = sym (ap (λ (n : ℕ). p (a + n)) g) ∙ e in
+          let q : ks ≡ (a + k) ∷ [] = ap (λ (b : Bool). kept b (a + k)) f in (
+            length (those p a k),
+            omega (arith, length-append (those p a k) ks, ap length q),
+            ap (λ (l : List ℕ). getD (those p a k ++ l) (length (those p a k)) 0) q ∙ getD-append-seam (those p a k) (a + k) [] 0 ∙ ap (λ (n : ℕ). a + n) (sym g),
+          )
+
+  -- what stands at place j
+  pub record AtPlace (k j : ℕ) : Type 0 where
+    pub i : ℕ
+    pub inside : i < k
+    pub here : getD (those p a k) j 0 ≡ a + i
+    pub passes : p (a + i) ≡ true
+
+  pub at-place : (k j : ℕ) → j < length (those p a k) → AtPlace k j
+  unfolding those
+  at-place zero j h = absurd (not-suc-le-zero h)
+  at-place (suc k) j h = go (at-place k j) (p (a + k)) refl (decLt j (length (those p a k)))
+    where
+      ks : List ℕ
+      ks = kept (p (a + k)) (a + k)
+
+      earlier : AtPlace k j → j < length (those p a k) → AtPlace (suc k) j
+      earlier w l =
+          record { i = w .i; inside = omega (arith, w .inside); here = List·getD-append (those p a k) ks 0 j l ∙ w .here; passes = w .passes }
+
+      go : (j < length (those p a k) → AtPlace k j) → (b : Bool) → p (a + k) ≡ b → Dec (j < length (those p a k)) → AtPlace (suc k) j
+      go ih true e (yes l) = earlier (ih l) l
+      go ih false e (yes l) = earlier (ih l) l
+      go ih true e (no g) =
+          let q : ks ≡ (a + k) ∷ [] = ap (λ (c : Bool). kept c (a + k)) e in
+          let f : j ≡ length (those p a k) = omega (arith, length-append (those p a k) ks, ap length q, h) in
+          record {
+            i = k;
+            inside = omega arith;
+            here = ap₂ (λ (l : List ℕ) (n : ℕ). getD (those p a k ++ l) n 0) q f ∙ getD-append-seam (those p a k) (a + k) [] 0;
+            passes = e;
+          }
+      go ih false e (no g) =
+          let q : ks ≡ [] = ap (λ (c : Bool). kept c (a + k)) e in
+          absurd (omega (arith, length-append (those p a k) ks, ap length q, h))
+
+  pub rises : (k i j : ℕ) → i < j → j < length (those p a k) → getD (those p a k) i 0 < getD (those p a k) j 0
+  unfolding those
+  rises zero i j h l = absurd (not-suc-le-zero l)
+  rises (suc k) i j h l = go (rises k i j h) (p (a + k)) refl (decLt j (length (those p a k)))
+    where
+      xs : List ℕ
+      xs = those p a k
+
+      ks : List ℕ
+      ks = kept (p (a + k)) (a + k)
+
+      both : j < length xs → getD xs i 0 < getD xs j 0 → getD (xs ++ ks) i 0 < getD (xs ++ ks) j 0
+      both g ih = omega (arith, ih, List·getD-append xs ks 0 i (omega arith), List·getD-append xs ks 0 j g)
+
+      go : (j < length xs → getD xs i 0 < getD xs j 0) → (b : Bool) → p (a + k) ≡ b → Dec (j < length xs) → getD (xs ++ ks) i 0 < getD (xs ++ ks) j 0
+      go ih true e (yes g) = both g (ih g)
+      go ih false e (yes g) = both g (ih g)
+      go ih true e (no g) =
+          let q : ks ≡ (a + k) ∷ [] = ap (λ (c : Bool). kept c (a + k)) e in
+          let f : j ≡ length xs = omega (arith, length-append xs ks, ap length q, l) in
+          let w = at-place k i (omega arith) in
+          omega (
+            arith,
+            List·getD-append xs ks 0 i (omega arith),
+            w .here,
+            w .inside,
+            ap₂ (λ (m : List ℕ) (n : ℕ). getD (xs ++ m) n 0) q f ∙ getD-append-seam xs (a + k) [] 0,
+          )
+      go ih false e (no g) =
+          let q : ks ≡ [] = ap (λ (c : Bool). kept c (a + k)) e in
+          absurd (omega (arith, length-append xs ks, ap length q, l))
+
+-- where all pass, place i has the i-th
+pub run-at : (a k i : ℕ) → i < k → getD (those (λ n. true) a k) i 0 ≡ a + i
+unfolding those
+run-at a zero i h = absurd (not-suc-le-zero h)
+run-at a (suc k) i h = ⊎-elim last (λ l. List·getD-append (those (λ n. true) a k) ((a + k) ∷ []) 0 i (omega (arith, length-all a k)) ∙ run-at a k i l) (eq-or-lt-of-le (le-of-suc-le-suc h))
+  where
+    last : i ≡ k → getD (those (λ n. true) a k ++ ((a + k) ∷ [])) i 0 ≡ a + i
+    last e =
+        ap (λ (n : ℕ). getD (those (λ m. true) a k ++ ((a + k) ∷ [])) n 0) (e ∙ sym (length-all a k))
+        ∙ getD-append-seam (those (λ n. true) a k) (a + k) [] 0 ∙ ap (λ (n : ℕ). a + n) (sym e)
 
 -- of all counts, those that lie in a window and pass p are those of the window that pass p: w tells the window, k counts from
 -- a on, with l counts after it

@@ -1,5 +1,5 @@
-use Rattle.facts.specs.declared.LeapMonth.the-variants.{With}
 -- `facts::leap_among` meets its contract. The invariant: none of the first i months is leap. Assumes nothing.
+use Rattle.facts.specs.declared.LeapMonth.the-variants.{With}
 use Prim.Native.Nat.{ℕ, _+_, _-_, _≤_}
 use native.Mathlib.Omega.{arith}
 use mathlib.Core.Path.{_≡_, refl, ap, sym, _∙_}

@@ -1,8 +1,8 @@
-use Rattle.rule.proofs.Lists.{bit}
 -- `reading::count_days` meets its contract. The invariant: k of the days passed fit. Assumes nothing.
+use Rattle.rule.proofs.Lists.{bit}
 use Prim.Native.Nat.{ℕ, _-_, _≤_}
 use native.Mathlib.Omega.{arith}
-use mathlib.Core.Path.{_≡_, refl, ap, sym, _∙_}
+use mathlib.Core.Path.{_≡_, ap, sym, _∙_}
 use mathlib.Core.Logic.{⊎-elim}
 use lib.ListN.{length}
 use Rattle.rule.specs.Lists.{those}
@@ -10,9 +10,6 @@ use Rattle.reading.specs.Readings.{dayFits}
 use Rattle.reading.proofs.Runs.{none-yet, counted-more, at-most-all}
 use Rattle.reading.proofs.count_days.Statement.{statement}
 use Rattle.reading.proofs.count_days.Tie as tie
-use Rattle.reading.proofs.count_days.Reads as reads
-use Rattle.reading.proofs.count_days.Lts as lts
-use Rattle.reading.proofs.day_fits.Reads as day-fits-reads
 
 abbrev Inv-loop : tie.InvT-loop
 Inv-loop r start from to k₀ day₀ k day = (from ≤ day) × (day ≤ to) × (k ≡ length (those (dayFits r start) from (day - from)))
@@ -20,31 +17,24 @@ Inv-loop r start from to k₀ day₀ k day = (from ≤ day) × (day ≤ to) × (
 abbrev μ-loop : tie.MeasureT-loop
 μ-loop r start from to k₀ day₀ k day = to - day
 
--- src/lib.rt:117:5
 loop-holds : tie.Need-loop-holds Inv-loop μ-loop
 loop-holds c = (omega arith, omega arith, sym (ap length (none-yet (dayFits (c .args .r) (c .args .start)) (c .args .from))))
 
--- src/lib.rt:118:12
 day-fits-requires : tie.Need-day-fits-requires Inv-loop μ-loop
 day-fits-requires c κs = omega arith
 
--- src/lib.rt:119:13
 add-k : tie.Need-add-k Inv-loop μ-loop
 add-k c = omega (arith, at-most-all (dayFits (c .before .before .before .before .args .r) (c .before .before .before .before .args .start)) (c .before .before .before .before .args .from) (c .before .before .before .loop .day - c .before .before .before .before .args .from))
 
--- src/lib.rt:121:9
 add-day : tie.Need-add-day Inv-loop μ-loop
 add-day c = omega arith
 
--- src/lib.rt:117:5
 loop-less : tie.Need-loop-less Inv-loop μ-loop
 loop-less c = omega arith
 
--- src/lib.rt:117:5
 loop-again : tie.Need-loop-again Inv-loop μ-loop
 loop-again c = ⊎-elim (λ w. (omega arith, omega arith, omega (arith, w .1, counted-more (dayFits (c .before .before .before .before .args .r) (c .before .before .before .before .args .start)) (c .before .before .before .before .args .from) (c .before .before .before .loop .day) (omega arith), ap bit (sym (c .before .day-fits .ensures) ∙ w .0 .taken)))) (λ w. (omega arith, omega arith, omega (arith, w .1, counted-more (dayFits (c .before .before .before .before .args .r) (c .before .before .before .before .args .start)) (c .before .before .before .before .args .from) (c .before .before .before .loop .day) (omega arith), ap bit (sym (c .before .day-fits .ensures) ∙ w .0 .left)))) (c .if1 .came)
 
--- src/lib.rt:111:1
 returns : tie.Need-returns Inv-loop μ-loop
 returns c = c .before .loop .inv .2 ∙ ap (λ (d : ℕ). length (those (dayFits (c .before .before .args .r) (c .before .before .args .start)) (c .before .before .args .from) (d - c .before .before .args .from))) (omega arith)
 

@@ -9,29 +9,19 @@ use Rattle.reading.proofs.Runs.{month-fitting, month-not-fitting, part-
 use borrow.Author.Needs.{needs}
 use Rattle.reading.proofs.count_month.Statement.{statement}
 use Rattle.reading.proofs.count_month.Tie as tie
-use Rattle.reading.proofs.count_month.Reads as reads
-use Rattle.reading.proofs.count_month.Lts as lts
-use Rattle.reading.proofs.count_days.Reads as count-days-reads
-use Rattle.reading.proofs.month_fits.Reads as month-fits-reads
-use Rattle.rule.proofs.month_start.Reads as month-start-reads
 
--- src/lib.rt:131:8
 month-fits-requires : tie.Need-month-fits-requires
 month-fits-requires c κs = search needs
 
--- src/lib.rt:132:30
 month-start-requires : tie.Need-month-start-requires
 month-start-requires c κs = search needs
 
--- src/lib.rt:132:9
 count-days-requires : tie.Need-count-days-requires
 count-days-requires c κs = omega (arith, c .month-start .ensures, c .before .before .before .pre .low, c .before .before .before .pre .some, part-short (c .before .before .before .args .r) (c .before .before .before .args .n) (c .before .before .before .args .from) (c .before .before .before .args .to) (c .before .before .before .pre))
 
--- src/lib.rt:132:9
 returns : tie.Need-returns
 returns c = c .count-days .ensures ∙ ap (λ (s : ℕ). length (those (dayFits (c .before .before .before .before .args .r) s) (c .before .before .before .before .args .from) (c .before .before .before .before .args .to - c .before .before .before .before .args .from))) (c .before .month-start .ensures) ∙ sym (ap length (month-fitting (c .before .before .before .before .args .r) (c .before .before .before .before .args .n) (c .before .before .before .before .args .from) (c .before .before .before .before .args .to) (c .before .before .before .before .pre) (sym (c .before .before .before .month-fits .ensures) ∙ c .before .before .if1 .taken)))
 
--- src/lib.rt:127:1
 returns-2 : tie.Need-returns-2
 returns-2 c = sym (ap length (month-not-fitting (c .before .before .args .r) (c .before .before .args .n) (c .before .before .args .from) (c .before .before .args .to) (c .before .before .pre) (sym (c .before .month-fits .ensures) ∙ c .if1 .left)))
 

@@ -4,14 +4,20 @@ use native.Mathlib.Omega.{arith}
 use mathlib.Core.Path.{_≡_, ap, sym, _∙_}
 use lib.ListN.{length}
 use Rattle.reading.specs.Readings.{fitting}
-use Rattle.reading.proofs.Runs.{Walk, walk-starts, walk-inside, walk-month, walk-goes-on, walk-part, walk-next, none-fitting, at-most-fitting, length-on}
+use Rattle.reading.proofs.Runs.{
+  Walk,
+  walk-starts,
+  walk-inside,
+  walk-month,
+  walk-goes-on,
+  walk-part,
+  walk-next,
+  none-fitting,
+  at-most-fitting,
+  length-on,
+}
 use Rattle.reading.proofs.count_window.Statement.{statement}
 use Rattle.reading.proofs.count_window.Tie as tie
-use Rattle.reading.proofs.count_window.Reads as reads
-use Rattle.reading.proofs.count_window.Lts as lts
-use Rattle.reading.proofs.count_month.Reads as count-month-reads
-use Rattle.reading.proofs.part_end.Reads as part-end-reads
-use Rattle.rule.proofs.month_of_day.Reads as month-of-day-reads
 
 abbrev Inv-loop : tie.InvT-loop
 Inv-loop r first end k₀ day₀ n₀ k day n = Walk first end day n × (k ≡ length (fitting r first (day - first)))
@@ -19,19 +25,15 @@ Inv-loop r first end k₀ day₀ n₀ k day n = Walk first end day n × (k ≡ l
 abbrev μ-loop : tie.MeasureT-loop
 μ-loop r first end k₀ day₀ n₀ k day n = end - day
 
--- src/lib.rt:153:9
 month-of-day-requires : tie.Need-month-of-day-requires Inv-loop μ-loop
 month-of-day-requires c κs = omega arith
 
--- src/lib.rt:154:5
 loop-holds : tie.Need-loop-holds Inv-loop μ-loop
 loop-holds c = (walk-starts (c .before .args .first) (c .before .args .end) (c .month-of-day .result) (c .before .pre .0) (c .month-of-day .ensures), sym (ap length (none-fitting (c .before .args .r) (c .before .args .first))))
 
--- src/lib.rt:155:13
 part-end-requires : tie.Need-part-end-requires Inv-loop μ-loop
 part-end-requires c κs = walk-month (c .before .before .before .args .first) (c .before .before .before .args .end) (c .before .loop .day) (c .before .loop .n) (c .before .before .before .pre .0) (c .before .loop .inv .0) (c .before .before .before .pre .1) (c .loop-test .taken)
 
--- src/lib.rt:156:14
 count-month-requires : tie.Need-count-month-requires Inv-loop μ-loop
 count-month-requires c κs = walk-part (c .before .before .before .before .args .first) (c .before .before .before .before .args .end) (c .before .before .loop .day) (c .before .before .loop .n) (c .before .before .before .before .pre .0) (c .before .before .loop .inv .0) (c .part-end .result) (c .before .loop-test .taken) (c .part-end .ensures) (c .before .before .before .before .pre .1)
 
@@ -48,23 +50,18 @@ whole c =
       c .count-month .ensures,
     )
 
--- src/lib.rt:156:9
 add-k : tie.Need-add-k Inv-loop μ-loop
 add-k c = omega (arith, whole c, at-most-fitting (c .before .before .before .before .before .args .r) (c .before .before .before .before .before .args .first) (c .before .part-end .result - c .before .before .before .before .before .args .first), on c)
 
--- src/lib.rt:158:9
 add-n : tie.Need-add-n Inv-loop μ-loop
 add-n c = omega (arith, walk-month (c .before .before .before .before .before .args .first) (c .before .before .before .before .before .args .end) (c .before .before .before .loop .day) (c .before .before .before .loop .n) (c .before .before .before .before .before .pre .0) (c .before .before .before .loop .inv .0) (c .before .before .before .before .before .pre .1) (c .before .before .loop-test .taken))
 
--- src/lib.rt:154:5
 loop-less : tie.Need-loop-less Inv-loop μ-loop
 loop-less c = omega (arith, on c)
 
--- src/lib.rt:154:5
 loop-again : tie.Need-loop-again Inv-loop μ-loop
 loop-again c = (walk-next (c .before .before .before .before .before .args .first) (c .before .before .before .before .before .args .end) (c .before .before .before .loop .day) (c .before .before .before .loop .n) (c .before .before .before .before .before .pre .0) (c .before .before .before .loop .inv .0) (c .before .part-end .result) (c .before .before .loop-test .taken) (c .before .part-end .ensures), sym (whole c))
 
--- src/lib.rt:147:1
 returns : tie.Need-returns Inv-loop μ-loop
 returns c = c .before .loop .inv .1 ∙ ap (λ (d : ℕ). length (fitting (c .before .before .before .args .r) (c .before .before .before .args .first) (d - c .before .before .before .args .first))) (omega (arith, walk-inside (c .before .before .before .args .first) (c .before .before .before .args .end) (c .before .loop .day) (c .before .loop .n) (c .before .before .before .pre .0) (c .before .loop .inv .0)))
 

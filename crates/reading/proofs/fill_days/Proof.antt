@@ -12,9 +12,6 @@ use Rattle.reading.specs.Readings.{dayFits}
 use Rattle.reading.proofs.Runs.{none-yet, counted-more, counted-before, filled-more, filled-same}
 use Rattle.reading.proofs.fill_days.Statement.{statement}
 use Rattle.reading.proofs.fill_days.Tie as tie
-use Rattle.reading.proofs.fill_days.Reads as reads
-use Rattle.reading.proofs.fill_days.Lts as lts
-use Rattle.reading.proofs.day_fits.Reads as day-fits-reads
 
 abbrev Inv-loop : tie.InvT-loop
 Inv-loop r start from to out₀ at k₀ day₀ out k day =
@@ -27,11 +24,9 @@ Inv-loop r start from to out₀ at k₀ day₀ out k day =
 abbrev μ-loop : tie.MeasureT-loop
 μ-loop r start from to out₀ at k₀ day₀ out k day = to - day
 
--- src/lib.rt:170:5
 loop-holds : tie.Need-loop-holds Inv-loop μ-loop
 loop-holds c = (omega arith, omega arith, omega (arith, ap length (none-yet (dayFits (c .before .args .r) (c .before .args .start)) (c .before .args .from))), refl, sym (ap (sets (c .before .args .out .now) (c .before .args .at)) (none-yet (dayFits (c .before .args .r) (c .before .args .start)) (c .before .args .from))))
 
--- src/lib.rt:171:12
 day-fits-requires : tie.Need-day-fits-requires Inv-loop μ-loop
 day-fits-requires c κs = omega arith
 
@@ -48,35 +43,27 @@ room c =
       counted-before (dayFits (c .before .before .before .before .before .args .r) (c .before .before .before .before .before .args .start)) (c .before .before .before .before .before .args .from) (c .before .before .before .loop .day + 1) (omega arith) (c .before .before .before .before .before .args .to) (omega arith),
     )
 
--- src/lib.rt:172:13
 mul-out : tie.Need-mul-out Inv-loop μ-loop
 mul-out c = omega (arith, room c)
 
--- src/lib.rt:172:13
 slice-write-out : tie.Need-slice-write-out Inv-loop μ-loop
 slice-write-out c = room c
 
--- src/lib.rt:173:13
 add-k : tie.Need-add-k Inv-loop μ-loop
 add-k c = omega (arith, room c)
 
--- src/lib.rt:175:9
 add-day : tie.Need-add-day Inv-loop μ-loop
 add-day c = omega arith
 
--- src/lib.rt:170:5
 loop-less : tie.Need-loop-less Inv-loop μ-loop
 loop-less c = omega arith
 
--- src/lib.rt:170:5
 loop-again : tie.Need-loop-again Inv-loop μ-loop
 loop-again c = ⊎-elim (λ w. (omega arith, omega arith, omega (arith, w .2, counted-more (dayFits (c .before .before .before .before .before .args .r) (c .before .before .before .before .before .args .start)) (c .before .before .before .before .before .args .from) (c .before .before .before .loop .day) (omega arith), ap bit (sym (c .before .day-fits .ensures) ∙ w .0 .taken)), ap length (w .1) ∙ length-set (c .before .before .before .loop .out) (c .before .before .before .loop .k) (c .before .before .before .loop .day) ∙ c .before .before .before .loop .inv .3, w .1 ∙ ap₂ (λ (o : List ℕ) (n : ℕ). set o n (c .before .before .before .loop .day)) (c .before .before .before .loop .inv .4) (c .before .before .before .loop .inv .2) ∙ filled-more (dayFits (c .before .before .before .before .before .args .r) (c .before .before .before .before .before .args .start)) (c .before .before .before .before .before .args .from) (c .before .before .before .loop .day) (omega arith) (c .before .before .before .before .before .args .out .now) (c .before .before .before .before .before .args .at) (sym (c .before .day-fits .ensures) ∙ w .0 .taken))) (λ w. (omega arith, omega arith, omega (arith, w .2, counted-more (dayFits (c .before .before .before .before .before .args .r) (c .before .before .before .before .before .args .start)) (c .before .before .before .before .before .args .from) (c .before .before .before .loop .day) (omega arith), ap bit (sym (c .before .day-fits .ensures) ∙ w .0 .left)), ap length (w .1) ∙ c .before .before .before .loop .inv .3, w .1 ∙ c .before .before .before .loop .inv .4 ∙ filled-same (dayFits (c .before .before .before .before .before .args .r) (c .before .before .before .before .before .args .start)) (c .before .before .before .before .before .args .from) (c .before .before .before .loop .day) (omega arith) (c .before .before .before .before .before .args .out .now) (c .before .before .before .before .before .args .at) (sym (c .before .day-fits .ensures) ∙ w .0 .left))) (c .if1 .came)
 
--- src/lib.rt:164:1
 same-length : tie.Need-same-length Inv-loop μ-loop
 same-length c = c .before .loop .inv .3
 
--- src/lib.rt:164:1
 returns : tie.Need-returns Inv-loop μ-loop
 returns c = (c .before .loop .inv .2 ∙ ap (λ (d : ℕ). c .before .before .before .args .at + length (those (dayFits (c .before .before .before .args .r) (c .before .before .before .args .start)) (c .before .before .before .args .from) (d - c .before .before .before .args .from))) (omega arith), c .before .loop .inv .4 ∙ ap (λ (d : ℕ). sets (c .before .before .before .args .out .now) (c .before .before .before .args .at) (those (dayFits (c .before .before .before .args .r) (c .before .before .before .args .start)) (c .before .before .before .args .from) (d - c .before .before .before .args .from))) (omega arith))
 

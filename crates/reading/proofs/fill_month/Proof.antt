@@ -11,17 +11,10 @@ use Rattle.reading.proofs.Runs.{month-fitting, month-not-fitting, part-
 use borrow.Author.Needs.{needs}
 use Rattle.reading.proofs.fill_month.Statement.{statement}
 use Rattle.reading.proofs.fill_month.Tie as tie
-use Rattle.reading.proofs.fill_month.Reads as reads
-use Rattle.reading.proofs.fill_month.Lts as lts
-use Rattle.reading.proofs.fill_days.Reads as fill-days-reads
-use Rattle.reading.proofs.month_fits.Reads as month-fits-reads
-use Rattle.rule.proofs.month_start.Reads as month-start-reads
 
--- src/lib.rt:185:8
 month-fits-requires : tie.Need-month-fits-requires
 month-fits-requires c κs = search needs
 
--- src/lib.rt:186:29
 month-start-requires : tie.Need-month-start-requires
 month-start-requires c κs = search needs
 
@@ -31,19 +24,15 @@ own-days c =
     ap (λ (s : ℕ). those (dayFits (c .before .before .before .before .args .r) s) (c .before .before .before .before .args .from) (c .before .before .before .before .args .to - c .before .before .before .before .args .from)) (c .month-start .ensures)
     ∙ sym (month-fitting (c .before .before .before .before .args .r) (c .before .before .before .before .args .n) (c .before .before .before .before .args .from) (c .before .before .before .before .args .to) (c .before .before .before .before .pre .0) (sym (c .before .before .month-fits .ensures) ∙ c .before .if1 .taken))
 
--- src/lib.rt:186:9
 fill-days-requires : tie.Need-fill-days-requires
 fill-days-requires c κs = omega (arith, c .before .month-start .ensures, c .before .before .before .before .before .pre .0 .low, c .before .before .before .before .before .pre .0 .some, part-short (c .before .before .before .before .before .args .r) (c .before .before .before .before .before .args .n) (c .before .before .before .before .before .args .from) (c .before .before .before .before .before .args .to) (c .before .before .before .before .before .pre .0), ap length (own-days (c .before)), c .before .before .before .before .before .pre .1)
 
--- src/lib.rt:186:9
 same-length : tie.Need-same-length
 same-length c = search needs
 
--- src/lib.rt:186:9
 returns : tie.Need-returns
 returns c = (c .before .before .fill-days .ensures .0 ∙ ap (λ (l : List ℕ). c .before .before .before .before .before .before .before .before .args .at + length l) (own-days (c .before .before .before .before)), c .before .before .fill-days .ensures .1 ∙ ap (sets (c .before .before .before .before .before .before .before .before .args .out .now) (c .before .before .before .before .before .before .before .before .args .at)) (own-days (c .before .before .before .before)))
 
--- src/lib.rt:181:1
 returns-2 : tie.Need-returns-2
 returns-2 c = (omega (arith, ap length (month-not-fitting (c .before .before .before .args .r) (c .before .before .before .args .n) (c .before .before .before .args .from) (c .before .before .before .args .to) (c .before .before .before .pre .0) (sym (c .before .month-fits .ensures) ∙ c .if1 .left))), sym (ap (sets (c .before .before .before .args .out .now) (c .before .before .before .args .at)) (month-not-fitting (c .before .before .before .args .r) (c .before .before .before .args .n) (c .before .before .before .args .from) (c .before .before .before .args .to) (c .before .before .before .pre .0) (sym (c .before .month-fits .ensures) ∙ c .if1 .left))))
 

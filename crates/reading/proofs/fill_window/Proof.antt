@@ -7,14 +7,22 @@ use mathlib.Core.List.{List}
 use lib.ListN.{length}
 use lib.Seq.{sets, length-sets}
 use Rattle.reading.specs.Readings.{fitting}
-use Rattle.reading.proofs.Runs.{Walk, walk-starts, walk-inside, walk-month, walk-goes-on, walk-part, walk-next, none-fitting, fitting-on, length-on, sets-append, placed-sets}
+use Rattle.reading.proofs.Runs.{
+  Walk,
+  walk-starts,
+  walk-inside,
+  walk-month,
+  walk-goes-on,
+  walk-part,
+  walk-next,
+  none-fitting,
+  fitting-on,
+  length-on,
+  sets-append,
+  placed-sets,
+}
 use Rattle.reading.proofs.fill_window.Statement.{statement}
 use Rattle.reading.proofs.fill_window.Tie as tie
-use Rattle.reading.proofs.fill_window.Reads as reads
-use Rattle.reading.proofs.fill_window.Lts as lts
-use Rattle.reading.proofs.fill_month.Reads as fill-month-reads
-use Rattle.reading.proofs.part_end.Reads as part-end-reads
-use Rattle.rule.proofs.month_of_day.Reads as month-of-day-reads
 
 abbrev Inv-loop : tie.InvT-loop
 Inv-loop r first end out₀ k₀ day₀ n₀ out k day n =
@@ -26,15 +34,12 @@ Inv-loop r first end out₀ k₀ day₀ n₀ out k day n =
 abbrev μ-loop : tie.MeasureT-loop
 μ-loop r first end out₀ k₀ day₀ n₀ out k day n = end - day
 
--- src/lib.rt:198:9
 month-of-day-requires : tie.Need-month-of-day-requires Inv-loop μ-loop
 month-of-day-requires c κs = omega arith
 
--- src/lib.rt:199:5
 loop-holds : tie.Need-loop-holds Inv-loop μ-loop
 loop-holds c = (walk-starts (c .before .before .args .first) (c .before .before .args .end) (c .month-of-day .result) (c .before .before .pre .0) (c .month-of-day .ensures), sym (ap length (none-fitting (c .before .before .args .r) (c .before .before .args .first))), refl, sym (ap (sets (c .before .before .args .out .now) 0) (none-fitting (c .before .before .args .r) (c .before .before .args .first))))
 
--- src/lib.rt:200:13
 part-end-requires : tie.Need-part-end-requires Inv-loop μ-loop
 part-end-requires c κs = walk-month (c .before .before .before .before .args .first) (c .before .before .before .before .args .end) (c .before .loop .day) (c .before .loop .n) (c .before .before .before .before .pre .0) (c .before .loop .inv .0) (c .before .before .before .before .pre .1) (c .loop-test .taken)
 
@@ -45,27 +50,21 @@ on c = walk-goes-on (c .before .before .before .before .before .args .first) (c 
 so-far : (c : tie.After-part-end Inv-loop μ-loop) → length (fitting (c .before .before .before .before .before .args .r) (c .before .before .before .before .before .args .first) (c .part-end .result - c .before .before .before .before .before .args .first)) ≡ length (fitting (c .before .before .before .before .before .args .r) (c .before .before .before .before .before .args .first) (c .before .before .loop .day - c .before .before .before .before .before .args .first)) + length (fitting (c .before .before .before .before .before .args .r) (c .before .before .loop .day) (c .part-end .result - c .before .before .loop .day))
 so-far c = length-on (c .before .before .before .before .before .args .r) (c .before .before .before .before .before .args .first) (c .before .before .loop .day) (c .part-end .result) (walk-inside (c .before .before .before .before .before .args .first) (c .before .before .before .before .before .args .end) (c .before .before .loop .day) (c .before .before .loop .n) (c .before .before .before .before .before .pre .0) (c .before .before .loop .inv .0) .0) (omega (arith, on c))
 
--- src/lib.rt:201:9
 fill-month-requires : tie.Need-fill-month-requires Inv-loop μ-loop
 fill-month-requires c κs = (walk-part (c .before .before .before .before .before .before .args .first) (c .before .before .before .before .before .before .args .end) (c .before .before .before .loop .day) (c .before .before .before .loop .n) (c .before .before .before .before .before .before .pre .0) (c .before .before .before .loop .inv .0) (c .before .part-end .result) (c .before .before .loop-test .taken) (c .before .part-end .ensures) (c .before .before .before .before .before .before .pre .1), omega (arith, so-far (c .before), length-on (c .before .before .before .before .before .before .args .r) (c .before .before .before .before .before .before .args .first) (c .before .part-end .result) (c .before .before .before .before .before .before .args .end) (omega (arith, on (c .before), walk-inside (c .before .before .before .before .before .before .args .first) (c .before .before .before .before .before .before .args .end) (c .before .before .before .loop .day) (c .before .before .before .loop .n) (c .before .before .before .before .before .before .pre .0) (c .before .before .before .loop .inv .0))) (omega (arith, on (c .before))), c .before .before .before .before .before .before .pre .2, c .before .before .before .loop .inv .1, c .before .before .before .loop .inv .2))
 
--- src/lib.rt:203:9
 add-n : tie.Need-add-n Inv-loop μ-loop
 add-n c = omega (arith, walk-month (c .before .before .before .before .before .before .before .before .before .args .first) (c .before .before .before .before .before .before .before .before .before .args .end) (c .before .before .before .before .before .before .loop .day) (c .before .before .before .before .before .before .loop .n) (c .before .before .before .before .before .before .before .before .before .pre .0) (c .before .before .before .before .before .before .loop .inv .0) (c .before .before .before .before .before .before .before .before .before .pre .1) (c .before .before .before .before .before .loop-test .taken))
 
--- src/lib.rt:199:5
 loop-less : tie.Need-loop-less Inv-loop μ-loop
 loop-less c = omega (arith, on (c .before .before .before .before))
 
--- src/lib.rt:199:5
 loop-again : tie.Need-loop-again Inv-loop μ-loop
 loop-again c = (walk-next (c .before .before .before .before .before .before .before .before .before .args .first) (c .before .before .before .before .before .before .before .before .before .args .end) (c .before .before .before .before .before .before .loop .day) (c .before .before .before .before .before .before .loop .n) (c .before .before .before .before .before .before .before .before .before .pre .0) (c .before .before .before .before .before .before .loop .inv .0) (c .before .before .before .before .part-end .result) (c .before .before .before .before .before .loop-test .taken) (c .before .before .before .before .part-end .ensures), omega (arith, so-far (c .before .before .before .before), c .before .before .fill-month .ensures .0, c .before .before .before .before .before .before .loop .inv .1), ap length (c .before .before .fill-month .ensures .1) ∙ length-sets (c .before .before .before .before .before .before .loop .out) (c .before .before .before .before .before .before .loop .k) (fitting (c .before .before .before .before .before .before .before .before .before .args .r) (c .before .before .before .before .before .before .loop .day) (c .before .before .before .before .part-end .result - c .before .before .before .before .before .before .loop .day)) ∙ c .before .before .before .before .before .before .loop .inv .2, c .before .before .fill-month .ensures .1 ∙ ap₂ (λ (o : List ℕ) (n : ℕ). sets o n (fitting (c .before .before .before .before .before .before .before .before .before .args .r) (c .before .before .before .before .before .before .loop .day) (c .before .before .before .before .part-end .result - c .before .before .before .before .before .before .loop .day))) (c .before .before .before .before .before .before .loop .inv .3) (c .before .before .before .before .before .before .loop .inv .1 ∙ sym (zero-add (length (fitting (c .before .before .before .before .before .before .before .before .before .args .r) (c .before .before .before .before .before .before .before .before .before .args .first) (c .before .before .before .before .before .before .loop .day - c .before .before .before .before .before .before .before .before .before .args .first))))) ∙ sym (sets-append (fitting (c .before .before .before .before .before .before .before .before .before .args .r) (c .before .before .before .before .before .before .before .before .before .args .first) (c .before .before .before .before .before .before .loop .day - c .before .before .before .before .before .before .before .before .before .args .first)) (fitting (c .before .before .before .before .before .before .before .before .before .args .r) (c .before .before .before .before .before .before .loop .day) (c .before .before .before .before .part-end .result - c .before .before .before .before .before .before .loop .day)) (c .before .before .before .before .before .before .before .before .before .args .out .now) 0) ∙ sym (ap (sets (c .before .before .before .before .before .before .before .before .before .args .out .now) 0) (fitting-on (c .before .before .before .before .before .before .before .before .before .args .r) (c .before .before .before .before .before .before .before .before .before .args .first) (c .before .before .before .before .before .before .loop .day) (c .before .before .before .before .part-end .result) (walk-inside (c .before .before .before .before .before .before .before .before .before .args .first) (c .before .before .before .before .before .before .before .before .before .args .end) (c .before .before .before .before .before .before .loop .day) (c .before .before .before .before .before .before .loop .n) (c .before .before .before .before .before .before .before .before .before .pre .0) (c .before .before .before .before .before .before .loop .inv .0) .0) (omega (arith, on (c .before .before .before .before))))))
 
--- src/lib.rt:192:1
 same-length : tie.Need-same-length Inv-loop μ-loop
 same-length c = c .before .loop .inv .2
 
--- src/lib.rt:192:1
 returns : tie.Need-returns Inv-loop μ-loop
 returns c = c .before .loop .inv .3 ∙ ap (λ (d : ℕ). sets (c .before .before .before .before .args .out .now) 0 (fitting (c .before .before .before .before .args .r) (c .before .before .before .before .args .first) (d - c .before .before .before .before .args .first))) (omega (arith, walk-inside (c .before .before .before .before .args .first) (c .before .before .before .before .args .end) (c .before .loop .day) (c .before .loop .n) (c .before .before .before .before .pre .0) (c .before .loop .inv .0))) ∙ placed-sets (fitting (c .before .before .before .before .args .r) (c .before .before .before .before .args .first) (c .before .before .before .before .args .end - c .before .before .before .before .args .first)) (c .before .before .before .before .args .out .now) (c .before .before .before .before .pre .2)
 
