@@ -22,6 +22,9 @@ WORDS = {
     6: "day count outside the range",
     7: "month count outside the range",
     8: "a move ends outside the range",
+    12: "a lent list or buffer too short for the whole answer",
+    13: "window's last day before its first, or more than 27,759 days",
+    14: "a known field of a reading outside its range",
     15: "term above 23 or quarter above 3",
 }
 
@@ -170,6 +173,52 @@ class Desk:
         return f"TERM {y} {k}:" + answer
 
 
+    def six(self, day):
+        """A day's six values, in the paper's order."""
+        n = self.c.month_of(day)
+        y, k, l, m, _, dn, yn = self.date_fields(day)
+        return (yn, k, 2 if l else 1, m, dn, name(self.c.starts[n], 1))
+
+    def search_line(self, reading, first, last):
+        """A search into a list of four sevens; None is unread."""
+        listed = [7, 7, 7, 7]
+        if not (0 <= first < DAYS and 0 <= last < DAYS):
+            answer = refusal(6)
+        elif last < first or last - first + 1 > 27759:
+            answer = refusal(13)
+        elif any(f is not None and not 1 <= f <= most for f, most in zip(reading, (60, 12, 2, 30, 60, 60))):
+            answer = refusal(14)
+        else:
+            fitting = [d for d in range(first, last + 1) if all(f is None or f == v for f, v in zip(reading, self.six(d)))]
+            if len(fitting) > len(listed):
+                answer = refusal(12) + f", TOTAL {len(fitting)}"
+            else:
+                answer = f" FOUND {len(fitting)}"
+                listed = fitting + listed[len(fitting):]
+        fields = " ".join("?" if f is None else str(f) for f in reading)
+        return f"SEARCH {fields} {first} {last}:{answer}; LIST " + " ".join(map(str, listed))
+
+
+def searches(desk):
+    unread = (None,) * 6
+
+    def only(place, value):
+        return tuple(value if i == place else None for i in range(6))
+
+    out = [desk.search_line(unread, f, l) for f, l in ((14989860, 14989860), (14989859, 14989860), (14989859, 14989859), (5, 4), (5, 5), (0, 27758), (0, 27759), (4294967295, 0))]
+    out += [desk.search_line(only(i, 0), 0, 3) for i in range(6)]
+    out += [desk.search_line(only(i, k), 0, 3) for i, k in enumerate((61, 13, 3, 31, 61, 273))]
+    out.append(desk.search_line((60, 12, 2, 30, 60, 60), 0, 3))
+    out += [desk.search_line(only(0, 61), f, l) for f, l in ((14989860, 0), (5, 4), (0, 9))]
+    out += [desk.search_line(unread, 0, 4), desk.search_line(unread, 0, 3), desk.search_line(only(3, 1), 0, 27758)]
+    return out
+
+
+def searches_kept(desk):
+    out = [desk.search_line((27, 9, 2, 1, None, 58), 0, 27758), desk.search_line((None, 10, 2, 30, 60, None), 14962101, 14989859)]
+    return out + [desk.search_line((27, 5, 1, m, None, None), 3600, 3900) for m in (1, 15, 30)]
+
+
 def tray(desk):
     least, most = -(2**63), 2**63 - 1
     out = ["THE REJECT TRAY"]
@@ -204,10 +253,12 @@ def tray(desk):
     out += [desk.month_line(n) for n in (0, 507599, 507600, 4294967295)]
     out += [desk.quarter_line(n, q) for n, q in ((0, 0), (507599, 3), (507600, 0), (507600, 4), (0, 4), (0, 256))]
     out += [desk.term_line(y, k) for y, k in ((1, 0), (41040, 23), (0, 0), (41041, 24), (1, 24), (1, 256))]
+    out += searches(desk)
     out.append("WHAT MUST NOT BE REJECTED")
     out += [desk.day_line(14989859), desk.date_line(*last)]
     out += [desk.move_line(*first, 0), desk.move_line(*first, 14989859), desk.move_line(*last, -14989859)]
     out += [desk.move_line(9366, 11, False, 1, -3420558), desk.move_line(9366, 11, False, 1, 11569301)]
+    out += searches_kept(desk)
     pairs = 0
     for n in range(940):
         if desk.c.length(n) == 30 and desk.c.length(n + 1) == 30:

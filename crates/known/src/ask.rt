@@ -7,6 +7,8 @@ use facts::QuarterTold;
 use facts::SolsticeYearTold;
 use facts::TermTold;
 use facts::YearTold;
+use reading::Found;
+use reading::Reading;
 
 // Year, month, day of month.
 fn fields(d: Date) {
@@ -252,4 +254,26 @@ pub fn solstice(y: u32) {
         TermTold::Is(day) => named(day),
         TermTold::Refused(why) => show::reason(why),
     }
+}
+
+// A search of one month's days or fewer, with what it lists.
+pub fn search(r: Reading, first: u32, last: u32) {
+    let mut list = [0u32; 1];
+    show::text(b"reading");
+    show::reading(r);
+    show::text(b" in days");
+    show::next(first);
+    show::text(b" to");
+    show::next(last);
+    show::text(b":");
+    match reading::search(r, first, last, &mut list) {
+        Found::Is(n) => {
+            show::next(n);
+            show::text(b" found, day");
+            show::numbers(&list);
+        }
+        Found::TooShort(n) => show::next(n),
+        Found::Refused(why) => show::reason(why),
+    }
+    show::text(b"\n");
 }

@@ -1,4 +1,7 @@
 // The paper's known dates, asked of the calls and printed with what was asked and answered. What it must write is the paper's.
+use reading::Field;
+use reading::Reading;
+
 mod ask;
 
 fn cases_1_to_3() {
@@ -55,9 +58,45 @@ fn cases_10_and_11() {
     ask::moved(1, 11, false, 1, 27759);
 }
 
+// The dates of cases 1, 3, 5 and 11 as readings, each in the month that the paper puts them in: the day is found.
+fn readings() {
+    show::text(b"readings of 1, 3, 5 and 11\n");
+    ask::search(read(17, 11, 1, 1, 1, 1), 0, 28);
+    ask::search(read(0, 10, 2, 30, 60, 0), 14989830, 14989859);
+    ask::search(read(22, 11, 1, 1, 19, 19), 3420558, 3420586);
+    ask::search(read(0, 11, 1, 1, 40, 40), 27759, 27787);
+}
+
+fn field(k: u32) -> Field {
+    if k == 0 {
+        Field::Unread
+    } else {
+        Field::Known(k)
+    }
+}
+
+// A reading of six numbers, nought standing for unread.
+fn read(year: u32, number: u32, mark: u32, day: u32, name: u32, first: u32) -> Reading {
+    let f1 = field(year);
+    let f2 = field(number);
+    let f3 = field(mark);
+    let f4 = field(day);
+    let f5 = field(name);
+    let f6 = field(first);
+    Reading {
+        year_name: f1,
+        month_number: f2,
+        leap_mark: f3,
+        day_of_month: f4,
+        day_name: f5,
+        first_name: f6,
+    }
+}
+
 fn main() {
     cases_1_to_3();
     cases_4_to_6();
     cases_7_to_9();
     cases_10_and_11();
+    readings();
 }

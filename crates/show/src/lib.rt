@@ -4,6 +4,8 @@ use dates::Dated;
 use dates::DayFound;
 use facts::LeapMonth;
 use moves::Way;
+use reading::Field;
+use reading::Reading;
 use rule::Month;
 use rule::Reason;
 
@@ -116,5 +118,38 @@ pub fn leap_month(l: LeapMonth) {
             next(k as u32);
             next(n);
         }
+    }
+}
+
+// A field of a reading: its number, or `?`.
+pub fn field(f: Field) {
+    match f {
+        Field::Known(k) => next(k),
+        Field::Unread => text(b" ?"),
+    }
+}
+
+// A reading, in the paper's order.
+pub fn reading(r: Reading) {
+    let f1 = r.year_name;
+    let f2 = r.month_number;
+    let f3 = r.leap_mark;
+    let f4 = r.day_of_month;
+    let f5 = r.day_name;
+    let f6 = r.first_name;
+    field(f1);
+    field(f2);
+    field(f3);
+    field(f4);
+    field(f5);
+    field(f6);
+}
+
+// Every number of a list.
+pub fn numbers(list: &[u32]) {
+    let mut i = 0;
+    while i < list.len() {
+        next(list[i]);
+        i += 1;
     }
 }

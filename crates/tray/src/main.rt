@@ -3,6 +3,7 @@
 
 mod ask;
 mod pairs;
+mod readings;
 
 // Day to date: reason 6.
 fn days() {
@@ -139,7 +140,12 @@ fn main() {
     months();
     quarters();
     terms();
+    readings::windows();
+    readings::low_fields();
+    readings::high_fields();
+    readings::order();
     show::text(b"WHAT MUST NOT BE REJECTED\n");
     kept();
+    readings::kept();
     pairs::seconds_of_two_big();
 }
