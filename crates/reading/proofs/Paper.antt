@@ -12,7 +12,7 @@ use lib.Seq.{getD-drop}
 use Rattle.rule.specs.declared.Reason.{Reason}
 use borrow.Author.Tests.{eqb-true, eq-eqb, leb-true, leb-false, le-leb, lt-leb}
 use Rattle.rule.specs.Counts.{DayInRange, dayName, yearName}
-use Rattle.rule.specs.Lists.{those}
+use Rattle.rule.specs.Lists.{those, placed}
 use Rattle.rule.specs.Rule.{monthStart, monthOfDay, yearOfMonth, leap, monthNumber}
 use Rattle.rule.specs.Reasons.{Answer, is, refused, refused-with, guard}
 use Rattle.rule.proofs.Leap as Leaps
@@ -51,7 +51,7 @@ use Rattle.reading.specs.Readings.{
   windowHolds,
   fitting,
 }
-use Rattle.reading.specs.Search.{placed, total, withRoom, searchAt, saidFound, listAfter, Searched}
+use Rattle.reading.specs.Search.{total, withRoom, searchAt, saidFound, listAfter, Searched}
 use Rattle.reading.specs.Paper as Paper
 use Rattle.reading.specs.Paper.{
   sixOf,

@@ -8,13 +8,12 @@ use mathlib.Core.List.{List, [], _∷_, _++_, append-nil}
 use lib.ListN.{length, drop, set, length-append}
 use lib.Seq.{sets, sets-eq}
 use Rattle.rule.specs.Counts.{MonthInRange}
-use Rattle.rule.specs.Lists.{kept, those}
+use Rattle.rule.specs.Lists.{kept, those, placed}
 use Rattle.rule.specs.Rule.{monthStart, monthOfDay}
 use Rattle.rule.proofs.Lists.{bit, complement, length-kept, those-same, none-pass, empty, from-to, one-more}
 use Rattle.rule.proofs.Months.{of-day-only, of-day-low, of-day-high, start-least, start-most, start-inside}
 use Rattle.reading.specs.declared.Reading.{Reading}
 use Rattle.reading.specs.Readings.{monthFits, dayFits, fits, PartOfMonth, fitting}
-use Rattle.reading.specs.Search.{placed}
 
 -- stores one after the other
 pub sets-append : (xs ys l : List ℕ) (i : ℕ) → sets l i (xs ++ ys) ≡ sets (sets l i xs) (i + length xs) ys

@@ -7,6 +7,7 @@ use mathlib.Core.Bool.{true}
 use mathlib.Core.List.{List}
 use lib.ListN.{length, getD, drop}
 use Rattle.rule.specs.Counts.{DayInRange, dayName}
+use Rattle.rule.specs.Lists.{placed}
 use Rattle.rule.specs.Rule.{monthStart, monthLength, InMonth, monthOfDay, numberOf, leapMark}
 use Rattle.rule.specs.Reasons.{is, refused, refused-with}
 use Rattle.rule.specs.declared.Reason.{Reason}
@@ -17,7 +18,7 @@ use Rattle.reading.specs.declared.Reading.{Reading}
 use Rattle.reading.specs.declared.Found.{Found}
 use Rattle.reading.specs.declared.Found.the-variants.{Is, TooShort, Refused}
 use Rattle.reading.specs.Readings.{markNumber, fits, windowDays, fitting}
-use Rattle.reading.specs.Search.{placed, total, searchAt, Searched}
+use Rattle.reading.specs.Search.{total, searchAt, Searched}
 
 -- the six values of a day, in the paper's order: what its date has, and the name of its month's first day
 pub record Six : Type 0 where

@@ -2,18 +2,15 @@
 use Prim.Native.Nat.{ℕ}
 use mathlib.Core.Path.{_≡_}
 use mathlib.Core.Bool.{Bool, true, false, _&&_}
-use mathlib.Core.List.{List, _++_}
+use mathlib.Core.List.{List}
 use lib.Dec.{leb}
-use lib.ListN.{length, drop}
+use lib.ListN.{length}
+use Rattle.rule.specs.Lists.{placed}
 use Rattle.rule.specs.Reasons.{Answer, is, refused, refused-with, guard, reasonNumber}
 use Rattle.reading.specs.declared.Reading.{Reading}
 use Rattle.reading.specs.declared.Found.{Found}
 use Rattle.reading.specs.declared.Found.the-variants.{Is, TooShort, Refused}
 use Rattle.reading.specs.Readings.{inRanges, windowDays, windowHolds, fitting}
-
--- what was filled, at the front of what was lent; "the rest of the list is untouched"
-abbrev pub placed : List ℕ → List ℕ → List ℕ
-placed xs old = xs ++ drop (length xs) old
 
 -- the total is the number of fitting days
 unfoldable pub total : Reading → ℕ → ℕ → ℕ

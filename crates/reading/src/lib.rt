@@ -4,10 +4,10 @@ ghost use Prim.Native.Nat.{_+_, _-_, _≤_, _<_, min};
 ghost use lib.ListN.{length};
 ghost use lib.Seq.{sets};
 ghost use Rattle.rule.specs.Counts.{DayInRange, MonthInRange};
-ghost use Rattle.rule.specs.Lists.{those};
+ghost use Rattle.rule.specs.Lists.{those, placed};
 ghost use Rattle.rule.specs.Rule.{monthStart};
 ghost use Rattle.reading.specs.Readings.{markNumber, fieldFits, fieldInRange, inRanges, monthFits, dayFits, PartOfMonth, windowHolds, fitting};
-ghost use Rattle.reading.specs.Search.{placed, Searched};
+ghost use Rattle.reading.specs.Search.{Searched};
 use rule::Reason;
 
 // One of the six things that may be read on a slip: a number, or unread.
