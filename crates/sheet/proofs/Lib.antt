@@ -1,0 +1,6 @@
+pub mod Numbers
+pub mod Reading
+pub mod Filling
+pub mod Writing
+pub mod Parts
+pub mod Sheets
