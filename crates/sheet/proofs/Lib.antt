@@ -4,3 +4,4 @@ pub mod Filling
 pub mod Writing
 pub mod Parts
 pub mod Sheets
+pub mod Paper
