@@ -4,4 +4,5 @@ pub mod Filling
 pub mod Writing
 pub mod Parts
 pub mod Sheets
+pub mod RoundTrip
 pub mod Paper

@@ -89,23 +89,38 @@ pub record SheetLies (s : List ℕ) : Type 0 where
   pub days : SectionLies dayItems (daysPart s)
   pub after : length (leftAfter dayItems (daysPart s)) ≤ 0
 
-pub sheet-lies : {A : Type 0} (s : List ℕ) (x y : A) → sheetRead s (is x) ≡ is y → SheetLies s × (x ≡ y)
+-- each section of a good sheet is good
+pub record EachRead {A : Type 0} (s : List ℕ) (x : A) : Type 0 where
+  pub z₁ : A
+  pub z₂ : A
+  pub z₃ : A
+  pub years : sectionRead yearItems s (is x) ≡ is z₁
+  pub months : sectionRead monthItems (monthsPart s) (is x) ≡ is z₂
+  pub days : sectionRead dayItems (daysPart s) (is x) ≡ is z₃
+  pub after : length (leftAfter dayItems (daysPart s)) ≤ 0
+
+pub each-read : {A : Type 0} (s : List ℕ) (x y : A) → sheetRead s (is x) ≡ is y → EachRead s x × (x ≡ y)
 unfolding sheetRead monthsRead daysRead
-sheet-lies {A} s x y h =
+each-read {A} s x y h =
     let t : List ℕ = leftAfter yearItems s in
     let u : List ℕ = leftAfter monthItems (leftAfter yearItems s) in
     let a = both (sectionRead yearItems s (is x)) _ y (sym (section-then yearItems s x (monthsRead (leftAfter yearItems s) (is x))) ∙ h) in
     let b = both (sectionRead monthItems t (is x)) _ y (sym (section-then monthItems t x (daysRead u (is x))) ∙ a .2) in
     let e = both (sectionRead dayItems u (is x)) _ y (sym (section-then dayItems u x (guard (leb (length (leftAfter dayItems u)) 0) 11 (is x))) ∙ b .2) in
     let f = holds-all (leb (length (leftAfter dayItems u)) 0) 11 (is x) y .0 (e .2) in
-    let g : _≡_ {A = Answer A} (is x) (is y) = f .1 in (
+    let g : _≡_ {A = Answer A} (is x) (is y) = f .1 in
+    (record { z₁ = a .0; z₂ = b .0; z₃ = e .0; years = a .1; months = b .1; days = e .1; after = leb-true (length (leftAfter dayItems u)) 0 (f .0) }, cc)
+
+pub sheet-lies : {A : Type 0} (s : List ℕ) (x y : A) → sheetRead s (is x) ≡ is y → SheetLies s × (x ≡ y)
+sheet-lies s x y h =
+    let a = each-read s x y h in (
       record {
-        years = section-lies yearItems s x (a .0) (a .1) .0;
-        months = section-lies monthItems t x (b .0) (b .1) .0;
-        days = section-lies dayItems u x (e .0) (e .1) .0;
-        after = leb-true (length (leftAfter dayItems u)) 0 (f .0);
+        years = section-lies yearItems s x (a .0 .z₁) (a .0 .years) .0;
+        months = section-lies monthItems (monthsPart s) x (a .0 .z₂) (a .0 .months) .0;
+        days = section-lies dayItems (daysPart s) x (a .0 .z₃) (a .0 .days) .0;
+        after = a .0 .after;
       },
-      cc,
+      a .1,
     )
 
 pub length-numbers : (w n : ℕ) (s : List ℕ) → length (numbers w n s) ≡ n
@@ -194,19 +209,37 @@ lists-then {A} {B} l x b =
     ∙ ap (λ (c : Answer A). andThen c (λ y. b)) (sym (list-then monthItems (l .months) x (sectionWritten dayItems (l .days) (is x)))))
     ∙ ap (λ (c : Answer A). andThen c (λ y. b)) (sym (list-then yearItems (l .years) x (sectionWritten monthItems (l .months) (sectionWritten dayItems (l .days) (is x)))))
 
--- three lists that are good are not too long
+-- each of three good lists is good, and not too long
+pub record EachWritten {A : Type 0} (l : Lists) (x : A) : Type 0 where
+  pub z₁ : A
+  pub z₂ : A
+  pub z₃ : A
+  pub years : sectionWritten yearItems (l .years) (is x) ≡ is z₁
+  pub months : sectionWritten monthItems (l .months) (is x) ≡ is z₂
+  pub days : sectionWritten dayItems (l .days) (is x) ≡ is z₃
+
+pub each-written : {A : Type 0} (l : Lists) (x y : A) → listsWritten l (is x) ≡ is y → EachWritten l x × (x ≡ y)
+unfolding listsWritten
+each-written {A} l x y h =
+    let a = both (sectionWritten yearItems (l .years) (is x)) _ y (sym (list-then yearItems (l .years) x (sectionWritten monthItems (l .months) (sectionWritten dayItems (l .days) (is x)))) ∙ h) in
+    let b = both (sectionWritten monthItems (l .months) (is x)) _ y (sym (list-then monthItems (l .months) x (sectionWritten dayItems (l .days) (is x))) ∙ a .2) in
+    (record { z₁ = a .0; z₂ = b .0; z₃ = y; years = a .1; months = b .1; days = b .2 }, list-few dayItems (l .days) x y (b .2) .1)
+
 pub record ListsFew (l : Lists) : Type 0 where
   pub years : length (l .years) ≤ 1000
   pub months : length (l .months) ≤ 1000
   pub days : length (l .days) ≤ 1000
 
 pub lists-few : {A : Type 0} (l : Lists) (x y : A) → listsWritten l (is x) ≡ is y → ListsFew l × (x ≡ y)
-unfolding listsWritten
-lists-few {A} l x y h =
-    let a = both (sectionWritten yearItems (l .years) (is x)) _ y (sym (list-then yearItems (l .years) x (sectionWritten monthItems (l .months) (sectionWritten dayItems (l .days) (is x)))) ∙ h) in
-    let b = both (sectionWritten monthItems (l .months) (is x)) _ y (sym (list-then monthItems (l .months) x (sectionWritten dayItems (l .days) (is x))) ∙ a .2) in
-    let d = list-few dayItems (l .days) x y (b .2) in
-    (record { years = list-few yearItems (l .years) x (a .0) (a .1) .0; months = list-few monthItems (l .months) x (b .0) (b .1) .0; days = d .0 }, d .1)
+lists-few l x y h =
+    let a = each-written l x y h in (
+      record {
+        years = list-few yearItems (l .years) x (a .0 .z₁) (a .0 .years) .0;
+        months = list-few monthItems (l .months) x (a .0 .z₂) (a .0 .months) .0;
+        days = list-few dayItems (l .days) x (a .0 .z₃) (a .0 .days) .0;
+      },
+      a .1,
+    )
 
 module _ (y m d o : List ℕ) where
   abbrev the-lists : Lists
