@@ -5,4 +5,5 @@ pub mod Writing
 pub mod Parts
 pub mod Sheets
 pub mod RoundTrip
+pub mod Ends
 pub mod Paper
