@@ -6,4 +6,5 @@ pub mod Parts
 pub mod Sheets
 pub mod RoundTrip
 pub mod Ends
+pub mod Faults
 pub mod Paper

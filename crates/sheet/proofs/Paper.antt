@@ -56,6 +56,7 @@ use Rattle.sheet.specs.Promises.{saidCounts, saidHowMany, counted, count
 use Rattle.sheet.specs.Paper as Paper
 use Rattle.sheet.proofs.Filling.{length-sheet}
 use Rattle.sheet.proofs.Ends.{section-part, section-more}
+use Rattle.sheet.proofs.Faults.{sheet-fault, sheet-given, sheet-decided, lists-fault, lists-given, lists-decided, reason-iff, given-iff}
 use Rattle.sheet.proofs.RoundTrip.{bytes-drop, Fit, section-back, section-again}
 use Rattle.sheet.proofs.Sheets.{sheet-lies, sheet-then, lists-then, counted-lists, EachRead, each-read, EachWritten, each-written}
 use Rattle.sheet.specs.Paper.{AreBytes, emptySheet, sheetOf11, sheetOf11and12}
@@ -366,4 +367,18 @@ calls-there-and-back y m d o o′ y₀ m₀ d₀ y′ m′ d′ n r p q hy hm hd
       years = q .years ∙ ap (λ (c : Answer Lists). afterwards c (λ k. k .years) y₀) g;
       months = q .months ∙ ap (λ (c : Answer Lists). afterwards c (λ k. k .months) m₀) g;
       days = q .days ∙ ap (λ (c : Answer Lists). afterwards c (λ k. k .days) d₀) g;
+    }
+
+pub reasons-of-reading : Paper.Reasons-of-reading
+reasons-of-reading s y m d =
+    record {
+      reason = reason-iff (readInto s y m d) (listsIn s) (sheet-fault s y m d) (sheet-given s y m d) (sheet-decided s y m d);
+      given = given-iff (readInto s y m d) (listsIn s) (sheet-fault s y m d) (sheet-given s y m d) (sheet-decided s y m d);
+    }
+
+pub reasons-of-writing : Paper.Reasons-of-writing
+reasons-of-writing l n =
+    record {
+      reason = reason-iff (writeInto l n) (sheetOf l) (lists-fault l n) (lists-given l n) (lists-decided l n);
+      given = given-iff (writeInto l n) (sheetOf l) (lists-fault l n) (lists-given l n) (lists-decided l n);
     }

@@ -122,9 +122,9 @@ pub record GoodSections (s : List ℕ) : Type 0 where
 
 -- one of three lent lists of y, m and d places is too short
 pub data TooShort (s : List ℕ) (y m d : ℕ) : Type 0 where
-  years : y < countOf s → TooShort s y m d
-  months : m < countOf (monthsPart s) → TooShort s y m d
-  days : d < countOf (daysPart s) → TooShort s y m d
+  short-years : y < countOf s → TooShort s y m d
+  short-months : m < countOf (monthsPart s) → TooShort s y m d
+  short-days : d < countOf (daysPart s) → TooShort s y m d
 
 -- the first fault of a sheet in byte order, and its reason; then "bytes after the last section"; then "a lent list too short"
 pub data SheetFault (s : List ℕ) (y m d r : ℕ) : Type 0 where
@@ -158,7 +158,7 @@ pub record GoodList (k : Section) (xs : List ℕ) : Type 0 where
 
 pub data ListFault (k : Section) (xs : List ℕ) (r : ℕ) : Type 0 where
   list-long : k .items < length xs → r ≡ 10 → ListFault k xs r
-  item-outside :
+  value-outside :
       length xs ≤ k .items → (j : ℕ) → j < length xs → ((i : ℕ) → i < j → InSection k (getD xs i 0)) →
       (InSection k (getD xs j 0) → ⊥) → r ≡ reasonNumber (k .reason) → ListFault k xs r
 
@@ -168,9 +168,9 @@ pub record GoodLists (l : Lists) : Type 0 where
   pub days : GoodList dayItems (l .days)
 
 pub data ListsFault (l : Lists) (n r : ℕ) : Type 0 where
-  in-years : ListFault yearItems (l .years) r → ListsFault l n r
-  in-months : GoodList yearItems (l .years) → ListFault monthItems (l .months) r → ListsFault l n r
-  in-days :
+  of-years : ListFault yearItems (l .years) r → ListsFault l n r
+  of-months : GoodList yearItems (l .years) → ListFault monthItems (l .months) r → ListsFault l n r
+  of-days :
       GoodList yearItems (l .years) → GoodList monthItems (l .months) → ListFault dayItems (l .days) r → ListsFault l n r
   buffer-short : GoodLists l → n < length (sheetOf l) → r ≡ 12 → ListsFault l n r
 
