@@ -1,0 +1,196 @@
+-- Laws of a run of stores: numbers read into a list from the front, and bytes laid into a buffer. Assumes nothing.
+use Prim.Native.Nat.{ℕ, zero, suc, _+_, _-_, _*_, _/_, _%_, _≤_, _<_}
+use native.Mathlib.Nat.{suc-add, add-suc, add-zero, mul-zero, mul-suc, mul-le-mul-left}
+use native.Mathlib.Numerals.{add-one}
+use native.Mathlib.Omega.{arith}
+use mathlib.Core.Path.{_≡_, refl, ap, sym, _∙_}
+use mathlib.Core.List.{List, [], _∷_, _++_}
+use lib.ListN.{length, getD, take, drop, set, length-append, length-set, length-drop, drop-of-length-le}
+use lib.Seq.{sets, sets-eq, length-sets, drop-cons}
+use Rattle.sheet.proofs.Reading.{part-all}
+use Rattle.sheet.specs.Sheet.{
+  number,
+  numbers,
+  lay,
+  layAll,
+  placed,
+  yearItems,
+  monthItems,
+  dayItems,
+  laySection,
+  Lists,
+  sheetOf,
+}
+use Rattle.sheet.specs.declared.Section.{Section}
+
+-- one run after the other
+pub sets-append : (l : List ℕ) (i : ℕ) (xs ys : List ℕ) → sets l i (xs ++ ys) ≡ sets (sets l i xs) (i + length xs) ys
+sets-append l i [] ys = ap (λ (j : ℕ). sets l j ys) (sym (add-zero i))
+sets-append l i (x ∷ xs) ys =
+    sets-append (set l i x) (suc i) xs ys
+    ∙ ap (λ (j : ℕ). sets (sets (set l i x) (suc i) xs) j ys) (suc-add i (length xs) ∙ sym (add-suc i (length xs)))
+
+-- a run from the front, with room for it
+pub from-front : (xs old : List ℕ) → length xs ≤ length old → sets old 0 xs ≡ placed xs old
+from-front xs old h = let e : 0 + length xs ≡ length xs = omega arith in sets-eq xs old 0 (omega arith) ∙ ap (λ (j : ℕ). xs ++ drop j old) e
+
+-- the next of m numbers of w bytes, stored at i
+module _ (w m j : ℕ) (e : m ≡ suc j) (t out : List ℕ) (i : ℕ) where
+  pub store-next : sets (set out i (number w t)) (i + 1) (numbers w j (drop w t)) ≡ sets out i (numbers w m t)
+  unfolding numbers
+  store-next = rw (e, add-one i)
+
+pub store-none : (w m : ℕ) → m ≡ 0 → (t out : List ℕ) (i : ℕ) → sets out i (numbers w m t) ≡ out
+unfolding numbers
+store-none w m e t out i = rw (e)
+
+-- a loop that lays the w bytes of a number at a place: before the first, the next, and after the last
+pub lay-start : (at w x : ℕ) (out : List ℕ) → sets out (at + 0) (lay (w - 0) x) ≡ sets out at (lay w x)
+lay-start at w x out =
+    let e : at + 0 ≡ at = omega arith in
+    let f : w - 0 ≡ w = omega arith in
+    rw (e, f)
+
+pub lay-turn : (at i w x : ℕ) (out : List ℕ) → i < w → sets (set out (at + i) (x % 256)) (at + (i + 1)) (lay (w - (i + 1)) (x / 256)) ≡ sets out (at + i) (lay (w - i) x)
+unfolding lay
+lay-turn at i w x out h =
+    let e : w - i ≡ suc (w - (i + 1)) = omega arith in
+    let f : at + (i + 1) ≡ suc (at + i) = omega arith in
+    rw (e, f)
+
+pub lay-end : (p i w x : ℕ) (out : List ℕ) → w ≤ i → sets out p (lay (w - i) x) ≡ out
+unfolding lay
+lay-end p i w x out h = let e : w - i ≡ 0 = omega arith in rw (e)
+
+pub length-lay : (w x : ℕ) → length (lay w x) ≡ w
+unfolding lay
+length-lay zero x = refl
+length-lay (suc w) x = ap suc (length-lay w (x / 256))
+
+pub length-layAll : (w : ℕ) (xs : List ℕ) → length (layAll w xs) ≡ w * length xs
+unfolding layAll
+length-layAll w [] = omega arith
+length-layAll w (x ∷ xs) = length-append (lay w x) (layAll w xs) ∙ omega (arith, length-lay w x, length-layAll w xs, mul-suc w (length xs))
+
+-- the next item, laid at p
+module _ (w : ℕ) (xs : List ℕ) (i : ℕ) (h : i < length xs) (out : List ℕ) (p : ℕ) where
+  pub lay-item : sets (sets out p (lay w (getD xs i 0))) (p + w) (layAll w (drop (i + 1) xs)) ≡ sets out p (layAll w (drop i xs))
+  unfolding layAll
+  lay-item =
+      rw (drop-cons xs i 0 h, add-one i)
+      (ap (λ (j : ℕ). sets (sets out p (lay w (getD xs i 0))) j (layAll w (drop (suc i) xs))) (ap (λ (j : ℕ). p + j) (sym (length-lay w (getD xs i 0))))
+      ∙ sym (sets-append out p (lay w (getD xs i 0)) (layAll w (drop (suc i) xs))))
+
+pub lay-no-item : (w : ℕ) (xs : List ℕ) (i : ℕ) → length xs ≤ i → (out : List ℕ) (p : ℕ) → sets out p (layAll w (drop i xs)) ≡ out
+unfolding layAll
+lay-no-item w xs i h out p = rw (drop-of-length-le xs h)
+
+-- a loop that stores the n numbers of w bytes in s: i are stored, t is what is left
+pub record Storing (w : ℕ) (s old : List ℕ) (n : ℕ) (out t : List ℕ) (i : ℕ) : Type 0 where
+  pub within : i ≤ n
+  pub whole : w * (n - i) ≤ length t
+  pub same : length out ≡ length old
+  pub rest : sets out i (numbers w (n - i) t) ≡ sets old 0 (numbers w n s)
+
+module _ (w : ℕ) (s old : List ℕ) (n : ℕ) where
+  pub storing-none : (t : List ℕ) → t ≡ s → w * n ≤ length s → Storing w s old n old t 0
+  storing-none t f h =
+      let e : n - 0 ≡ n = omega arith in
+      record { within = omega arith; whole = rw (e, f) h; same = refl; rest = rw (e, f) }
+
+  module _ (out t : List ℕ) (i : ℕ) (a : Storing w s old n out t i) where
+    pub storing-item : i < n → w ≤ length t
+    storing-item l =
+        let e : n - i ≡ suc (n - (i + 1)) = omega arith in
+        let f : w * (n - i) ≡ w * (n - (i + 1)) + w = ap (λ (m : ℕ). w * m) e ∙ mul-suc w (n - (i + 1)) in
+        omega (arith, a .whole)
+
+    pub storing-next : i < n → (x : ℕ) → x ≡ number w t → Storing w s old n (set out i x) (take (length t - w) (drop w t)) (i + 1)
+    storing-next l x h =
+        let e : n - i ≡ suc (n - (i + 1)) = omega arith in
+        let f : w * (n - i) ≡ w * (n - (i + 1)) + w = ap (λ (m : ℕ). w * m) e ∙ mul-suc w (n - (i + 1)) in
+        record {
+          within = omega arith;
+          whole = rw (part-all w t) (omega (arith, length-drop w t, a .whole));
+          same = length-set out i x ∙ a .same;
+          rest = rw (part-all w t, h) (store-next w (n - i) (n - (i + 1)) e t out i) ∙ a .rest;
+        }
+
+    pub storing-done : n ≤ i → out ≡ sets old 0 (numbers w n s)
+    storing-done l = sym (store-none w (n - i) (omega arith) t out i) ∙ a .rest
+
+-- a loop that lays the items xs at a place: i are laid
+pub record Laying (w : ℕ) (xs old : List ℕ) (at : ℕ) (out : List ℕ) (i : ℕ) : Type 0 where
+  pub within : i ≤ length xs
+  pub same : length out ≡ length old
+  pub rest : sets out (at + w * i) (layAll w (drop i xs)) ≡ sets old at (layAll w xs)
+
+module _ (w : ℕ) (xs old : List ℕ) (at : ℕ) where
+  pub laying-none : Laying w xs old at old 0
+  laying-none =
+      let e : at + w * 0 ≡ at = omega (arith, mul-zero w) in
+      record { within = omega arith; same = refl; rest = ap (λ (p : ℕ). sets old p (layAll w xs)) e }
+
+  module _ (out : List ℕ) (i : ℕ) (a : Laying w xs old at out i) where
+    pub laying-fits : i < length xs → at + w * length xs ≤ length old → at + w * i + w ≤ length out
+    laying-fits l h =
+        let e : suc (length xs - 1) ≡ length xs = omega arith in
+        let f : w * (i + 1) ≤ w * length xs = mul-le-mul-left w (omega arith) in
+        omega (arith, a .same, mul-suc w i, ap (λ (m : ℕ). w * m) (add-one i))
+
+    pub laying-next : i < length xs → (out′ : List ℕ) → out′ ≡ sets out (at + w * i) (lay w (getD xs i 0)) → Laying w xs old at out′ (i + 1)
+    laying-next l out′ h =
+        let e : at + w * i + w ≡ at + w * (i + 1) = omega (arith, mul-suc w i, ap (λ (m : ℕ). w * m) (add-one i)) in
+        record {
+          within = omega arith;
+          same = ap length h ∙ length-sets out (at + w * i) (lay w (getD xs i 0)) ∙ a .same;
+          rest = rw (h, ← e) (lay-item w xs i l out (at + w * i)) ∙ a .rest;
+        }
+
+    pub laying-done : length xs ≤ i → out ≡ sets old at (layAll w xs)
+    laying-done l = sym (lay-no-item w xs i l out (at + w * i)) ∙ a .rest
+
+-- a section laid at a place, and a sheet laid from the front
+pub length-section : (k : Section) (xs : List ℕ) → length (laySection k xs) ≡ 2 + k .width * length xs
+unfolding laySection
+length-section k xs = length-append (lay 2 (length xs)) (layAll (k .width) xs) ∙ omega (arith, length-lay 2 (length xs), length-layAll (k .width) xs)
+
+pub laid-section : (k : Section) (xs o o₁ o₂ : List ℕ) (p q : ℕ) → q ≡ p + 2 → o₁ ≡ sets o p (lay 2 (length xs)) → o₂ ≡ sets o₁ q (layAll (k .width) xs) → o₂ ≡ sets o p (laySection k xs)
+unfolding laySection
+laid-section k xs o o₁ o₂ p q e h₁ h₂ =
+    let f : p + length (lay 2 (length xs)) ≡ q = omega (arith, length-lay 2 (length xs)) in
+    h₂
+    ∙ ap (λ (l : List ℕ). sets l q (layAll (k .width) xs)) h₁
+    ∙ ap (λ (j : ℕ). sets (sets o p (lay 2 (length xs))) j (layAll (k .width) xs)) (sym f)
+    ∙ sym (sets-append o p (lay 2 (length xs)) (layAll (k .width) xs))
+
+module _ (l : Lists) (o o₁ o₂ o₃ : List ℕ) (m d : ℕ) where
+  pub laid-sheet : m ≡ 2 + 2 * length (l .years) → d ≡ m + (2 + 4 * length (l .months)) →
+      o₁ ≡ sets o 0 (laySection yearItems (l .years)) → o₂ ≡ sets o₁ m (laySection monthItems (l .months)) → o₃ ≡ sets o₂ d (laySection dayItems (l .days)) →
+      o₃ ≡ sets o 0 (sheetOf l)
+  unfolding sheetOf
+  laid-sheet em ed h₁ h₂ h₃ =
+      let y : List ℕ = laySection yearItems (l .years) in
+      let n : List ℕ = laySection monthItems (l .months) in
+      let e : 0 + length y ≡ m = omega (arith, length-section yearItems (l .years)) in
+      let f : m + length n ≡ d = omega (arith, length-section monthItems (l .months)) in
+      let w : List ℕ = laySection dayItems (l .days) in
+      let z : sets o 0 (y ++ (n ++ w)) ≡ sets (sets (sets o 0 y) m n) d w =
+      sets-append o 0 y (n ++ w)
+      ∙ ap (λ (j : ℕ). sets (sets o 0 y) j (n ++ w)) e
+      ∙ sets-append (sets o 0 y) m n w
+      ∙ ap (λ (j : ℕ). sets (sets (sets o 0 y) m n) j w) f
+      in
+      h₃ ∙ ap (λ (k : List ℕ). sets k d w) (h₂ ∙ ap (λ (k : List ℕ). sets k m n) h₁) ∙ sym z
+
+pub length-sheet : (l : Lists) → length (sheetOf l) ≡ 6 + 2 * length (l .years) + 4 * length (l .months) + 4 * length (l .days)
+unfolding sheetOf
+length-sheet l =
+    omega (
+      arith,
+      length-append (laySection yearItems (l .years)) (laySection monthItems (l .months) ++ laySection dayItems (l .days)),
+      length-append (laySection monthItems (l .months)) (laySection dayItems (l .days)),
+      length-section yearItems (l .years),
+      length-section monthItems (l .months),
+      length-section dayItems (l .days),
+    )

@@ -1,0 +1,10 @@
+pub mod Numbers
+pub mod Reading
+pub mod Filling
+pub mod Writing
+pub mod Parts
+pub mod Sheets
+pub mod RoundTrip
+pub mod Ends
+pub mod Faults
+pub mod Paper

@@ -1,0 +1,46 @@
+-- Laws of numbers in bytes, over the width. Assumes nothing.
+use Prim.Native.Nat.{ℕ, zero, suc, _+_, _-_, _*_, _^_, _≤_, _<_}
+use native.Mathlib.Nat.{pow-suc, add-zero}
+use native.Mathlib.Omega.{arith}
+use mathlib.Core.Path.{_≡_, ap}
+use mathlib.Core.List.{List}
+use lib.ListN.{getD, drop}
+use lib.Seq.{getD-drop, drop-drop}
+use Rattle.sheet.specs.Sheet.{number}
+
+-- one byte more in front
+pub number-more : (w i : ℕ) (s : List ℕ) → number (suc w) (drop i s) ≡ getD s i 0 + 256 * number w (drop (i + 1) s)
+unfolding number
+number-more w i s = rw (getD-drop i s 0 0, drop-drop 1 i s, add-zero i)
+
+-- up to three bytes
+pub up-to-three : (n : ℕ) → n ≤ 3 → 256 ^ n ≤ 16777216
+up-to-three zero h = omega arith
+up-to-three (suc zero) h = omega arith
+up-to-three (suc (suc zero)) h = omega arith
+up-to-three (suc (suc (suc zero))) h = omega arith
+up-to-three (suc (suc (suc (suc n)))) h = absurd (omega arith)
+
+-- the byte before the number's own: what a turn of the loop adds
+module _ (w i x : ℕ) (s : List ℕ) (l : 0 < i) (h : i ≤ w) (b : getD s (i - 1) 0 < 256) where
+  one-less : w - (i - 1) ≡ suc (w - i)
+  one-less = omega arith
+
+  pub turn : x ≡ number (w - i) (drop i s) → x * 256 + getD s (i - 1) 0 ≡ number (w - (i - 1)) (drop (i - 1) s)
+  turn e =
+      let g : i - 1 + 1 ≡ i = omega arith in
+      let f : drop (i - 1 + 1) s ≡ drop i s = ap (λ (j : ℕ). drop j s) g in
+      rw (one-less, number-more (w - i) (i - 1) s, f, e) (omega arith)
+
+  pub turn-low : x < 256 ^ (w - i) → x * 256 + getD s (i - 1) 0 < 256 ^ (w - (i - 1))
+  turn-low e = rw (one-less, pow-suc 256 (w - i)) (omega arith)
+
+-- before the first byte, and after the last
+pub none-read : (w : ℕ) (s : List ℕ) → (0 ≡ number (w - w) (drop w s)) × (0 < 256 ^ (w - w))
+unfolding number
+none-read w s = let e : w - w ≡ 0 = omega arith in (rw (e), rw (e) (omega arith))
+
+pub all-read : (w i x : ℕ) (s : List ℕ) → i ≤ 0 → x ≡ number (w - i) (drop i s) → x < 256 ^ (w - i) → (x ≡ number w s) × (x < 256 ^ w)
+all-read w i x s h p q =
+    let e : i ≡ 0 = omega arith in
+    let f : w - i ≡ w = omega arith in (rw (f, e) at p, rw (f) at q)

@@ -1,0 +1,58 @@
+-- `sheet::number_in` meets its contract. The invariant: x is the number in the bytes from i on. Assumes nothing.
+use Prim.Native.Nat.{_-_, _^_, _≤_, _<_}
+use native.Mathlib.Omega.{arith}
+use mathlib.Core.Path.{_≡_}
+use lib.ListN.{drop}
+use Rattle.sheet.specs.Sheet.{number}
+use Rattle.sheet.proofs.Numbers.{up-to-three, turn, turn-low, none-read, all-read}
+use Rattle.sheet.proofs.number_in.Statement.{statement}
+use Rattle.sheet.proofs.number_in.Tie as tie
+
+abbrev Inv-loop : tie.InvT-loop
+Inv-loop s width x₀ i₀ x i = (i ≤ width) × (x ≡ number (width - i) (drop i s)) × (x < 256 ^ (width - i))
+
+abbrev μ-loop : tie.MeasureT-loop
+μ-loop s width x₀ i₀ x i = i
+
+loop-holds : tie.Need-loop-holds Inv-loop μ-loop
+loop-holds c = (omega arith, none-read (c .args .width) (c .args .s .now) .0, none-read (c .args .width) (c .args .s .now) .1)
+
+sub-i : tie.Need-sub-i Inv-loop μ-loop
+sub-i c = omega arith
+
+mul-x : tie.Need-mul-x Inv-loop μ-loop
+mul-x c = omega (arith, up-to-three (c .before .before .args .width - c .before .loop .i) (omega arith))
+
+shared-slice-read-x : tie.Need-shared-slice-read-x Inv-loop μ-loop
+shared-slice-read-x c = omega arith
+
+cast-x : tie.Need-cast-x Inv-loop μ-loop
+cast-x c = omega (arith, c .shared-slice-known .given (c .before .before .loop .i - 1))
+
+add-x : tie.Need-add-x Inv-loop μ-loop
+add-x c = omega (arith, c .shared-slice-known .given (c .before .before .loop .i - 1), up-to-three (c .before .before .before .args .width - c .before .before .loop .i) (omega arith))
+
+loop-less : tie.Need-loop-less Inv-loop μ-loop
+loop-less c = omega arith
+
+loop-again : tie.Need-loop-again Inv-loop μ-loop
+loop-again c = (omega arith, turn (c .before .before .before .args .width) (c .before .before .loop .i) (c .before .before .loop .x) (c .before .before .before .args .s .now) (omega arith) (omega arith) (omega (arith, c .shared-slice-known .given (c .before .before .loop .i - 1))) (c .before .before .loop .inv .1), turn-low (c .before .before .before .args .width) (c .before .before .loop .i) (c .before .before .loop .x) (c .before .before .before .args .s .now) (omega arith) (omega arith) (omega (arith, c .shared-slice-known .given (c .before .before .loop .i - 1))) (c .before .before .loop .inv .2))
+
+returns : tie.Need-returns Inv-loop μ-loop
+returns c = all-read (c .before .before .args .width) (c .before .loop .i) (c .before .loop .x) (c .before .before .args .s .now) (c .loop-test .left) (c .before .loop .inv .1) (c .before .loop .inv .2)
+
+pub number-in-spec : {M : Type 1} → statement M
+number-in-spec =
+    tie.close
+    (tie.spec
+    Inv-loop
+    μ-loop
+    loop-holds
+    sub-i
+    mul-x
+    shared-slice-read-x
+    cast-x
+    add-x
+    loop-less
+    loop-again
+    returns)

@@ -1,0 +1,4 @@
+pub mod Sheet
+pub mod Promises
+pub mod Steps
+pub mod Paper
