@@ -22,6 +22,9 @@ WORDS = {
     6: "day count outside the range",
     7: "month count outside the range",
     8: "a move ends outside the range",
+    9: "sheet ends before a count or an item is whole",
+    10: "a count above 1,000",
+    11: "bytes after the last section",
     12: "a lent list or buffer too short for the whole answer",
     13: "window's last day before its first, or more than 27,759 days",
     14: "a known field of a reading outside its range",
@@ -199,6 +202,103 @@ class Desk:
         return f"SEARCH {fields} {first} {last}:{answer}; LIST " + " ".join(map(str, listed))
 
 
+def take_number(data, at, width):
+    """The number of so many bytes at a place, least byte first; None where they are not all there."""
+    if at + width > len(data):
+        return None
+    return sum(data[at + i] << (8 * i) for i in range(width))
+
+
+SECTIONS = ((2, 1, YEARS, 1), (4, 0, MONTHS - 1, 7), (4, 0, DAYS - 1, 6))
+
+
+def read_sheet(data, rooms):
+    """The three lists, or the reason's number: in byte order, then 11, then 12."""
+    at, lists = 0, []
+    for width, least, most, reason in SECTIONS:
+        count = take_number(data, at, 2)
+        if count is None:
+            return 9
+        if count > 1000:
+            return 10
+        at += 2
+        items = []
+        for _ in range(count):
+            item = take_number(data, at, width)
+            if item is None:
+                return 9
+            if not least <= item <= most:
+                return reason
+            items.append(item)
+            at += width
+        lists.append(items)
+    if at < len(data):
+        return 11
+    if any(len(items) > room for items, room in zip(lists, rooms)):
+        return 12
+    return lists
+
+
+def write_sheet(lists, room):
+    """The bytes, or the reason's number."""
+    out = b""
+    for items, (width, least, most, reason) in zip(lists, SECTIONS):
+        if len(items) > 1000:
+            return 10
+        for item in items:
+            if not least <= item <= most:
+                return reason
+        out += len(items).to_bytes(2, "little") + b"".join(item.to_bytes(width, "little") for item in items)
+    return 12 if len(out) > room else out
+
+
+def spaced(numbers):
+    return "".join(f" {n}" for n in numbers)
+
+
+def read_line(data):
+    answer, lists = read_sheet(data, (2, 2, 2)), [[7, 7], [7, 7], [7, 7]]
+    if isinstance(answer, int):
+        text = refusal(answer)
+    else:
+        text = " COUNTS" + spaced(len(items) for items in answer)
+        lists = [items + old[len(items):] for items, old in zip(answer, lists)]
+    return f"SHEET{spaced(data)}:{text}; LISTS" + ",".join(spaced(items) for items in lists)
+
+
+def write_line(years, months, days):
+    answer, buffer = write_sheet((years, months, days), 20), [7] * 20
+    if isinstance(answer, int):
+        text = refusal(answer)
+    else:
+        text = f" BYTES {len(answer)}"
+        buffer = list(answer) + buffer[len(answer):]
+    return f"WRITE{spaced(years)},{spaced(months)},{spaced(days)}:{text}; BUFFER{spaced(buffer)}"
+
+
+def sheets():
+    out = [read_line([0] * n) for n in (0, 1, 5, 6)]
+    out += [read_line(d) for d in ([1, 0, 11], [0, 0, 1, 0, 134, 0, 0], [0, 0, 0, 0, 1, 0, 0, 0, 0])]
+    out += [read_line([232, 3]), read_line([233, 3])]
+    out += [read_line([1, 0, *y.to_bytes(2, "little"), 0, 0, 0, 0]) for y in (0, 41040, 41041)]
+    out += [read_line([0, 0, 1, 0, *n.to_bytes(4, "little"), 0, 0]) for n in (507599, 507600)]
+    out += [read_line([0, 0, 0, 0, 1, 0, *d.to_bytes(4, "little")]) for d in (14989859, 14989860)]
+    out += [read_line([0] * 7), read_line([2, 0, 11, 0, 12, 0, 0, 0, 0, 0])]
+    three = [3, 0, 11, 0, 12, 0, 13, 0, 0, 0, 0, 0]
+    out += [read_line(three), read_line(three + [0]), read_line([3, 0, 11, 0, 0, 0, 13, 0, 0, 0, 0, 0, 0]), read_line([0, 0, 0, 0, 233, 3, 0])]
+    out += [write_line(*lists) for lists in (
+        ([11], [134], [3957]),
+        ([0], [], []),
+        ([41041], [507600], []),
+        ([41040], [507600], [14989860]),
+        ([41040], [507599], [14989860]),
+        ([41040], [507599], [14989859]),
+        (list(range(11, 18)), [], []),
+        (list(range(11, 19)), [], []),
+    )]
+    return out
+
+
 def searches(desk):
     unread = (None,) * 6
 
@@ -254,11 +354,17 @@ def tray(desk):
     out += [desk.quarter_line(n, q) for n, q in ((0, 0), (507599, 3), (507600, 0), (507600, 4), (0, 4), (0, 256))]
     out += [desk.term_line(y, k) for y, k in ((1, 0), (41040, 23), (0, 0), (41041, 24), (1, 24), (1, 256))]
     out += searches(desk)
+    out += sheets()
+    out.append("WRITE 1001 YEARS:" + refusal(write_sheet(([11] * 1001, [], []), 2)))
     out.append("WHAT MUST NOT BE REJECTED")
     out += [desk.day_line(14989859), desk.date_line(*last)]
     out += [desk.move_line(*first, 0), desk.move_line(*first, 14989859), desk.move_line(*last, -14989859)]
     out += [desk.move_line(9366, 11, False, 1, -3420558), desk.move_line(9366, 11, False, 1, 11569301)]
     out += searches_kept(desk)
+    full = write_sheet(([41040] * 1000, [507599] * 1000, [14989859] * 1000), 10006)
+    back = read_sheet(list(full), (1000, 1000, 1000))
+    out.append(f"WRITE 1000 OF EACH: {len(full)}")
+    out.append("READ IT BACK:" + spaced(len(items) for items in back) + "; LAST" + spaced(items[999] for items in back))
     pairs = 0
     for n in range(940):
         if desk.c.length(n) == 30 and desk.c.length(n + 1) == 30:

@@ -9,6 +9,7 @@ use facts::TermTold;
 use facts::YearTold;
 use reading::Found;
 use reading::Reading;
+use sheet::SheetCounts;
 
 // Year, month, day of month.
 fn fields(d: Date) {
@@ -274,6 +275,26 @@ pub fn search(r: Reading, first: u32, last: u32) {
         }
         Found::TooShort(n) => show::next(n),
         Found::Refused(why) => show::reason(why),
+    }
+    show::text(b"\n");
+}
+
+// A sheet of up to one item a section: its three counts.
+pub fn sheet(data: &[u8]) {
+    let mut years = [0u16; 1];
+    let mut months = [0u32; 1];
+    let mut days = [0u32; 1];
+    show::text(b"sheet");
+    show::bytes(data);
+    show::text(b":");
+    match sheet::read_sheet(data, &mut years, &mut months, &mut days) {
+        SheetCounts::Is(c) => {
+            show::text(b" counts");
+            show::count(c.years);
+            show::count(c.months);
+            show::count(c.days);
+        }
+        SheetCounts::Refused(why) => show::reason(why),
     }
     show::text(b"\n");
 }

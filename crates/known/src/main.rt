@@ -58,6 +58,13 @@ fn cases_10_and_11() {
     ask::moved(1, 11, false, 1, 27759);
 }
 
+// The empty sheet, and the paper's sheet of the year 11 alone.
+fn case_12() {
+    show::text(b"12\n");
+    ask::sheet(&[0u8; 6]);
+    ask::sheet(&[1u8, 0, 11, 0, 0, 0, 0, 0]);
+}
+
 // The dates of cases 1, 3, 5 and 11 as readings, each in the month that the paper puts them in: the day is found.
 fn readings() {
     show::text(b"readings of 1, 3, 5 and 11\n");
@@ -98,5 +105,6 @@ fn main() {
     cases_4_to_6();
     cases_7_to_9();
     cases_10_and_11();
+    case_12();
     readings();
 }

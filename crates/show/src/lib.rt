@@ -153,3 +153,34 @@ pub fn numbers(list: &[u32]) {
         i += 1;
     }
 }
+
+// The same of bytes, and of years.
+pub fn bytes(list: &[u8]) {
+    let mut i = 0;
+    while i < list.len() {
+        next(wide(list[i]));
+        i += 1;
+    }
+}
+
+fn wide(x: u8) -> u32 {
+    x as u32
+}
+
+pub fn shorts(list: &[u16]) {
+    let mut i = 0;
+    while i < list.len() {
+        next(wider(list[i]));
+        i += 1;
+    }
+}
+
+fn wider(x: u16) -> u32 {
+    x as u32
+}
+
+// A space, and a count.
+pub fn count(n: usize) {
+    text(b" ");
+    decimal(n as u64);
+}

@@ -4,6 +4,7 @@
 mod ask;
 mod pairs;
 mod readings;
+mod sheets;
 
 // Day to date: reason 6.
 fn days() {
@@ -144,8 +145,14 @@ fn main() {
     readings::low_fields();
     readings::high_fields();
     readings::order();
+    sheets::cut();
+    sheets::ranges();
+    sheets::ends();
+    sheets::written();
+    sheets::too_many();
     show::text(b"WHAT MUST NOT BE REJECTED\n");
     kept();
     readings::kept();
+    sheets::full();
     pairs::seconds_of_two_big();
 }
