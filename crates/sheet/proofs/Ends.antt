@@ -1,5 +1,5 @@
 -- Laws of a sheet with bytes added at its end, and with bytes cut off, over any section. Assumes nothing.
-use Prim.Native.Nat.{ℕ, zero, suc, _+_, _-_, _*_, _≤_, _<_}
+use Prim.Native.Nat.{ℕ, zero, suc, _+_, _*_, _≤_}
 use native.Mathlib.Nat.{mul-suc, mul-zero}
 use native.Mathlib.Omega.{arith}
 use mathlib.Core.Path.{_≡_, refl, ap, sym, _∙_}
@@ -7,14 +7,22 @@ use mathlib.Core.Logic.{_⊎_, inl, inr, ⊎-elim}
 use mathlib.Core.Bool.{Bool, true, false}
 use mathlib.Core.List.{List, [], _∷_, _++_}
 use lib.Dec.{leb}
-use lib.ListN.{length, getD, drop, length-append, length-drop}
-use lib.Seq.{drop-append-le, drop-drop}
-use borrow.Author.Tests.{leb-true, leb-false, le-leb, lt-leb}
-use Rattle.rule.specs.Reasons.{Answer, is, refused, refused-with, guard, andThen, reasonNumber}
+use lib.ListN.{length, drop, length-append, length-drop}
+use lib.Seq.{drop-append-le}
+use borrow.Author.Tests.{leb-true, le-leb}
+use Rattle.rule.specs.Reasons.{Answer, is, refused, refused-with, andThen, reasonNumber}
 use Rattle.rule.proofs.Answers.{holds-all}
 use Rattle.sheet.specs.declared.Section.{Section}
 use Rattle.sheet.specs.Sheet.{number, itemHolds, itemsRead, countOf, countRead, sectionRead, leftAfter}
-use Rattle.sheet.proofs.Reading.{count-is, count-cut, count-good, section-counted, section-refused, SectionLies, section-lies}
+use Rattle.sheet.proofs.Reading.{
+  count-is,
+  count-cut,
+  count-good,
+  section-counted,
+  section-refused,
+  SectionLies,
+  section-lies,
+}
 
 -- a number does not look past its bytes
 pub number-append : (w : ℕ) (p q : List ℕ) → w ≤ length p → number w (p ++ q) ≡ number w p

@@ -8,19 +8,8 @@ use mathlib.Core.List.{List, [], _∷_, _++_}
 use lib.ListN.{length, getD, take, drop, set, length-append, length-set, length-drop, drop-of-length-le}
 use lib.Seq.{sets, sets-eq, length-sets, drop-cons}
 use Rattle.sheet.proofs.Reading.{part-all}
-use Rattle.sheet.specs.Sheet.{
-  number,
-  numbers,
-  lay,
-  layAll,
-  placed,
-  yearItems,
-  monthItems,
-  dayItems,
-  laySection,
-  Lists,
-  sheetOf,
-}
+use Rattle.rule.specs.Lists.{placed}
+use Rattle.sheet.specs.Sheet.{number, numbers, lay, layAll, yearItems, monthItems, dayItems, laySection, Lists, sheetOf}
 use Rattle.sheet.specs.declared.Section.{Section}
 
 -- one run after the other
@@ -98,26 +87,26 @@ module _ (w : ℕ) (s old : List ℕ) (n : ℕ) where
       let e : n - 0 ≡ n = omega arith in
       record { within = omega arith; whole = rw (e, f) h; same = refl; rest = rw (e, f) }
 
-  module _ (out t : List ℕ) (i : ℕ) (a : Storing w s old n out t i) where
-    pub storing-item : i < n → w ≤ length t
-    storing-item l =
-        let e : n - i ≡ suc (n - (i + 1)) = omega arith in
-        let f : w * (n - i) ≡ w * (n - (i + 1)) + w = ap (λ (m : ℕ). w * m) e ∙ mul-suc w (n - (i + 1)) in
-        omega (arith, a .whole)
+module _ {w : ℕ} {s old : List ℕ} {n : ℕ} {out t : List ℕ} {i : ℕ} (a : Storing w s old n out t i) where
+  pub storing-item : i < n → w ≤ length t
+  storing-item l =
+      let e : n - i ≡ suc (n - (i + 1)) = omega arith in
+      let f : w * (n - i) ≡ w * (n - (i + 1)) + w = ap (λ (m : ℕ). w * m) e ∙ mul-suc w (n - (i + 1)) in
+      omega (arith, a .whole)
 
-    pub storing-next : i < n → (x : ℕ) → x ≡ number w t → Storing w s old n (set out i x) (take (length t - w) (drop w t)) (i + 1)
-    storing-next l x h =
-        let e : n - i ≡ suc (n - (i + 1)) = omega arith in
-        let f : w * (n - i) ≡ w * (n - (i + 1)) + w = ap (λ (m : ℕ). w * m) e ∙ mul-suc w (n - (i + 1)) in
-        record {
-          within = omega arith;
-          whole = rw (part-all w t) (omega (arith, length-drop w t, a .whole));
-          same = length-set out i x ∙ a .same;
-          rest = rw (part-all w t, h) (store-next w (n - i) (n - (i + 1)) e t out i) ∙ a .rest;
-        }
+  pub storing-next : i < n → (x : ℕ) → x ≡ number w t → Storing w s old n (set out i x) (take (length t - w) (drop w t)) (i + 1)
+  storing-next l x h =
+      let e : n - i ≡ suc (n - (i + 1)) = omega arith in
+      let f : w * (n - i) ≡ w * (n - (i + 1)) + w = ap (λ (m : ℕ). w * m) e ∙ mul-suc w (n - (i + 1)) in
+      record {
+        within = omega arith;
+        whole = rw (part-all w t) (omega (arith, length-drop w t, a .whole));
+        same = length-set out i x ∙ a .same;
+        rest = rw (part-all w t, h) (store-next w (n - i) (n - (i + 1)) e t out i) ∙ a .rest;
+      }
 
-    pub storing-done : n ≤ i → out ≡ sets old 0 (numbers w n s)
-    storing-done l = sym (store-none w (n - i) (omega arith) t out i) ∙ a .rest
+  pub storing-done : n ≤ i → out ≡ sets old 0 (numbers w n s)
+  storing-done l = sym (store-none w (n - i) (omega arith) t out i) ∙ a .rest
 
 -- a loop that lays the items xs at a place: i are laid
 pub record Laying (w : ℕ) (xs old : List ℕ) (at : ℕ) (out : List ℕ) (i : ℕ) : Type 0 where
@@ -131,24 +120,24 @@ module _ (w : ℕ) (xs old : List ℕ) (at : ℕ) where
       let e : at + w * 0 ≡ at = omega (arith, mul-zero w) in
       record { within = omega arith; same = refl; rest = ap (λ (p : ℕ). sets old p (layAll w xs)) e }
 
-  module _ (out : List ℕ) (i : ℕ) (a : Laying w xs old at out i) where
-    pub laying-fits : i < length xs → at + w * length xs ≤ length old → at + w * i + w ≤ length out
-    laying-fits l h =
-        let e : suc (length xs - 1) ≡ length xs = omega arith in
-        let f : w * (i + 1) ≤ w * length xs = mul-le-mul-left w (omega arith) in
-        omega (arith, a .same, mul-suc w i, ap (λ (m : ℕ). w * m) (add-one i))
+module _ {w : ℕ} {xs old : List ℕ} {at : ℕ} {out : List ℕ} {i : ℕ} (a : Laying w xs old at out i) where
+  pub laying-fits : i < length xs → at + w * length xs ≤ length old → at + w * i + w ≤ length out
+  laying-fits l h =
+      let e : suc (length xs - 1) ≡ length xs = omega arith in
+      let f : w * (i + 1) ≤ w * length xs = mul-le-mul-left w (omega arith) in
+      omega (arith, a .same, mul-suc w i, ap (λ (m : ℕ). w * m) (add-one i))
 
-    pub laying-next : i < length xs → (out′ : List ℕ) → out′ ≡ sets out (at + w * i) (lay w (getD xs i 0)) → Laying w xs old at out′ (i + 1)
-    laying-next l out′ h =
-        let e : at + w * i + w ≡ at + w * (i + 1) = omega (arith, mul-suc w i, ap (λ (m : ℕ). w * m) (add-one i)) in
-        record {
-          within = omega arith;
-          same = ap length h ∙ length-sets out (at + w * i) (lay w (getD xs i 0)) ∙ a .same;
-          rest = rw (h, ← e) (lay-item w xs i l out (at + w * i)) ∙ a .rest;
-        }
+  pub laying-next : i < length xs → (out′ : List ℕ) → out′ ≡ sets out (at + w * i) (lay w (getD xs i 0)) → Laying w xs old at out′ (i + 1)
+  laying-next l out′ h =
+      let e : at + w * i + w ≡ at + w * (i + 1) = omega (arith, mul-suc w i, ap (λ (m : ℕ). w * m) (add-one i)) in
+      record {
+        within = omega arith;
+        same = ap length h ∙ length-sets out (at + w * i) (lay w (getD xs i 0)) ∙ a .same;
+        rest = rw (h, ← e) (lay-item w xs i l out (at + w * i)) ∙ a .rest;
+      }
 
-    pub laying-done : length xs ≤ i → out ≡ sets old at (layAll w xs)
-    laying-done l = sym (lay-no-item w xs i l out (at + w * i)) ∙ a .rest
+  pub laying-done : length xs ≤ i → out ≡ sets old at (layAll w xs)
+  laying-done l = sym (lay-no-item w xs i l out (at + w * i)) ∙ a .rest
 
 -- a section laid at a place, and a sheet laid from the front
 pub length-section : (k : Section) (xs : List ℕ) → length (laySection k xs) ≡ 2 + k .width * length xs

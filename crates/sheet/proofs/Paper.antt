@@ -1,23 +1,23 @@
 -- What the paper says of the sheet, proved, each statement under its name in small letters. Assumes nothing.
-use Prim.Native.Nat.{ℕ, zero, suc, _+_, _-_, _*_, _≤_, _<_}
+use Prim.Native.Nat.{ℕ, zero, suc, _+_, _*_, _≤_, _<_}
 use native.Mathlib.Omega.{arith}
 use mathlib.Core.Path.{_≡_, refl, ap, sym, _∙_, subst}
-use mathlib.Core.Logic.{_⊎_, inl, inr, ⊎-elim}
+use mathlib.Core.Logic.{⊎-elim}
 use mathlib.Core.Bool.{Bool, true, false}
 use mathlib.Core.List.{List, [], _∷_, _++_, append-nil}
-use lib.ListN.{length, getD, take, drop, length-append, length-drop, replicate, length-replicate}
+use lib.ListN.{length, take, drop, length-append, length-drop, replicate, length-replicate}
 use lib.Dec.{leb}
 use lib.Seq.{take-at}
-use borrow.Author.Tests.{leb-true, leb-false, le-leb, lt-leb}
+use borrow.Author.Tests.{le-leb, lt-leb}
 use Rattle.rule.specs.Reasons.{Answer, is, refused, refused-with, guard, andThen, reasonNumber}
-use Rattle.rule.specs.declared.Reason.{Reason}
-use Rattle.rule.proofs.Answers.{reasonOf, reason-back, read-back, once, given-not, stops, passes}
+use Rattle.rule.proofs.Answers.{reasonOf, reason-back, read-back, once, stops, passes}
 use Rattle.sheet.specs.declared.Section.{Section}
 use Rattle.sheet.specs.declared.Counted.{Counted}
 use Rattle.sheet.specs.declared.SheetCounts.{SheetCounts}
 use Rattle.sheet.specs.declared.SheetCounts.the-variants as Counts'
 use Rattle.sheet.specs.declared.HowMany.{HowMany}
 use Rattle.sheet.specs.declared.HowMany.the-variants as HowMany'
+use Rattle.rule.specs.Lists.{placed}
 use Rattle.sheet.specs.Sheet.{
   yearItems,
   monthItems,
@@ -52,14 +52,32 @@ use Rattle.sheet.specs.Sheet.{
   writeSheet,
   writeInto,
 }
-use Rattle.sheet.specs.Promises.{saidCounts, saidHowMany, counted, countsIn, ReadingSheet, WritingSheet}
+use Rattle.sheet.specs.Promises.{saidCounts, saidHowMany, counted, countsIn}
 use Rattle.sheet.specs.Paper as Paper
 use Rattle.sheet.proofs.Filling.{length-sheet}
 use Rattle.sheet.proofs.Ends.{section-part, section-more}
-use Rattle.sheet.proofs.Faults.{sheet-fault, sheet-given, sheet-decided, lists-fault, lists-given, lists-decided, reason-iff, given-iff}
+use Rattle.sheet.proofs.Faults.{
+  sheet-fault,
+  sheet-given,
+  sheet-decided,
+  lists-fault,
+  lists-given,
+  lists-decided,
+  reason-iff,
+  given-iff,
+}
 use Rattle.sheet.proofs.RoundTrip.{bytes-drop, Fit, section-back, section-again}
-use Rattle.sheet.proofs.Sheets.{sheet-lies, sheet-then, lists-then, counted-lists, EachRead, each-read, EachWritten, each-written}
-use Rattle.sheet.specs.Paper.{AreBytes, emptySheet, sheetOf11, sheetOf11and12}
+use Rattle.sheet.proofs.Sheets.{
+  sheet-lies,
+  sheet-then,
+  lists-then,
+  counted-lists,
+  EachRead,
+  each-read,
+  EachWritten,
+  each-written,
+}
+use Rattle.sheet.specs.Paper.{AreBytes, sheetOf11, sheetOf11and12}
 
 -- an answer can be read back from what it says
 counts-once : (a b : SheetCounts) → saidCounts a ≡ saidCounts b → a ≡ b
@@ -368,6 +386,46 @@ calls-there-and-back y m d o o′ y₀ m₀ d₀ y′ m′ d′ n r p q hy hm hd
       months = q .months ∙ ap (λ (c : Answer Lists). afterwards c (λ k. k .months) m₀) g;
       days = q .days ∙ ap (λ (c : Answer Lists). afterwards c (λ k. k .days) d₀) g;
     }
+
+-- a sheet read into lists is read with no lists in mind too
+into-read : (s : List ℕ) (y m d : ℕ) (l : Lists) → readInto s y m d ≡ is l → readSheet s ≡ is l
+unfolding readInto readSheet
+into-read s y m d l h =
+    sheet-then s (listsIn s) (is (listsIn s)) ∙ go (sheetRead s (is (listsIn s))) (room (listsIn s) y m d) (sym (sheet-then s (listsIn s) (guard (room (listsIn s) y m d) 12 (is (listsIn s)))) ∙ h)
+  where
+    go : (c : Answer Lists) (p : Bool) → andThen c (λ z. guard p 12 (is (listsIn s))) ≡ is l → andThen c (λ z. is (listsIn s)) ≡ is l
+    go (is z) true h = h
+    go (is z) false h = absurd (let o : _≡_ {A = ℕ} 0 1 = cc in omega arith)
+    go (refused r) p h = absurd (let o : _≡_ {A = ℕ} 0 1 = cc in omega arith)
+    go (refused-with r m) p h = absurd (let o : _≡_ {A = ℕ} 0 1 = cc in omega arith)
+
+-- lists that are good are written into a buffer with room
+write-with-room : (l : Lists) (b : List ℕ) (n : ℕ) → writeSheet l ≡ is b → length b ≤ n → writeInto l n ≡ is b
+unfolding writeSheet writeInto
+write-with-room l b n h r =
+    let e : sheetOf l ≡ b = each-written l (sheetOf l) b h .1 in
+    lists-then l (sheetOf l) (guard (leb (length (sheetOf l)) n) 12 (is (sheetOf l)))
+    ∙ ap (λ (c : Answer (List ℕ)). andThen c (λ z. guard (leb (length (sheetOf l)) n) 12 (is (sheetOf l)))) h
+    ∙ passes (leb (length (sheetOf l)) n) 12 (is (sheetOf l)) (le-leb (length (sheetOf l)) n (omega (arith, ap length e)))
+    ∙ ap is e
+
+-- the front of a filled list is what it was filled with
+front : (xs old : List ℕ) (n : ℕ) (new : List ℕ) → new ≡ placed xs old → n ≡ length xs → take n new ≡ xs
+front xs old n new e h = ap (take n) e ∙ take-at xs (drop (length xs) old) n (sym h)
+
+pub calls-back-and-there : Paper.Calls-back-and-there
+calls-back-and-there s y₀ m₀ d₀ y′ m′ d′ o o′ c r bytes p q h =
+    let w = made-of (readInto s (length y₀) (length m₀) (length d₀)) counted c (p .answer) in
+    let l : Lists = w .0 in
+    let y : take (c .years) y′ ≡ l .years = front (l .years) y₀ (c .years) y′ (p .years ∙ ap (λ (a : Answer Lists). afterwards a (λ k. k .years) y₀) (w .1)) (ap (λ (k : Counted). k .years) (w .2)) in
+    let m : take (c .months) m′ ≡ l .months = front (l .months) m₀ (c .months) m′ (p .months ∙ ap (λ (a : Answer Lists). afterwards a (λ k. k .months) m₀) (w .1)) (ap (λ (k : Counted). k .months) (w .2)) in
+    let d : take (c .days) d′ ≡ l .days = front (l .days) d₀ (c .days) d′ (p .days ∙ ap (λ (a : Answer Lists). afterwards a (λ k. k .days) d₀) (w .1)) (ap (λ (k : Counted). k .days) (w .2)) in
+    let e : writeInto (record { years = take (c .years) y′; months = take (c .months) m′; days = take (c .days) d′ }) (length o) ≡ is s =
+    rw (y, m, d) (write-with-room l s (length o) (writing-what-was-read s l bytes (into-read s (length y₀) (length m₀) (length d₀) l (w .1))) h)
+    in (
+      how-many-once r (HowMany'.Is (length s)) (q .answer ∙ ap (λ (a : Answer (List ℕ)). andThen a (λ b. is (length b))) e),
+      q .buffer ∙ ap (λ (a : Answer (List ℕ)). afterwards a (λ b. b) o) e,
+    )
 
 pub reasons-of-reading : Paper.Reasons-of-reading
 reasons-of-reading s y m d =

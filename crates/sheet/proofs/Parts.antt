@@ -9,7 +9,7 @@ use Rattle.sheet.specs.Sheet.{numbers, countOf, leftAfter, itemsOf, mont
 use Rattle.sheet.specs.Steps.{Filling}
 use Rattle.sheet.proofs.Reading.{part-all}
 
-module _ (s : List ℕ) (y m d : ℕ) (c : Counted) (a : Filling s y m d c) where
+module _ {s : List ℕ} {y m d : ℕ} {c : Counted} (a : Filling s y m d c) where
   year-count : c .years ≡ countOf s
   year-count = ap (λ (c : Counted). c .years) (a .counts)
 

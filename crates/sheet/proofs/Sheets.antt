@@ -2,7 +2,7 @@
 use Prim.Native.Nat.{ℕ, zero, suc, _+_, _*_, _≤_, _<_}
 use native.Mathlib.Omega.{arith}
 use mathlib.Core.Path.{_≡_, refl, ap, sym, _∙_}
-use mathlib.Core.Bool.{Bool, true, false, _&&_}
+use mathlib.Core.Bool.{Bool, true, false, not, _&&_}
 use mathlib.Core.List.{List}
 use lib.Dec.{leb}
 use lib.ListN.{length, drop}
@@ -10,7 +10,7 @@ use lib.Seq.{sets}
 use borrow.Author.Tests.{leb-true, le-leb, lt-leb}
 use Rattle.rule.specs.Reasons.{Answer, is, refused, refused-with, guard, andThen, reasonNumber}
 use Rattle.rule.specs.declared.Reason.{Reason}
-use Rattle.rule.proofs.Answers.{stops, passes, holds-all}
+use Rattle.rule.proofs.Answers.{stops, passes, holds-all, failed, passed}
 use Rattle.sheet.specs.declared.Counted.{Counted}
 use Rattle.sheet.specs.declared.SheetCounts.the-variants as Counts'
 use Rattle.sheet.specs.declared.HowMany.the-variants as HowMany'
@@ -159,14 +159,17 @@ module _ (s y m d : List ℕ) where
     the-room : room (listsIn s) (length y) (length m) (length d) ≡ fits c (length y) (length m) (length d)
     the-room = ap (λ (c : Counted). fits c (length y) (length m) (length d)) (counted-lists s ∙ sym the-counts)
 
-    pub read-short : fits c (length y) (length m) (length d) ≡ false → readInto s (length y) (length m) (length d) ≡ refused 12
+    pub read-short : (b : Bool) → b ≡ fits c (length y) (length m) (length d) → not b ≡ true → readInto s (length y) (length m) (length d) ≡ refused 12
     unfolding readInto
-    read-short f =
+    read-short b e o =
         sheet-then s (countsIn s) _
         ∙ ap (λ (c : Answer Counted). andThen c (λ z. guard (room (listsIn s) (length y) (length m) (length d)) 12 (is (listsIn s)))) h
-        ∙ stops (room (listsIn s) (length y) (length m) (length d)) 12 (is (listsIn s)) (the-room ∙ f)
+        ∙ stops (room (listsIn s) (length y) (length m) (length d)) 12 (is (listsIn s)) (the-room ∙ failed b (fits c (length y) (length m) (length d)) e o)
 
-    module _ (f : fits c (length y) (length m) (length d) ≡ true) where
+    module _ (b : Bool) (e : b ≡ fits c (length y) (length m) (length d)) (o : not b ≡ false) where
+      f : fits c (length y) (length m) (length d) ≡ true
+      f = passed b (fits c (length y) (length m) (length d)) e o
+
       read-good : readInto s (length y) (length m) (length d) ≡ is (listsIn s)
       unfolding readInto
       read-good =

@@ -8,10 +8,12 @@ use lib.ListN.{length, getD, take, drop}
 use Rattle.rule.specs.Reasons.{is, refused, reasonNumber}
 use Rattle.rule.specs.declared.Reason.{Reason}
 use Rattle.sheet.specs.declared.Section.{Section}
+use Rattle.sheet.specs.declared.Counted.{Counted}
 use Rattle.sheet.specs.declared.SheetCounts.{SheetCounts}
 use Rattle.sheet.specs.declared.SheetCounts.the-variants as Counts'
 use Rattle.sheet.specs.declared.HowMany.{HowMany}
 use Rattle.sheet.specs.declared.HowMany.the-variants as HowMany'
+use Rattle.rule.specs.Lists.{placed}
 use Rattle.sheet.specs.Sheet.{
   number,
   yearItems,
@@ -28,7 +30,6 @@ use Rattle.sheet.specs.Sheet.{
   sheetOf,
   writeSheet,
   writeInto,
-  placed,
 }
 use Rattle.sheet.specs.Promises.{counted, ReadingSheet, WritingSheet}
 
@@ -57,6 +58,13 @@ Calls-there-and-back =
     WritingSheet y m d o (HowMany'.Is n) o′ → ReadingSheet (take n o′) y₀ m₀ d₀ r y′ m′ d′ →
     length y ≤ length y₀ → length m ≤ length m₀ → length d ≤ length d₀ →
     ReadBack y m d y₀ m₀ d₀ r y′ m′ d′
+
+abbrev pub Calls-back-and-there : Type 0
+Calls-back-and-there =
+    (s y₀ m₀ d₀ y′ m′ d′ o o′ : List ℕ) (c : Counted) (r : HowMany) → AreBytes s →
+    ReadingSheet s y₀ m₀ d₀ (Counts'.Is c) y′ m′ d′ →
+    WritingSheet (take (c .years) y′) (take (c .months) m′) (take (c .days) d′) o r o′ →
+    length s ≤ length o → (r ≡ HowMany'.Is (length s)) × (o′ ≡ placed s o)
 
 -- "One set of three lists has one sheet": two sheets that read alike are the same bytes
 abbrev pub One-sheet : Type 0

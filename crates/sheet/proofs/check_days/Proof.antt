@@ -30,10 +30,16 @@ returns c = sym (bytes-after (c .before .before .before .before .before .before 
 
 returns-2 : tie.Need-returns-2
 unfolding daysRead
-returns-2 c = sym (section-stop dayItems (c .before .before .before .before .before .args .s .now) (countOf (c .before .before .before .before .before .args .s .now)) _ (reasonNumber (c .before .r .given .0 .0)) (sym (c .before .before .before .check-section .ensures) ∙ ap saidHowMany (c .before .r .given .1)))
+returns-2 c =
+    let c5 = c .before .before .before .before .before in
+    sym (section-stop dayItems (c5 .args .s .now) (countOf (c5 .args .s .now)) _ (reasonNumber (c .before .r .given .0 .0)) (sym (c .before .before .before .check-section .ensures) ∙ ap saidHowMany (c .before .r .given .1)))
 
 returns-3 : tie.Need-returns-3
-returns-3 c = ap (λ (m : ℕ). is (countsAre (c .before .before .before .before .before .before .args .years) (c .before .before .before .before .before .before .args .months) m)) (sym (found dayItems (c .before .before .before .before .before .before .args .s .now) (c .before .before .n .given .0 .0) (sym (c .before .before .before .before .check-section .ensures) ∙ ap saidHowMany (c .before .before .n .given .1)) .count)) ∙ sym (nothing-after (c .before .before .before .before .before .before .args .s .now) (c .before .before .n .given .0 .0) (sym (c .before .before .before .before .check-section .ensures) ∙ ap saidHowMany (c .before .before .n .given .1)) _ (omega arith))
+returns-3 c =
+    let c2 = c .before .before in
+    let c4 = c .before .before .before .before in
+    let c6 = c .before .before .before .before .before .before in
+    ap (λ (m : ℕ). is (countsAre (c6 .args .years) (c6 .args .months) m)) (sym (found dayItems (c6 .args .s .now) (c2 .n .given .0 .0) (sym (c4 .check-section .ensures) ∙ ap saidHowMany (c2 .n .given .1)) .count)) ∙ sym (nothing-after (c6 .args .s .now) (c2 .n .given .0 .0) (sym (c4 .check-section .ensures) ∙ ap saidHowMany (c2 .n .given .1)) _ (omega arith))
 
 pub check-days-spec : {M : Type 1} → statement M
 check-days-spec =

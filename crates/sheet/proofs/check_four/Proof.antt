@@ -33,7 +33,10 @@ is-in-section-requires : tie.Need-is-in-section-requires Inv-loop μ-loop
 is-in-section-requires c κs = search needs
 
 returns-2 : tie.Need-returns-2 Inv-loop μ-loop
-returns-2 c = sym (item-bad (c .before .before .before .before .before .before .before .before .args .k) (c .before .before .before .before .before .before .before .before .args .xs .now) (is (length (c .before .before .before .before .before .before .before .before .args .xs .now))) (c .before .before .before .before .loop .i) (omega arith) (failed (c .before .is-in-section .result) _ (c .before .is-in-section .ensures) (c .if2 .taken))) ∙ c .before .before .before .before .loop .inv .1
+returns-2 c =
+    let c4 = c .before .before .before .before in
+    let c8 = c .before .before .before .before .before .before .before .before in
+    sym (item-bad (c8 .args .k) (c8 .args .xs .now) (is (length (c8 .args .xs .now))) (c4 .loop .i) (omega arith) (failed (c .before .is-in-section .result) _ (c .before .is-in-section .ensures) (c .if2 .taken))) ∙ c4 .loop .inv .1
 
 add-i : tie.Need-add-i Inv-loop μ-loop
 add-i c = omega arith
@@ -42,10 +45,15 @@ loop-less : tie.Need-loop-less Inv-loop μ-loop
 loop-less c = omega arith
 
 loop-again : tie.Need-loop-again Inv-loop μ-loop
-loop-again c = (omega arith, sym (item-on (c .before .before .before .before .before .before .before .before .args .k) (c .before .before .before .before .before .before .before .before .args .xs .now) (is (length (c .before .before .before .before .before .before .before .before .args .xs .now))) (c .before .before .before .before .loop .i) (omega arith) (passed (c .before .is-in-section .result) _ (c .before .is-in-section .ensures) (c .if2 .left))) ∙ c .before .before .before .before .loop .inv .1)
+loop-again c =
+    let c4 = c .before .before .before .before in
+    let c8 = c .before .before .before .before .before .before .before .before in
+    (omega arith, sym (item-on (c8 .args .k) (c8 .args .xs .now) (is (length (c8 .args .xs .now))) (c4 .loop .i) (omega arith) (passed (c .before .is-in-section .result) _ (c .before .is-in-section .ensures) (c .if2 .left))) ∙ c4 .loop .inv .1)
 
 returns-3 : tie.Need-returns-3 Inv-loop μ-loop
-returns-3 c = sym (items-end (c .before .before .before .before .before .args .k) (c .before .before .before .before .before .args .xs .now) (is (length (c .before .before .before .before .before .args .xs .now))) (c .before .loop .i) (omega arith)) ∙ c .before .loop .inv .1
+returns-3 c =
+    let c5 = c .before .before .before .before .before in
+    sym (items-end (c5 .args .k) (c5 .args .xs .now) (is (length (c5 .args .xs .now))) (c .before .loop .i) (omega arith)) ∙ c .before .loop .inv .1
 
 pub check-four-spec : {M : Type 1} → statement M
 check-four-spec =

@@ -26,7 +26,10 @@ is-whole-requires : tie.Need-is-whole-requires Inv-loop μ-loop
 is-whole-requires c κs = search needs
 
 returns : tie.Need-returns Inv-loop μ-loop
-returns c = sym (item-cut (c .before .before .before .before .before .args .k) (c .before .before .before .before .before .args .n - c .before .before .before .loop .i) (c .before .before .before .before .before .args .n - (c .before .before .before .loop .i + 1)) (omega arith) (c .before .before .before .loop .t .now) (is (c .before .before .before .before .before .args .n)) (failed (c .before .is-whole .result) _ (c .before .is-whole .ensures) (c .if1 .taken))) ∙ c .before .before .before .loop .inv .1
+returns c =
+    let c3 = c .before .before .before in
+    let c5 = c .before .before .before .before .before in
+    sym (item-cut (c5 .args .k) (c5 .args .n - c3 .loop .i) (c5 .args .n - (c3 .loop .i + 1)) (omega arith) (c3 .loop .t .now) (is (c5 .args .n)) (failed (c .before .is-whole .result) _ (c .before .is-whole .ensures) (c .if1 .taken))) ∙ c3 .loop .inv .1
 
 number-in-requires : tie.Need-number-in-requires Inv-loop μ-loop
 number-in-requires c κs = (c .before .before .before .before .before .pre, leb-true (c .before .before .before .before .before .args .k .width) _ (passed (c .before .is-whole .result) _ (c .before .is-whole .ensures) (c .if1 .left)))
@@ -35,7 +38,11 @@ is-in-section-requires : tie.Need-is-in-section-requires Inv-loop μ-loop
 is-in-section-requires c κs = search needs
 
 returns-2 : tie.Need-returns-2 Inv-loop μ-loop
-returns-2 c = sym (item-out (c .before .before .before .before .before .before .before .before .args .k) (c .before .before .before .before .before .before .before .before .args .n - c .before .before .before .before .before .before .loop .i) (c .before .before .before .before .before .before .before .before .args .n - (c .before .before .before .before .before .before .loop .i + 1)) (omega arith) (c .before .before .before .before .before .before .loop .t .now) (is (c .before .before .before .before .before .before .before .before .args .n)) (passed (c .before .before .before .before .is-whole .result) _ (c .before .before .before .before .is-whole .ensures) (c .before .before .before .if1 .left)) (ap (itemHolds (c .before .before .before .before .before .before .before .before .args .k)) (sym (c .before .before .number-in .ensures .0)) ∙ failed (c .before .is-in-section .result) _ (c .before .is-in-section .ensures) (c .if2 .taken))) ∙ c .before .before .before .before .before .before .loop .inv .1
+returns-2 c =
+    let c4 = c .before .before .before .before in
+    let c6 = c .before .before .before .before .before .before in
+    let c8 = c .before .before .before .before .before .before .before .before in
+    sym (item-out (c8 .args .k) (c8 .args .n - c6 .loop .i) (c8 .args .n - (c6 .loop .i + 1)) (omega arith) (c6 .loop .t .now) (is (c8 .args .n)) (passed (c4 .is-whole .result) _ (c4 .is-whole .ensures) (c .before .before .before .if1 .left)) (ap (itemHolds (c8 .args .k)) (sym (c .before .before .number-in .ensures .0)) ∙ failed (c .before .is-in-section .result) _ (c .before .is-in-section .ensures) (c .if2 .taken))) ∙ c6 .loop .inv .1
 
 sub-t : tie.Need-sub-t Inv-loop μ-loop
 sub-t c = leb-true (c .before .before .before .before .before .before .before .before .args .k .width) _ (passed (c .before .before .before .before .is-whole .result) _ (c .before .before .before .before .is-whole .ensures) (c .before .before .before .if1 .left))
@@ -53,7 +60,12 @@ loop-less : tie.Need-loop-less Inv-loop μ-loop
 loop-less c = omega arith
 
 loop-again : tie.Need-loop-again Inv-loop μ-loop
-loop-again c = (omega arith, ap (λ (u : List ℕ). itemsRead (c .before .before .before .before .before .before .before .before .before .args .k) (c .before .before .before .before .before .before .before .before .before .args .n - (c .before .before .before .before .before .before .before .loop .i + 1)) u (is (c .before .before .before .before .before .before .before .before .before .args .n))) (part-all (c .before .before .before .before .before .before .before .before .before .args .k .width) (c .before .before .before .before .before .before .before .loop .t .now)) ∙ sym (item-good (c .before .before .before .before .before .before .before .before .before .args .k) (c .before .before .before .before .before .before .before .before .before .args .n - c .before .before .before .before .before .before .before .loop .i) (c .before .before .before .before .before .before .before .before .before .args .n - (c .before .before .before .before .before .before .before .loop .i + 1)) (omega arith) (c .before .before .before .before .before .before .before .loop .t .now) (is (c .before .before .before .before .before .before .before .before .before .args .n)) (passed (c .before .before .before .before .before .is-whole .result) _ (c .before .before .before .before .before .is-whole .ensures) (c .before .before .before .before .if1 .left)) (ap (itemHolds (c .before .before .before .before .before .before .before .before .before .args .k)) (sym (c .before .before .before .number-in .ensures .0)) ∙ passed (c .before .before .is-in-section .result) _ (c .before .before .is-in-section .ensures) (c .before .if2 .left))) ∙ c .before .before .before .before .before .before .before .loop .inv .1)
+loop-again c =
+    let c2 = c .before .before in
+    let c5 = c .before .before .before .before .before in
+    let c7 = c .before .before .before .before .before .before .before in
+    let c9 = c .before .before .before .before .before .before .before .before .before in
+    (omega arith, ap (λ (u : List ℕ). itemsRead (c9 .args .k) (c9 .args .n - (c7 .loop .i + 1)) u (is (c9 .args .n))) (part-all (c9 .args .k .width) (c7 .loop .t .now)) ∙ sym (item-good (c9 .args .k) (c9 .args .n - c7 .loop .i) (c9 .args .n - (c7 .loop .i + 1)) (omega arith) (c7 .loop .t .now) (is (c9 .args .n)) (passed (c5 .is-whole .result) _ (c5 .is-whole .ensures) (c .before .before .before .before .if1 .left)) (ap (itemHolds (c9 .args .k)) (sym (c .before .before .before .number-in .ensures .0)) ∙ passed (c2 .is-in-section .result) _ (c2 .is-in-section .ensures) (c .before .if2 .left))) ∙ c7 .loop .inv .1)
 
 returns-3 : tie.Need-returns-3 Inv-loop μ-loop
 returns-3 c = sym (no-item (c .before .before .before .args .k) (c .before .before .before .args .n - c .before .loop .i) (omega arith) (c .before .loop .t .now) (is (c .before .before .before .args .n))) ∙ c .before .loop .inv .1

@@ -40,15 +40,20 @@ check-days-requires c κs = search needs
 
 returns : tie.Need-returns
 unfolding monthsRead
-returns c = sym (section-stop monthItems (c .before .before .before .before .before .args .s .now) (countOf (c .before .before .before .before .before .args .s .now)) _ (reasonNumber (c .before .r .given .0 .0)) (sym (c .before .before .before .check-section .ensures) ∙ ap saidHowMany (c .before .r .given .1)))
+returns c =
+    let c5 = c .before .before .before .before .before in
+    sym (section-stop monthItems (c5 .args .s .now) (countOf (c5 .args .s .now)) _ (reasonNumber (c .before .r .given .0 .0)) (sym (c .before .before .before .check-section .ensures) ∙ ap saidHowMany (c .before .r .given .1)))
 
 returns-2 : tie.Need-returns-2
 unfolding monthsRead
 returns-2 c =
+    let c3 = c .before .before .before in
+    let c5 = c .before .before .before .before .before in
+    let c7 = c .before .before .before .before .before .before .before in
     c .check-days .ensures
-    ∙ ap (λ (t : List ℕ). daysRead t (is (countsAre (c .before .before .before .before .before .before .before .args .years) (c .before .before .before .n .given .0 .0) (countOf t)))) ((found monthItems (c .before .before .before .before .before .before .before .args .s .now) (c .before .before .before .n .given .0 .0) (sym (c .before .before .before .before .before .check-section .ensures) ∙ ap saidHowMany (c .before .before .before .n .given .1))) .next)
-    ∙ ap (λ (m : ℕ). daysRead (leftAfter monthItems (c .before .before .before .before .before .before .before .args .s .now)) (is (countsAre (c .before .before .before .before .before .before .before .args .years) m (countOf (leftAfter monthItems (c .before .before .before .before .before .before .before .args .s .now)))))) (sym ((found monthItems (c .before .before .before .before .before .before .before .args .s .now) (c .before .before .before .n .given .0 .0) (sym (c .before .before .before .before .before .check-section .ensures) ∙ ap saidHowMany (c .before .before .before .n .given .1))) .count))
-    ∙ sym (section-on monthItems (c .before .before .before .before .before .before .before .args .s .now) (countOf (c .before .before .before .before .before .before .before .args .s .now)) _ (c .before .before .before .n .given .0 .0) (sym (c .before .before .before .before .before .check-section .ensures) ∙ ap saidHowMany (c .before .before .before .n .given .1)))
+    ∙ ap (λ (t : List ℕ). daysRead t (is (countsAre (c7 .args .years) (c3 .n .given .0 .0) (countOf t)))) ((found monthItems (c7 .args .s .now) (c3 .n .given .0 .0) (sym (c5 .check-section .ensures) ∙ ap saidHowMany (c3 .n .given .1))) .next)
+    ∙ ap (λ (m : ℕ). daysRead (leftAfter monthItems (c7 .args .s .now)) (is (countsAre (c7 .args .years) m (countOf (leftAfter monthItems (c7 .args .s .now)))))) (sym ((found monthItems (c7 .args .s .now) (c3 .n .given .0 .0) (sym (c5 .check-section .ensures) ∙ ap saidHowMany (c3 .n .given .1))) .count))
+    ∙ sym (section-on monthItems (c7 .args .s .now) (countOf (c7 .args .s .now)) _ (c3 .n .given .0 .0) (sym (c5 .check-section .ensures) ∙ ap saidHowMany (c3 .n .given .1)))
 
 pub check-months-spec : {M : Type 1} → statement M
 check-months-spec =

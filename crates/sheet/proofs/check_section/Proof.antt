@@ -32,14 +32,19 @@ check-items-requires : tie.Need-check-items-requires
 check-items-requires c κs = search needs
 
 returns : tie.Need-returns
-returns c = sym (section-refused (c .before .before .before .before .before .args .k) (c .before .before .before .before .before .args .s .now) _ (reasonNumber (c .before .r .given .0 .0)) (sym (c .before .before .before .count-at .ensures) ∙ ap saidHowMany (c .before .r .given .1)))
+returns c =
+    let c5 = c .before .before .before .before .before in
+    sym (section-refused (c5 .args .k) (c5 .args .s .now) _ (reasonNumber (c .before .r .given .0 .0)) (sym (c .before .before .before .count-at .ensures) ∙ ap saidHowMany (c .before .r .given .1)))
 
 returns-2 : tie.Need-returns-2
 returns-2 c =
+    let c3 = c .before .before .before in
+    let c5 = c .before .before .before .before .before in
+    let c7 = c .before .before .before .before .before .before .before in
     c .check-items .ensures
-    ∙ ap (λ (u : List ℕ). itemsRead (c .before .before .before .before .before .before .before .args .k) (c .before .before .before .n .given .0 .0) u (is (c .before .before .before .n .given .0 .0))) (part-all 2 (c .before .before .before .before .before .before .before .args .s .now))
-    ∙ sym (section-counted (c .before .before .before .before .before .before .before .args .k) (c .before .before .before .before .before .before .before .args .s .now) (is (c .before .before .before .n .given .0 .0)) (c .before .before .before .n .given .0 .0) (sym (c .before .before .before .before .before .count-at .ensures) ∙ ap saidHowMany (c .before .before .before .n .given .1)))
-    ∙ ap (λ (m : ℕ). sectionRead (c .before .before .before .before .before .before .before .args .k) (c .before .before .before .before .before .before .before .args .s .now) (is m)) (sym ((count-is (c .before .before .before .before .before .before .before .args .k .items) (c .before .before .before .before .before .before .before .args .s .now) (c .before .before .before .n .given .0 .0) (sym (c .before .before .before .before .before .count-at .ensures) ∙ ap saidHowMany (c .before .before .before .n .given .1))) .2))
+    ∙ ap (λ (u : List ℕ). itemsRead (c7 .args .k) (c3 .n .given .0 .0) u (is (c3 .n .given .0 .0))) (part-all 2 (c7 .args .s .now))
+    ∙ sym (section-counted (c7 .args .k) (c7 .args .s .now) (is (c3 .n .given .0 .0)) (c3 .n .given .0 .0) (sym (c5 .count-at .ensures) ∙ ap saidHowMany (c3 .n .given .1)))
+    ∙ ap (λ (m : ℕ). sectionRead (c7 .args .k) (c7 .args .s .now) (is m)) (sym ((count-is (c7 .args .k .items) (c7 .args .s .now) (c3 .n .given .0 .0) (sym (c5 .count-at .ensures) ∙ ap saidHowMany (c3 .n .given .1))) .2))
 
 pub check-section-spec : {M : Type 1} → statement M
 check-section-spec =

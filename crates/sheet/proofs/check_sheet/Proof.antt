@@ -40,15 +40,20 @@ check-months-requires c κs = search needs
 
 returns : tie.Need-returns
 unfolding sheetRead
-returns c = sym (section-stop yearItems (c .before .before .before .before .before .args .s .now) (countOf (c .before .before .before .before .before .args .s .now)) _ (reasonNumber (c .before .r .given .0 .0)) (sym (c .before .before .before .check-section .ensures) ∙ ap saidHowMany (c .before .r .given .1)))
+returns c =
+    let c5 = c .before .before .before .before .before in
+    sym (section-stop yearItems (c5 .args .s .now) (countOf (c5 .args .s .now)) _ (reasonNumber (c .before .r .given .0 .0)) (sym (c .before .before .before .check-section .ensures) ∙ ap saidHowMany (c .before .r .given .1)))
 
 returns-2 : tie.Need-returns-2
 unfolding sheetRead
 returns-2 c =
+    let c3 = c .before .before .before in
+    let c5 = c .before .before .before .before .before in
+    let c7 = c .before .before .before .before .before .before .before in
     c .check-months .ensures
-    ∙ ap (λ (t : List ℕ). monthsRead t (is (countsAre (c .before .before .before .n .given .0 .0) (countOf t) (countOf (leftAfter monthItems t))))) ((found yearItems (c .before .before .before .before .before .before .before .args .s .now) (c .before .before .before .n .given .0 .0) (sym (c .before .before .before .before .before .check-section .ensures) ∙ ap saidHowMany (c .before .before .before .n .given .1))) .next)
-    ∙ ap (λ (m : ℕ). monthsRead (leftAfter yearItems (c .before .before .before .before .before .before .before .args .s .now)) (is (countsAre m (countOf (leftAfter yearItems (c .before .before .before .before .before .before .before .args .s .now))) (countOf (leftAfter monthItems (leftAfter yearItems (c .before .before .before .before .before .before .before .args .s .now))))))) (sym ((found yearItems (c .before .before .before .before .before .before .before .args .s .now) (c .before .before .before .n .given .0 .0) (sym (c .before .before .before .before .before .check-section .ensures) ∙ ap saidHowMany (c .before .before .before .n .given .1))) .count))
-    ∙ sym (section-on yearItems (c .before .before .before .before .before .before .before .args .s .now) (countOf (c .before .before .before .before .before .before .before .args .s .now)) _ (c .before .before .before .n .given .0 .0) (sym (c .before .before .before .before .before .check-section .ensures) ∙ ap saidHowMany (c .before .before .before .n .given .1)))
+    ∙ ap (λ (t : List ℕ). monthsRead t (is (countsAre (c3 .n .given .0 .0) (countOf t) (countOf (leftAfter monthItems t))))) ((found yearItems (c7 .args .s .now) (c3 .n .given .0 .0) (sym (c5 .check-section .ensures) ∙ ap saidHowMany (c3 .n .given .1))) .next)
+    ∙ ap (λ (m : ℕ). monthsRead (leftAfter yearItems (c7 .args .s .now)) (is (countsAre m (countOf (leftAfter yearItems (c7 .args .s .now))) (countOf (leftAfter monthItems (leftAfter yearItems (c7 .args .s .now))))))) (sym ((found yearItems (c7 .args .s .now) (c3 .n .given .0 .0) (sym (c5 .check-section .ensures) ∙ ap saidHowMany (c3 .n .given .1))) .count))
+    ∙ sym (section-on yearItems (c7 .args .s .now) (countOf (c7 .args .s .now)) _ (c3 .n .given .0 .0) (sym (c5 .check-section .ensures) ∙ ap saidHowMany (c3 .n .given .1)))
 
 pub check-sheet-spec : {M : Type 1} → statement M
 check-sheet-spec =

@@ -24,10 +24,16 @@ cast-n : tie.Need-cast-n
 cast-n c = search needs
 
 returns-2 : tie.Need-returns-2
-returns-2 c = let e : countOf (c .before .before .before .before .before .args .s .now) ≡ c .before .number-in .result = sym (c .before .number-in .ensures .0) in sym (count-many (c .before .before .before .before .before .args .most) (c .before .before .before .before .before .args .s .now) (passed (c .before .before .before .is-whole .result) _ (c .before .before .before .is-whole .ensures) (c .before .before .if1 .left)) (omega arith))
+returns-2 c =
+    let c3 = c .before .before .before in
+    let c5 = c .before .before .before .before .before in
+    let e : countOf (c5 .args .s .now) ≡ c .before .number-in .result = sym (c .before .number-in .ensures .0) in sym (count-many (c5 .args .most) (c5 .args .s .now) (passed (c3 .is-whole .result) _ (c3 .is-whole .ensures) (c .before .before .if1 .left)) (omega arith))
 
 returns-3 : tie.Need-returns-3
-returns-3 c = let e : countOf (c .before .before .before .before .before .args .s .now) ≡ c .before .number-in .result = sym (c .before .number-in .ensures .0) in sym (count-good (c .before .before .before .before .before .args .most) (c .before .before .before .before .before .args .s .now) (passed (c .before .before .before .is-whole .result) _ (c .before .before .before .is-whole .ensures) (c .before .before .if1 .left)) (omega arith) ∙ ap is e)
+returns-3 c =
+    let c3 = c .before .before .before in
+    let c5 = c .before .before .before .before .before in
+    let e : countOf (c5 .args .s .now) ≡ c .before .number-in .result = sym (c .before .number-in .ensures .0) in sym (count-good (c5 .args .most) (c5 .args .s .now) (passed (c3 .is-whole .result) _ (c3 .is-whole .ensures) (c .before .before .if1 .left)) (omega arith) ∙ ap is e)
 
 pub count-at-spec : {M : Type 1} → statement M
 count-at-spec =

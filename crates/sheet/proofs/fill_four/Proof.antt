@@ -27,7 +27,7 @@ loop-holds : tie.Need-loop-holds Inv-loop μ-loop
 loop-holds c = storing-none 4 (drop 2 (c .before .before .before .args .s .now)) (c .before .before .before .args .out .now) (c .before .before .before .args .n) _ (part-all 2 (c .before .before .before .args .s .now)) (omega (arith, length-drop 2 (c .before .before .before .args .s .now)))
 
 number-in-requires : tie.Need-number-in-requires Inv-loop μ-loop
-number-in-requires c κs = (omega arith, storing-item 4 (drop 2 (c .before .before .before .before .before .args .s .now)) (c .before .before .before .before .before .args .out .now) (c .before .before .before .before .before .args .n) (c .before .loop .out) (c .before .loop .t .now) (c .before .loop .i) (c .before .loop .inv) (omega arith))
+number-in-requires c κs = (omega arith, storing-item (c .before .loop .inv) (omega arith))
 
 mul-out : tie.Need-mul-out Inv-loop μ-loop
 mul-out c = omega (arith, c .before .before .loop .inv .within, c .before .before .loop .inv .same)
@@ -36,10 +36,10 @@ slice-write-out : tie.Need-slice-write-out Inv-loop μ-loop
 slice-write-out c = omega (arith, c .before .before .loop .inv .same)
 
 sub-t-2 : tie.Need-sub-t-2 Inv-loop μ-loop
-sub-t-2 c = storing-item 4 (drop 2 (c .before .before .before .before .before .before .args .s .now)) (c .before .before .before .before .before .before .args .out .now) (c .before .before .before .before .before .before .args .n) (c .before .before .loop .out) (c .before .before .loop .t .now) (c .before .before .loop .i) (c .before .before .loop .inv) (omega arith)
+sub-t-2 c = omega (arith, storing-item (c .before .before .loop .inv) (omega arith))
 
 part-t-start-2 : tie.Need-part-t-start-2 Inv-loop μ-loop
-part-t-start-2 c = storing-item 4 (drop 2 (c .before .before .before .before .before .before .args .s .now)) (c .before .before .before .before .before .before .args .out .now) (c .before .before .before .before .before .before .args .n) (c .before .before .loop .out) (c .before .before .loop .t .now) (c .before .before .loop .i) (c .before .before .loop .inv) (omega arith)
+part-t-start-2 c = omega (arith, storing-item (c .before .before .loop .inv) (omega arith))
 
 part-t-end-2 : tie.Need-part-t-end-2 Inv-loop μ-loop
 part-t-end-2 c = search needs
@@ -51,13 +51,13 @@ loop-less : tie.Need-loop-less Inv-loop μ-loop
 loop-less c = omega arith
 
 loop-again : tie.Need-loop-again Inv-loop μ-loop
-loop-again c = storing-next 4 (drop 2 (c .before .before .before .before .before .before .before .args .s .now)) (c .before .before .before .before .before .before .before .args .out .now) (c .before .before .before .before .before .before .before .args .n) (c .before .before .before .loop .out) (c .before .before .before .loop .t .now) (c .before .before .before .loop .i) (c .before .before .before .loop .inv) (omega arith) (c .before .number-in .result) (c .before .number-in .ensures .0)
+loop-again c = storing-next (c .before .before .before .loop .inv) (omega arith) (c .before .number-in .result) (c .before .number-in .ensures .0)
 
 same-length : tie.Need-same-length Inv-loop μ-loop
 same-length c = c .before .loop .inv .same
 
 returns : tie.Need-returns Inv-loop μ-loop
-returns c = storing-done 4 (drop 2 (c .before .before .before .before .before .args .s .now)) (c .before .before .before .before .before .args .out .now) (c .before .before .before .before .before .args .n) (c .before .loop .out) (c .before .loop .t .now) (c .before .loop .i) (c .before .loop .inv) (c .loop-test .left)
+returns c = storing-done (c .before .loop .inv) (c .loop-test .left)
 
 pub fill-four-spec : {M : Type 1} → statement M
 fill-four-spec =

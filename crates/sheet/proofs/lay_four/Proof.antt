@@ -19,7 +19,7 @@ mul-lay-number : tie.Need-mul-lay-number Inv-loop μ-loop
 mul-lay-number c = omega arith
 
 add-lay-number : tie.Need-add-lay-number Inv-loop μ-loop
-add-lay-number c = omega (arith, laying-fits 4 (c .before .before .before .before .before .args .xs .now) (c .before .before .before .before .before .args .out .now) (c .before .before .before .before .before .args .at) (c .before .before .loop .out) (c .before .before .loop .i) (c .before .before .loop .inv) (omega arith) (omega arith))
+add-lay-number c = omega (arith, laying-fits (c .before .before .loop .inv) (omega arith) (omega arith))
 
 mul-lay-number-2 : tie.Need-mul-lay-number-2 Inv-loop μ-loop
 mul-lay-number-2 c = omega arith
@@ -28,7 +28,7 @@ shared-slice-read-lay-number : tie.Need-shared-slice-read-lay-number Inv-loop μ
 shared-slice-read-lay-number c = omega arith
 
 lay-number-requires : tie.Need-lay-number-requires Inv-loop μ-loop
-lay-number-requires c κs = laying-fits 4 (c .before .before .before .before .before .before .args .xs .now) (c .before .before .before .before .before .before .args .out .now) (c .before .before .before .before .before .before .args .at) (c .before .before .before .loop .out) (c .before .before .before .loop .i) (c .before .before .before .loop .inv) (omega arith) (omega arith)
+lay-number-requires c κs = laying-fits (c .before .before .before .loop .inv) (omega arith) (omega arith)
 
 add-i : tie.Need-add-i Inv-loop μ-loop
 add-i c = omega arith
@@ -37,13 +37,13 @@ loop-less : tie.Need-loop-less Inv-loop μ-loop
 loop-less c = omega arith
 
 loop-again : tie.Need-loop-again Inv-loop μ-loop
-loop-again c = laying-next 4 (c .before .before .before .before .before .before .before .before .before .args .xs .now) (c .before .before .before .before .before .before .before .before .before .args .out .now) (c .before .before .before .before .before .before .before .before .before .args .at) (c .before .before .before .before .before .before .loop .out) (c .before .before .before .before .before .before .loop .i) (c .before .before .before .before .before .before .loop .inv) (omega arith) _ (c .before .before .lay-number .ensures)
+loop-again c = laying-next (c .before .before .before .before .before .before .loop .inv) (omega arith) _ (c .before .before .lay-number .ensures)
 
 same-length : tie.Need-same-length Inv-loop μ-loop
 same-length c = c .before .loop .inv .same
 
 returns : tie.Need-returns Inv-loop μ-loop
-returns c = laying-done 4 (c .before .before .before .before .args .xs .now) (c .before .before .before .before .args .out .now) (c .before .before .before .before .args .at) (c .before .loop .out) (c .before .loop .i) (c .before .loop .inv) (c .loop-test .left)
+returns c = laying-done (c .before .loop .inv) (c .loop-test .left)
 
 pub lay-four-spec : {M : Type 1} → statement M
 lay-four-spec =

@@ -34,7 +34,9 @@ loop-less : tie.Need-loop-less Inv-loop μ-loop
 loop-less c = omega arith
 
 loop-again : tie.Need-loop-again Inv-loop μ-loop
-loop-again c = (omega arith, length-set (c .before .loop .out) (c .before .before .args .at + c .before .loop .i) (c .before .loop .rest % 256) ∙ c .before .loop .inv .1, lay-turn (c .before .before .args .at) (c .before .loop .i) (c .before .before .args .width) (c .before .loop .rest) (c .before .loop .out) (omega arith) ∙ c .before .loop .inv .2)
+loop-again c =
+    let c2 = c .before .before in
+    (omega arith, length-set (c .before .loop .out) (c2 .args .at + c .before .loop .i) (c .before .loop .rest % 256) ∙ c .before .loop .inv .1, lay-turn (c2 .args .at) (c .before .loop .i) (c2 .args .width) (c .before .loop .rest) (c .before .loop .out) (omega arith) ∙ c .before .loop .inv .2)
 
 same-length : tie.Need-same-length Inv-loop μ-loop
 same-length c = c .before .loop .inv .1

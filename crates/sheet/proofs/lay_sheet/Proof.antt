@@ -62,10 +62,11 @@ same-length c = search needs
 
 returns : tie.Need-returns
 returns c =
-    laid-sheet (record { years = c .before .before .before .before .before .before .before .before .before .before .before .before .before .before .before .before .before .before .before .before .before .before .before .before .before .before .before .before .args .years .now; months = c .before .before .before .before .before .before .before .before .before .before .before .before .before .before .before .before .before .before .before .before .before .before .before .before .before .before .before .before .args .months .now; days = c .before .before .before .before .before .before .before .before .before .before .before .before .before .before .before .before .before .before .before .before .before .before .before .before .before .before .before .before .args .days .now }) (c .before .before .before .before .before .before .before .before .before .before .before .before .before .before .before .before .before .before .before .before .before .before .before .before .before .before .before .before .args .out .now) _ _ _ (2 + 2 * length (c .before .before .before .before .before .before .before .before .before .before .before .before .before .before .before .before .before .before .before .before .before .before .before .before .before .before .before .before .args .years .now)) ((2 + 2 * length (c .before .before .before .before .before .before .before .before .before .before .before .before .before .before .before .before .before .before .before .before .before .before .before .before .before .before .before .before .args .years .now)) + (2 + 4 * length (c .before .before .before .before .before .before .before .before .before .before .before .before .before .before .before .before .before .before .before .before .before .before .before .before .before .before .before .before .args .months .now))) refl refl
-    (laid-section yearItems (c .before .before .before .before .before .before .before .before .before .before .before .before .before .before .before .before .before .before .before .before .before .before .before .before .before .before .before .before .args .years .now) (c .before .before .before .before .before .before .before .before .before .before .before .before .before .before .before .before .before .before .before .before .before .before .before .before .before .before .before .before .args .out .now) _ _ 0 2 (omega arith) (c .before .before .before .before .before .before .before .before .before .before .before .before .before .before .before .before .before .before .before .before .before .before .lay-number .ensures) (c .before .before .before .before .before .before .before .before .before .before .before .before .before .before .before .before .before .before .lay-two .ensures))
-    (laid-section monthItems (c .before .before .before .before .before .before .before .before .before .before .before .before .before .before .before .before .before .before .before .before .before .before .before .before .before .before .before .before .args .months .now) _ _ _ (2 + 2 * length (c .before .before .before .before .before .before .before .before .before .before .before .before .before .before .before .before .before .before .before .before .before .before .before .before .before .before .before .before .args .years .now)) ((2 + 2 * length (c .before .before .before .before .before .before .before .before .before .before .before .before .before .before .before .before .before .before .before .before .before .before .before .before .before .before .before .before .args .years .now)) + 2) (omega arith) (c .before .before .before .before .before .before .before .before .before .before .before .before .before .before .lay-number2 .ensures) (c .before .before .before .before .before .before .before .before .before .before .lay-four .ensures))
-    (laid-section dayItems (c .before .before .before .before .before .before .before .before .before .before .before .before .before .before .before .before .before .before .before .before .before .before .before .before .before .before .before .before .args .days .now) _ _ _ ((2 + 2 * length (c .before .before .before .before .before .before .before .before .before .before .before .before .before .before .before .before .before .before .before .before .before .before .before .before .before .before .before .before .args .years .now)) + (2 + 4 * length (c .before .before .before .before .before .before .before .before .before .before .before .before .before .before .before .before .before .before .before .before .before .before .before .before .before .before .before .before .args .months .now))) (((2 + 2 * length (c .before .before .before .before .before .before .before .before .before .before .before .before .before .before .before .before .before .before .before .before .before .before .before .before .before .before .before .before .args .years .now)) + (2 + 4 * length (c .before .before .before .before .before .before .before .before .before .before .before .before .before .before .before .before .before .before .before .before .before .before .before .before .before .before .before .before .args .months .now))) + 2) (omega arith) (c .before .before .before .before .before .before .lay-number3 .ensures) (c .before .before .lay-four2 .ensures))
+    let c28 = c .before .before .before .before .before .before .before .before .before .before .before .before .before .before .before .before .before .before .before .before .before .before .before .before .before .before .before .before in
+    laid-sheet (record { years = c28 .args .years .now; months = c28 .args .months .now; days = c28 .args .days .now }) (c28 .args .out .now) _ _ _ (2 + 2 * length (c28 .args .years .now)) ((2 + 2 * length (c28 .args .years .now)) + (2 + 4 * length (c28 .args .months .now))) refl refl
+    (laid-section yearItems (c28 .args .years .now) (c28 .args .out .now) _ _ 0 2 (omega arith) (c .before .before .before .before .before .before .before .before .before .before .before .before .before .before .before .before .before .before .before .before .before .before .lay-number .ensures) (c .before .before .before .before .before .before .before .before .before .before .before .before .before .before .before .before .before .before .lay-two .ensures))
+    (laid-section monthItems (c28 .args .months .now) _ _ _ (2 + 2 * length (c28 .args .years .now)) ((2 + 2 * length (c28 .args .years .now)) + 2) (omega arith) (c .before .before .before .before .before .before .before .before .before .before .before .before .before .before .lay-number2 .ensures) (c .before .before .before .before .before .before .before .before .before .before .lay-four .ensures))
+    (laid-section dayItems (c28 .args .days .now) _ _ _ ((2 + 2 * length (c28 .args .years .now)) + (2 + 4 * length (c28 .args .months .now))) (((2 + 2 * length (c28 .args .years .now)) + (2 + 4 * length (c28 .args .months .now))) + 2) (omega arith) (c .before .before .before .before .before .before .lay-number3 .ensures) (c .before .before .lay-four2 .ensures))
 
 pub lay-sheet-spec : {M : Type 1} → statement M
 lay-sheet-spec =

@@ -36,7 +36,10 @@ loop-less : tie.Need-loop-less Inv-loop μ-loop
 loop-less c = omega arith
 
 loop-again : tie.Need-loop-again Inv-loop μ-loop
-loop-again c = (omega arith, turn (c .before .before .before .args .width) (c .before .before .loop .i) (c .before .before .loop .x) (c .before .before .before .args .s .now) (omega arith) (omega arith) (omega (arith, c .shared-slice-known .given (c .before .before .loop .i - 1))) (c .before .before .loop .inv .1), turn-low (c .before .before .before .args .width) (c .before .before .loop .i) (c .before .before .loop .x) (c .before .before .before .args .s .now) (omega arith) (omega arith) (omega (arith, c .shared-slice-known .given (c .before .before .loop .i - 1))) (c .before .before .loop .inv .2))
+loop-again c =
+    let c2 = c .before .before in
+    let c3 = c .before .before .before in
+    (omega arith, turn (c3 .args .width) (c2 .loop .i) (c2 .loop .x) (c3 .args .s .now) (omega arith) (omega arith) (omega (arith, c .shared-slice-known .given (c2 .loop .i - 1))) (c2 .loop .inv .1), turn-low (c3 .args .width) (c2 .loop .i) (c2 .loop .x) (c3 .args .s .now) (omega arith) (omega arith) (omega (arith, c .shared-slice-known .given (c2 .loop .i - 1))) (c2 .loop .inv .2))
 
 returns : tie.Need-returns Inv-loop μ-loop
 returns c = all-read (c .before .before .args .width) (c .before .loop .i) (c .before .loop .x) (c .before .before .args .s .now) (c .loop-test .left) (c .before .loop .inv .1) (c .before .loop .inv .2)

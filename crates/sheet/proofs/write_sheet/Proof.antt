@@ -19,19 +19,30 @@ enum-known-n : tie.Need-enum-known-n
 enum-known-n c = search needs
 
 returns : tie.Need-returns
-returns c = write-refused (c .before .before .before .before .before .before .before .before .before .args .years .now) (c .before .before .before .before .before .before .before .before .before .args .months .now) (c .before .before .before .before .before .before .before .before .before .args .days .now) (c .before .before .before .before .before .before .before .before .before .args .out .now) LentTooShort (write-short (c .before .before .before .before .before .before .before .before .before .args .years .now) (c .before .before .before .before .before .before .before .before .before .args .months .now) (c .before .before .before .before .before .before .before .before .before .args .days .now) (c .before .before .before .before .before .before .before .before .before .args .out .now) (c .before .before .n .given .0 .0) (sym (c .before .before .before .before .size-of-sheet .ensures) ∙ ap saidHowMany (c .before .before .n .given .1)) (omega arith))
+returns c =
+    let c2 = c .before .before in
+    let c9 = c .before .before .before .before .before .before .before .before .before in
+    write-refused (c9 .args .years .now) (c9 .args .months .now) (c9 .args .days .now) (c9 .args .out .now) LentTooShort (write-short (c9 .args .years .now) (c9 .args .months .now) (c9 .args .days .now) (c9 .args .out .now) (c2 .n .given .0 .0) (sym (c .before .before .before .before .size-of-sheet .ensures) ∙ ap saidHowMany (c2 .n .given .1)) (omega arith))
 
 lay-sheet-requires : tie.Need-lay-sheet-requires
-lay-sheet-requires c κs = to-lay (c .before .before .before .before .before .before .before .before .before .before .args .years .now) (c .before .before .before .before .before .before .before .before .before .before .args .months .now) (c .before .before .before .before .before .before .before .before .before .before .args .days .now) (c .before .before .before .before .before .before .before .before .before .before .args .out .now) (c .before .before .before .n .given .0 .0) (sym (c .before .before .before .before .before .size-of-sheet .ensures) ∙ ap saidHowMany (c .before .before .before .n .given .1)) (omega arith)
+lay-sheet-requires c κs =
+    let c3 = c .before .before .before in
+    let c10 = c .before .before .before .before .before .before .before .before .before .before in
+    to-lay (c10 .args .years .now) (c10 .args .months .now) (c10 .args .days .now) (c10 .args .out .now) (c3 .n .given .0 .0) (sym (c .before .before .before .before .before .size-of-sheet .ensures) ∙ ap saidHowMany (c3 .n .given .1)) (omega arith)
 
 returns-2 : tie.Need-returns-2
-returns-2 c = write-refused (c .before .before .before .before .before .before .before .before .args .years .now) (c .before .before .before .before .before .before .before .before .args .months .now) (c .before .before .before .before .before .before .before .before .args .days .now) (c .before .before .before .before .before .before .before .before .args .out .now) (c .before .r .given .0 .0) (write-bad (c .before .before .before .before .before .before .before .before .args .years .now) (c .before .before .before .before .before .before .before .before .args .months .now) (c .before .before .before .before .before .before .before .before .args .days .now) (c .before .before .before .before .before .before .before .before .args .out .now) (reasonNumber (c .before .r .given .0 .0)) (sym (c .before .before .before .size-of-sheet .ensures) ∙ ap saidHowMany (c .before .r .given .1)))
+returns-2 c =
+    let c8 = c .before .before .before .before .before .before .before .before in
+    write-refused (c8 .args .years .now) (c8 .args .months .now) (c8 .args .days .now) (c8 .args .out .now) (c .before .r .given .0 .0) (write-bad (c8 .args .years .now) (c8 .args .months .now) (c8 .args .days .now) (c8 .args .out .now) (reasonNumber (c .before .r .given .0 .0)) (sym (c .before .before .before .size-of-sheet .ensures) ∙ ap saidHowMany (c .before .r .given .1)))
 
 same-length : tie.Need-same-length
 same-length c = search needs
 
 returns-3 : tie.Need-returns-3
-returns-3 c = write-laid (c .before .before .before .before .before .before .before .before .before .before .before .before .before .args .years .now) (c .before .before .before .before .before .before .before .before .before .before .before .before .before .args .months .now) (c .before .before .before .before .before .before .before .before .before .before .before .before .before .args .days .now) (c .before .before .before .before .before .before .before .before .before .before .before .before .before .args .out .now) (c .before .before .before .before .before .before .n .given .0 .0) (sym (c .before .before .before .before .before .before .before .before .size-of-sheet .ensures) ∙ ap saidHowMany (c .before .before .before .before .before .before .n .given .1)) (omega arith) _ (c .before .before .lay-sheet .ensures)
+returns-3 c =
+    let c6 = c .before .before .before .before .before .before in
+    let c13 = c .before .before .before .before .before .before .before .before .before .before .before .before .before in
+    write-laid (c13 .args .years .now) (c13 .args .months .now) (c13 .args .days .now) (c13 .args .out .now) (c6 .n .given .0 .0) (sym (c .before .before .before .before .before .before .before .before .size-of-sheet .ensures) ∙ ap saidHowMany (c6 .n .given .1)) (omega arith) _ (c .before .before .lay-sheet .ensures)
 
 pub write-sheet-spec : {M : Type 1} → statement M
 write-sheet-spec =
