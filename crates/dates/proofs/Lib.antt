@@ -1,3 +1,4 @@
+-- Laws of named months and of days, and the proofs of the statements.
 pub mod Named
 pub mod Days
 pub mod Paper

@@ -1,1 +1,2 @@
+-- The proof of the known dates.
 pub mod Known

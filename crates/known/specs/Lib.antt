@@ -1,1 +1,2 @@
+-- The paper's known dates as one table.
 pub mod Known

@@ -1,3 +1,4 @@
+-- Laws of runs of days, of tests and of answers, and the proofs of the statements.
 pub mod Runs
 pub mod Fits
 pub mod Answered

@@ -1,3 +1,4 @@
+-- The laws of the rule by topic, the laws of answers and lists, and the proofs of the paper's sentences.
 pub mod Lists
 pub mod Calendar
 pub mod Counts

@@ -1,3 +1,4 @@
+-- Laws of numbers in bytes, of reading, filling and writing, and the proofs of the statements.
 pub mod Numbers
 pub mod Reading
 pub mod Filling

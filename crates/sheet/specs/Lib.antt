@@ -1,3 +1,4 @@
+-- The sheet: definitions, promises, and statements.
 pub mod Sheet
 pub mod Promises
 pub mod Steps

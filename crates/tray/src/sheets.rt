@@ -52,36 +52,36 @@ pub fn write(years: &[u16], months: &[u32], days: &[u32]) {
 
 // Reason 9: a count or an item that is not whole.
 pub fn cut() {
-    read(&[0u8; 0]);
-    read(&[0u8; 1]);
-    read(&[0u8; 5]);
-    read(&[0u8; 6]);
-    read(&[1u8, 0, 11]);
-    read(&[0u8, 0, 1, 0, 134, 0, 0]);
-    read(&[0u8, 0, 0, 0, 1, 0, 0, 0, 0]);
+    read(b"");
+    read(b"\x00");
+    read(b"\x00\x00\x00\x00\x00");
+    read(b"\x00\x00\x00\x00\x00\x00");
+    read(b"\x01\x00\x0b");
+    read(b"\x00\x00\x01\x00\x86\x00\x00");
+    read(b"\x00\x00\x00\x00\x01\x00\x00\x00\x00");
 }
 
 // Reasons 10, 1, 7 and 6, just outside and just inside.
 pub fn ranges() {
-    read(&[232u8, 3]);
-    read(&[233u8, 3]);
-    read(&[1u8, 0, 0, 0, 0, 0, 0, 0]);
-    read(&[1u8, 0, 80, 160, 0, 0, 0, 0]);
-    read(&[1u8, 0, 81, 160, 0, 0, 0, 0]);
-    read(&[0u8, 0, 1, 0, 207, 190, 7, 0, 0, 0]);
-    read(&[0u8, 0, 1, 0, 208, 190, 7, 0, 0, 0]);
-    read(&[0u8, 0, 0, 0, 1, 0, 35, 186, 228, 0]);
-    read(&[0u8, 0, 0, 0, 1, 0, 36, 186, 228, 0]);
+    read(b"\xe8\x03");
+    read(b"\xe9\x03");
+    read(b"\x01\x00\x00\x00\x00\x00\x00\x00");
+    read(b"\x01\x00\x50\xa0\x00\x00\x00\x00");
+    read(b"\x01\x00\x51\xa0\x00\x00\x00\x00");
+    read(b"\x00\x00\x01\x00\xcf\xbe\x07\x00\x00\x00");
+    read(b"\x00\x00\x01\x00\xd0\xbe\x07\x00\x00\x00");
+    read(b"\x00\x00\x00\x00\x01\x00\x23\xba\xe4\x00");
+    read(b"\x00\x00\x00\x00\x01\x00\x24\xba\xe4\x00");
 }
 
 // Reasons 11 and 12, and the order: an earlier fault in byte order is told before 11, and 11 before 12.
 pub fn ends() {
-    read(&[0u8, 0, 0, 0, 0, 0, 0]);
-    read(&[2u8, 0, 11, 0, 12, 0, 0, 0, 0, 0]);
-    read(&[3u8, 0, 11, 0, 12, 0, 13, 0, 0, 0, 0, 0]);
-    read(&[3u8, 0, 11, 0, 12, 0, 13, 0, 0, 0, 0, 0, 0]);
-    read(&[3u8, 0, 11, 0, 0, 0, 13, 0, 0, 0, 0, 0, 0]);
-    read(&[0u8, 0, 0, 0, 233, 3, 0]);
+    read(b"\x00\x00\x00\x00\x00\x00\x00");
+    read(b"\x02\x00\x0b\x00\x0c\x00\x00\x00\x00\x00");
+    read(b"\x03\x00\x0b\x00\x0c\x00\x0d\x00\x00\x00\x00\x00");
+    read(b"\x03\x00\x0b\x00\x0c\x00\x0d\x00\x00\x00\x00\x00\x00");
+    read(b"\x03\x00\x0b\x00\x00\x00\x0d\x00\x00\x00\x00\x00\x00");
+    read(b"\x00\x00\x00\x00\xe9\x03\x00");
 }
 
 // Writing: 1, 7, 6 and 12, just outside and just inside.
