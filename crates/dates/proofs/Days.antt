@@ -28,13 +28,13 @@ made d n y s len dn yn m a b e f g h i = cc
 pub day-in-range : (n m : ℕ) → MonthInRange n → 1 ≤ m → m ≤ monthLength n → DayInRange (monthStart n + (m - 1))
 day-in-range n m r l h = omega (arith, start-next n, start-end (n + 1) (omega arith))
 
-pub thirtieth : (n m : ℕ) → monthLength n < m → dayInMonth n m ≡ refused 5
-unfolding dayInMonth
-thirtieth n m h = stops (leb m (monthLength n)) 5 (is (monthStart n + (m - 1))) (lt-leb m (monthLength n) h)
-
 pub in-month : (n m : ℕ) → m ≤ monthLength n → dayInMonth n m ≡ is (monthStart n + (m - 1))
 unfolding dayInMonth
 in-month n m h = passes (leb m (monthLength n)) 5 (is (monthStart n + (m - 1))) (le-leb m (monthLength n) h)
+
+pub thirtieth : (n m : ℕ) → monthLength n < m → dayInMonth n m ≡ refused 5
+unfolding dayInMonth
+thirtieth n m h = stops (leb m (monthLength n)) 5 (is (monthStart n + (m - 1))) (lt-leb m (monthLength n) h)
 
 pub no-day : (d : ℕ) → 14989859 < d → dateAt d ≡ refused 6
 unfolding dateAt

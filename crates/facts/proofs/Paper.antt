@@ -79,8 +79,8 @@ reasons-of-facts =
           };
       terms = λ y k.
           record {
-            given = two-given (within 1 41040 y) (leb k 23) 1 15 (omega arith) (termDay (yearTerm y k)) (within-true 1 41040 y) (at-most k 23);
             one = two-first (within 1 41040 y) (leb k 23) 1 15 (omega arith) (termDay (yearTerm y k)) (within-true 1 41040 y) (at-most k 23);
+            given = two-given (within 1 41040 y) (leb k 23) 1 15 (omega arith) (termDay (yearTerm y k)) (within-true 1 41040 y) (at-most k 23);
             fifteen = two-second (within 1 41040 y) (leb k 23) 1 15 (omega arith) (termDay (yearTerm y k)) (within-true 1 41040 y) (at-most k 23);
           };
     }

@@ -14,11 +14,11 @@ use Rattle.moves.specs.declared.Way.{Way}
 use Rattle.moves.specs.declared.Way.the-variants.{On, Back}
 use Rattle.moves.specs.Moves.{landed, moved, wayOf, signed, stepped}
 
-pub lands : (d : ℕ) → DayInRange d → landed (pos d) ≡ is (dateOf d)
-lands d h = passes (leb d 14989859) 8 (is (dateOf d)) (le-leb d 14989859 h)
-
 pub lands-out : (d : ℕ) → 14989859 < d → landed (pos d) ≡ refused 8
 lands-out d h = stops (leb d 14989859) 8 (is (dateOf d)) (lt-leb d 14989859 h)
+
+pub lands : (d : ℕ) → DayInRange d → landed (pos d) ≡ is (dateOf d)
+lands d h = passes (leb d 14989859) 8 (is (dateOf d)) (le-leb d 14989859 h)
 
 pub on-out : (d n : ℕ) → 14989859 < d + n → stepped d (On n) ≡ refused 8
 unfolding stepped
