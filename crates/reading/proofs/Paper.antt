@@ -124,6 +124,11 @@ fits-literally r d = (λ e. there (six .0 e), λ h. six .1 (back h))
       (h .day-of-month, h .day-name),
     )
 
+-- all six unread: every day fits
+all-fit : (first k : ℕ) → fitting allUnread first k ≡ those (λ n. true) first k
+unfolding fitting fits monthFits dayFits
+all-fit first k = those-same (fits allUnread) (λ n. true) first k (λ i h. refl)
+
 -- a fitting day of the window has a place in the list
 listed-at : (r : Reading) (first last d : ℕ) → first ≤ d → d ≤ last → ReadingFits r d →
     (i : ℕ) × (i < length (fitting r first (windowDays first last))) × (getD (fitting r first (windowDays first last)) i 0 ≡ d)
@@ -178,11 +183,6 @@ refusal-changes-nothing =
       refused-one = λ r first last old new why s. s .lent ∙ ap (λ (x : Answer ℕ). listAfter x (fitting r first (windowDays first last)) old) (sym (s .answered));
       too-short = λ r first last n old new s. s .lent ∙ ap (λ (x : Answer ℕ). listAfter x (fitting r first (windowDays first last)) old) (sym (s .answered));
     }
-
--- all six unread: every day fits
-all-fit : (first k : ℕ) → fitting allUnread first k ≡ those (λ n. true) first k
-unfolding fitting fits monthFits dayFits
-all-fit first k = those-same (fits allUnread) (λ n. true) first k (λ i h. refl)
 
 pub unread-lists-all : Paper.Unread-lists-all
 unread-lists-all =
