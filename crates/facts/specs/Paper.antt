@@ -54,8 +54,8 @@ pub record QuarterReasons (n q : ℕ) : Type 0 where
   pub fifteen : (quarterAt n q ≡ refused 15) ↔ (MonthInRange n × (q ≤ 3 → ⊥))
 
 pub record TermReasons (y k : ℕ) : Type 0 where
-  pub given : (termAt y k ≡ is (termDay (yearTerm y k))) ↔ (YearInRange y × (k ≤ 23))
   pub one : (termAt y k ≡ refused 1) ↔ (YearInRange y → ⊥)
+  pub given : (termAt y k ≡ is (termDay (yearTerm y k))) ↔ (YearInRange y × (k ≤ 23))
   pub fifteen : (termAt y k ≡ refused 15) ↔ (YearInRange y × (k ≤ 23 → ⊥))
 
 pub record Reasons-of-facts : Type 0 where
