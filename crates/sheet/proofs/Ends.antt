@@ -14,6 +14,7 @@ use Rattle.rule.specs.Reasons.{Answer, is, refused, refused-with, andThen, reas
 use Rattle.rule.proofs.Answers.{holds-all}
 use Rattle.sheet.specs.declared.Section.{Section}
 use Rattle.sheet.specs.Sheet.{number, itemHolds, itemsRead, countOf, countRead, sectionRead, leftAfter}
+use Rattle.sheet.proofs.Numbers.{number-append}
 use Rattle.sheet.proofs.Reading.{
   count-is,
   count-cut,
@@ -23,13 +24,6 @@ use Rattle.sheet.proofs.Reading.{
   SectionLies,
   section-lies,
 }
-
--- a number does not look past its bytes
-pub number-append : (w : ℕ) (p q : List ℕ) → w ≤ length p → number w (p ++ q) ≡ number w p
-unfolding number
-number-append zero p q h = refl
-number-append (suc w) [] q h = absurd (omega arith)
-number-append (suc w) (x ∷ p) q h = ap (λ (n : ℕ). x + 256 * n) (number-append w p q (omega arith))
 
 -- what a part p of the bytes p ++ q says of n items that are good in p ++ q: it ends early, or they are good in it too
 module _ (k : Section) where

@@ -7,6 +7,7 @@ use mathlib.Core.Path.{_≡_, refl, ap, sym, _∙_}
 use mathlib.Core.List.{List, [], _∷_, _++_}
 use lib.ListN.{length, getD, take, drop, set, length-append, length-set, length-drop, drop-of-length-le}
 use lib.Seq.{sets, sets-eq, length-sets, drop-cons}
+use Rattle.sheet.proofs.Numbers.{length-lay}
 use Rattle.sheet.proofs.Reading.{part-all}
 use Rattle.rule.specs.Lists.{placed}
 use Rattle.sheet.specs.Sheet.{number, numbers, lay, layAll, yearItems, monthItems, dayItems, laySection, Lists, sheetOf}
@@ -50,11 +51,6 @@ lay-turn at i w x out h =
 pub lay-end : (p i w x : ℕ) (out : List ℕ) → w ≤ i → sets out p (lay (w - i) x) ≡ out
 unfolding lay
 lay-end p i w x out h = let e : w - i ≡ 0 = omega arith in rw (e)
-
-pub length-lay : (w x : ℕ) → length (lay w x) ≡ w
-unfolding lay
-length-lay zero x = refl
-length-lay (suc w) x = ap suc (length-lay w (x / 256))
 
 pub length-layAll : (w : ℕ) (xs : List ℕ) → length (layAll w xs) ≡ w * length xs
 unfolding layAll

@@ -1,17 +1,47 @@
 -- Laws of numbers in bytes, over the width. Assumes nothing.
-use Prim.Native.Nat.{ℕ, zero, suc, _+_, _-_, _*_, _^_, _≤_, _<_}
+use Prim.Native.Nat.{ℕ, zero, suc, _+_, _-_, _*_, _/_, _%_, _^_, _≤_, _<_}
 use native.Mathlib.Nat.{pow-suc, add-zero}
 use native.Mathlib.Omega.{arith}
-use mathlib.Core.Path.{_≡_, ap}
-use mathlib.Core.List.{List}
-use lib.ListN.{getD, drop}
+use mathlib.Core.Path.{_≡_, refl, ap}
+use mathlib.Core.List.{List, [], _∷_, _++_}
+use lib.ListN.{length, getD, drop}
 use lib.Seq.{getD-drop, drop-drop}
-use Rattle.sheet.specs.Sheet.{number}
+use Rattle.sheet.specs.Sheet.{number, lay}
+
+-- least byte first: two bytes and four, read; and two, laid
+pub two-read : (a b : ℕ) → number 2 (a ∷ b ∷ []) ≡ a + 256 * b
+unfolding number
+two-read a b = omega arith
+
+pub four-read : (a b c d : ℕ) → number 4 (a ∷ b ∷ c ∷ d ∷ []) ≡ a + 256 * b + 65536 * c + 16777216 * d
+unfolding number
+four-read a b c d = omega arith
+
+pub two-laid : (x : ℕ) → lay 2 x ≡ (x % 256) ∷ (x / 256 % 256) ∷ []
+unfolding lay
+two-laid x = refl
+
+pub four-laid : (x : ℕ) → lay 4 x ≡ (x % 256) ∷ (x / 256 % 256) ∷ (x / 256 / 256 % 256) ∷ (x / 256 / 256 / 256 % 256) ∷ []
+unfolding lay
+four-laid x = refl
 
 -- one byte more in front
 pub number-more : (w i : ℕ) (s : List ℕ) → number (suc w) (drop i s) ≡ getD s i 0 + 256 * number w (drop (i + 1) s)
 unfolding number
 number-more w i s = rw (getD-drop i s 0 0, drop-drop 1 i s, add-zero i)
+
+-- a number does not look past its bytes
+pub number-append : (w : ℕ) (p q : List ℕ) → w ≤ length p → number w (p ++ q) ≡ number w p
+unfolding number
+number-append zero p q h = refl
+number-append (suc w) [] q h = absurd (omega arith)
+number-append (suc w) (x ∷ p) q h = ap (λ (n : ℕ). x + 256 * n) (number-append w p q (omega arith))
+
+-- a number laid in w bytes has w of them
+pub length-lay : (w x : ℕ) → length (lay w x) ≡ w
+unfolding lay
+length-lay zero x = refl
+length-lay (suc w) x = ap suc (length-lay w (x / 256))
 
 -- up to three bytes
 pub up-to-three : (n : ℕ) → n ≤ 3 → 256 ^ n ≤ 16777216

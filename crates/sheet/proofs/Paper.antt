@@ -66,6 +66,7 @@ use Rattle.sheet.proofs.Faults.{
   reason-iff,
   given-iff,
 }
+use Rattle.sheet.proofs.Numbers.{two-read, four-read, two-laid, four-laid}
 use Rattle.sheet.proofs.RoundTrip.{bytes-drop, Fit, section-back, section-again}
 use Rattle.sheet.proofs.Sheets.{
   sheet-lies,
@@ -102,6 +103,9 @@ unique-reading s y m d a b y₁ m₁ d₁ y₂ m₂ d₂ p q =
 
 pub unique-writing : Paper.Unique-writing
 unique-writing y m d o a b o₁ o₂ p q = (how-many-once a b (p .answer ∙ sym (q .answer)), p .buffer ∙ sym (q .buffer))
+
+pub least-byte-first : Paper.Least-byte-first
+least-byte-first = record { two = two-read; four = four-read; laid-in-two = two-laid; laid-in-four = four-laid }
 
 pub empty-sheet : Paper.Empty-sheet
 unfolding readSheet sheetRead monthsRead daysRead sectionRead countRead itemsRead number listsIn itemsOf leftAfter numbers

@@ -31,7 +31,8 @@ use Rattle.sheet.specs.Sheet.{
 use Rattle.sheet.specs.Paper.{AreBytes}
 use Rattle.sheet.proofs.Reading.{count-is, count-good, section-counted}
 use Rattle.sheet.proofs.Sheets.{length-numbers}
-use Rattle.sheet.proofs.Filling.{length-lay, length-layAll}
+use Rattle.sheet.proofs.Numbers.{length-lay}
+use Rattle.sheet.proofs.Filling.{length-layAll}
 
 -- a number laid in bytes is read, and bytes read as a number are laid again
 pub number-lay : (w x : ℕ) (t : List ℕ) → x < 256 ^ w → number w (lay w x ++ t) ≡ x

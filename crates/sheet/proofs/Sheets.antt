@@ -144,9 +144,19 @@ abbrev pub fits : Counted → ℕ → ℕ → ℕ → Bool
 fits c y m d = leb (c .years) y && leb (c .months) m && leb (c .days) d
 
 module _ (s y m d : List ℕ) where
+  -- a lent list stays as it was where reading is refused
+  kept : (r : ℕ) → readInto s (length y) (length m) (length d) ≡ refused r → (f : Lists → List ℕ) (old : List ℕ) → old ≡ afterwards (readInto s (length y) (length m) (length d)) f old
+  kept r h f old = sym (ap (λ (a : Answer Lists). afterwards a f old) h)
+
   -- each way that reading is refused
   pub read-refused : (r : Reason) → readInto s (length y) (length m) (length d) ≡ refused (reasonNumber r) → ReadingSheet s y m d (Counts'.Refused r) y m d
-  read-refused r h = record { answer = rw (h); years = rw (h); months = rw (h); days = rw (h) }
+  read-refused r h =
+      record {
+        answer = rw (h);
+        years = kept (reasonNumber r) h (λ l. l .years) y;
+        months = kept (reasonNumber r) h (λ l. l .months) m;
+        days = kept (reasonNumber r) h (λ l. l .days) d;
+      }
 
   pub read-bad : (r : ℕ) → sheetRead s (is (countsIn s)) ≡ refused r → readInto s (length y) (length m) (length d) ≡ refused r
   unfolding readInto

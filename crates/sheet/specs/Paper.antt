@@ -1,6 +1,6 @@
 -- What the paper says of the sheet, as statements. proofs/Paper.antt proves each under the same name in small letters.
 -- Assumes nothing.
-use Prim.Native.Nat.{ℕ, _+_, _*_, _≤_, _<_}
+use Prim.Native.Nat.{ℕ, _+_, _*_, _/_, _%_, _≤_, _<_}
 use mathlib.Core.Path.{_≡_}
 use mathlib.Core.Logic.{_↔_}
 use mathlib.Core.List.{List, [], _∷_, _++_}
@@ -16,6 +16,7 @@ use Rattle.sheet.specs.declared.HowMany.the-variants as HowMany'
 use Rattle.rule.specs.Lists.{placed}
 use Rattle.sheet.specs.Sheet.{
   number,
+  lay,
   yearItems,
   monthItems,
   dayItems,
@@ -32,6 +33,13 @@ use Rattle.sheet.specs.Sheet.{
   writeInto,
 }
 use Rattle.sheet.specs.Promises.{counted, ReadingSheet, WritingSheet}
+
+-- "Numbers are least byte first", of the two bytes of a year or a count and the four of a month or a day, read and laid
+pub record Least-byte-first : Type 0 where
+  pub two : (a b : ℕ) → number 2 (a ∷ b ∷ []) ≡ a + 256 * b
+  pub four : (a b c d : ℕ) → number 4 (a ∷ b ∷ c ∷ d ∷ []) ≡ a + 256 * b + 65536 * c + 16777216 * d
+  pub laid-in-two : (x : ℕ) → lay 2 x ≡ (x % 256) ∷ (x / 256 % 256) ∷ []
+  pub laid-in-four : (x : ℕ) → lay 4 x ≡ (x % 256) ∷ (x / 256 % 256) ∷ (x / 256 / 256 % 256) ∷ (x / 256 / 256 / 256 % 256) ∷ []
 
 -- the numbers of a list of bytes
 abbrev pub AreBytes : List ℕ → Type 0
