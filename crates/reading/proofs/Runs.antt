@@ -11,18 +11,10 @@ use Rattle.rule.specs.Counts.{MonthInRange}
 use Rattle.rule.specs.Lists.{kept, those, placed}
 use Rattle.rule.specs.Rule.{monthStart, monthOfDay}
 use Rattle.rule.proofs.Lists.{bit, complement, length-kept, those-same, none-pass, empty, from-to, one-more}
+use Rattle.rule.proofs.Stores.{sets-append}
 use Rattle.rule.proofs.Months.{of-day-only, of-day-low, of-day-high, start-least, start-most, start-inside}
 use Rattle.reading.specs.declared.Reading.{Reading}
 use Rattle.reading.specs.Readings.{monthFits, dayFits, fits, PartOfMonth, fitting}
-
--- stores one after the other
-pub sets-append : (xs ys l : List ℕ) (i : ℕ) → sets l i (xs ++ ys) ≡ sets (sets l i xs) (i + length xs) ys
-sets-append [] ys l i = ap (λ (n : ℕ). sets l n ys) (sym (add-zero i))
-sets-append (x ∷ xs) ys l i =
-    sets-append xs ys (set l i x) (suc i) ∙ ap (λ (n : ℕ). sets (sets (set l i x) (suc i) xs) n ys) (omega arith)
-
-pub placed-sets : (xs l : List ℕ) → length xs ≤ length l → sets l 0 xs ≡ placed xs l
-placed-sets xs l h = sets-eq xs l 0 (omega arith) ∙ ap (λ (n : ℕ). xs ++ drop n l) (zero-add (length xs))
 
 -- the days of a part of a month: its own four values are looked at once
 module _ (r : Reading) (n from to : ℕ) (h : PartOfMonth n from to) where

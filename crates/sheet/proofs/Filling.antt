@@ -9,20 +9,9 @@ use lib.ListN.{length, getD, take, drop, set, length-append, length-set, length-
 use lib.Seq.{sets, sets-eq, length-sets, drop-cons}
 use Rattle.sheet.proofs.Numbers.{length-lay}
 use Rattle.sheet.proofs.Reading.{part-all}
-use Rattle.rule.specs.Lists.{placed}
+use Rattle.rule.proofs.Stores.{sets-append}
 use Rattle.sheet.specs.Sheet.{number, numbers, lay, layAll, yearItems, monthItems, dayItems, laySection, Lists, sheetOf}
 use Rattle.sheet.specs.declared.Section.{Section}
-
--- one run after the other
-pub sets-append : (l : List ℕ) (i : ℕ) (xs ys : List ℕ) → sets l i (xs ++ ys) ≡ sets (sets l i xs) (i + length xs) ys
-sets-append l i [] ys = ap (λ (j : ℕ). sets l j ys) (sym (add-zero i))
-sets-append l i (x ∷ xs) ys =
-    sets-append (set l i x) (suc i) xs ys
-    ∙ ap (λ (j : ℕ). sets (sets (set l i x) (suc i) xs) j ys) (suc-add i (length xs) ∙ sym (add-suc i (length xs)))
-
--- a run from the front, with room for it
-pub from-front : (xs old : List ℕ) → length xs ≤ length old → sets old 0 xs ≡ placed xs old
-from-front xs old h = let e : 0 + length xs ≡ length xs = omega arith in sets-eq xs old 0 (omega arith) ∙ ap (λ (j : ℕ). xs ++ drop j old) e
 
 -- the next of m numbers of w bytes, stored at i
 module _ (w m j : ℕ) (e : m ≡ suc j) (t out : List ℕ) (i : ℕ) where
@@ -64,7 +53,7 @@ module _ (w : ℕ) (xs : List ℕ) (i : ℕ) (h : i < length xs) (out : List ℕ
   lay-item =
       rw (drop-cons xs i 0 h, add-one i)
       (ap (λ (j : ℕ). sets (sets out p (lay w (getD xs i 0))) j (layAll w (drop (suc i) xs))) (ap (λ (j : ℕ). p + j) (sym (length-lay w (getD xs i 0))))
-      ∙ sym (sets-append out p (lay w (getD xs i 0)) (layAll w (drop (suc i) xs))))
+      ∙ sym (sets-append (lay w (getD xs i 0)) (layAll w (drop (suc i) xs)) out p))
 
 pub lay-no-item : (w : ℕ) (xs : List ℕ) (i : ℕ) → length xs ≤ i → (out : List ℕ) (p : ℕ) → sets out p (layAll w (drop i xs)) ≡ out
 unfolding layAll
@@ -147,7 +136,7 @@ laid-section k xs o o₁ o₂ p q e h₁ h₂ =
     h₂
     ∙ ap (λ (l : List ℕ). sets l q (layAll (k .width) xs)) h₁
     ∙ ap (λ (j : ℕ). sets (sets o p (lay 2 (length xs))) j (layAll (k .width) xs)) (sym f)
-    ∙ sym (sets-append o p (lay 2 (length xs)) (layAll (k .width) xs))
+    ∙ sym (sets-append (lay 2 (length xs)) (layAll (k .width) xs) o p)
 
 module _ (l : Lists) (o o₁ o₂ o₃ : List ℕ) (m d : ℕ) where
   pub laid-sheet : m ≡ 2 + 2 * length (l .years) → d ≡ m + (2 + 4 * length (l .months)) →
@@ -161,9 +150,9 @@ module _ (l : Lists) (o o₁ o₂ o₃ : List ℕ) (m d : ℕ) where
       let f : m + length n ≡ d = omega (arith, length-section monthItems (l .months)) in
       let w : List ℕ = laySection dayItems (l .days) in
       let z : sets o 0 (y ++ (n ++ w)) ≡ sets (sets (sets o 0 y) m n) d w =
-      sets-append o 0 y (n ++ w)
+      sets-append y (n ++ w) o 0
       ∙ ap (λ (j : ℕ). sets (sets o 0 y) j (n ++ w)) e
-      ∙ sets-append (sets o 0 y) m n w
+      ∙ sets-append n w (sets o 0 y) m
       ∙ ap (λ (j : ℕ). sets (sets (sets o 0 y) m n) j w) f
       in
       h₃ ∙ ap (λ (k : List ℕ). sets k d w) (h₂ ∙ ap (λ (k : List ℕ). sets k m n) h₁) ∙ sym z

@@ -346,7 +346,7 @@ longest-sheet =
     }
 
 -- an answer made of another answer: what it was made of
-made-of : {A B : Type 0} (c : Answer A) (f : A → B) (y : B) → is y ≡ andThen c (λ z. is (f z)) → (z : A) × (c ≡ is z) × (y ≡ f z)
+pub made-of : {A B : Type 0} (c : Answer A) (f : A → B) (y : B) → is y ≡ andThen c (λ z. is (f z)) → (z : A) × (c ≡ is z) × (y ≡ f z)
 made-of {A} {B} (is z) f y h = (z, refl, (let e : _≡_ {A = Answer B} (is y) (is (f z)) = h in cc))
 made-of (refused r) f y h = absurd (let o : _≡_ {A = ℕ} 0 1 = cc in omega arith)
 made-of (refused-with r n) f y h = absurd (let o : _≡_ {A = ℕ} 0 1 = cc in omega arith)
@@ -364,7 +364,7 @@ into-written l n b h =
     go (refused-with r m) p h = absurd (let o : _≡_ {A = ℕ} 0 1 = cc in omega arith)
 
 -- a good sheet is read into lists with room
-read-with-room : (s : List ℕ) (l : Lists) (y m d : ℕ) → readSheet s ≡ is l → length (l .years) ≤ y → length (l .months) ≤ m → length (l .days) ≤ d → readInto s y m d ≡ is l
+pub read-with-room : (s : List ℕ) (l : Lists) (y m d : ℕ) → readSheet s ≡ is l → length (l .years) ≤ y → length (l .months) ≤ m → length (l .days) ≤ d → readInto s y m d ≡ is l
 unfolding readSheet readInto
 read-with-room s l y m d h hy hm hd =
     let e : listsIn s ≡ l = each-read s (listsIn s) l h .1 in
@@ -392,7 +392,7 @@ calls-there-and-back y m d o o′ y₀ m₀ d₀ y′ m′ d′ n r p q hy hm hd
     }
 
 -- a sheet read into lists is read with no lists in mind too
-into-read : (s : List ℕ) (y m d : ℕ) (l : Lists) → readInto s y m d ≡ is l → readSheet s ≡ is l
+pub into-read : (s : List ℕ) (y m d : ℕ) (l : Lists) → readInto s y m d ≡ is l → readSheet s ≡ is l
 unfolding readInto readSheet
 into-read s y m d l h =
     sheet-then s (listsIn s) (is (listsIn s)) ∙ go (sheetRead s (is (listsIn s))) (room (listsIn s) y m d) (sym (sheet-then s (listsIn s) (guard (room (listsIn s) y m d) 12 (is (listsIn s)))) ∙ h)
@@ -414,7 +414,7 @@ write-with-room l b n h r =
     ∙ ap is e
 
 -- the front of a filled list is what it was filled with
-front : (xs old : List ℕ) (n : ℕ) (new : List ℕ) → new ≡ placed xs old → n ≡ length xs → take n new ≡ xs
+pub front : (xs old : List ℕ) (n : ℕ) (new : List ℕ) → new ≡ placed xs old → n ≡ length xs → take n new ≡ xs
 front xs old n new e h = ap (take n) e ∙ take-at xs (drop (length xs) old) n (sym h)
 
 pub calls-back-and-there : Paper.Calls-back-and-there

@@ -41,7 +41,8 @@ use Rattle.sheet.specs.Sheet.{
 use Rattle.sheet.specs.Promises.{counted, countsIn, ReadingSheet, WritingSheet}
 use Rattle.sheet.specs.Steps.{Filling, Filled, RoomToLay, sizeWithDays, sizeWithMonths, sizeWithYears}
 use Rattle.sheet.proofs.Reading.{section-then, SectionLies, section-lies}
-use Rattle.sheet.proofs.Filling.{from-front, length-sheet}
+use Rattle.rule.proofs.Stores.{from-front}
+use Rattle.sheet.proofs.Filling.{length-sheet}
 use Rattle.sheet.proofs.Writing.{list-then, list-few}
 
 -- what follows the sheet does not bear on whether it is good

@@ -7,6 +7,7 @@ use mathlib.Core.List.{List}
 use lib.ListN.{length}
 use lib.Seq.{sets, length-sets}
 use Rattle.reading.specs.Readings.{fitting}
+use Rattle.rule.proofs.Stores.{sets-append, from-front}
 use Rattle.reading.proofs.Runs.{
   Walk,
   walk-starts,
@@ -18,8 +19,6 @@ use Rattle.reading.proofs.Runs.{
   none-fitting,
   fitting-on,
   length-on,
-  sets-append,
-  placed-sets,
 }
 use Rattle.reading.proofs.fill_window.Statement.{statement}
 use Rattle.reading.proofs.fill_window.Tie as tie
@@ -66,7 +65,7 @@ same-length : tie.Need-same-length Inv-loop μ-loop
 same-length c = c .before .loop .inv .2
 
 returns : tie.Need-returns Inv-loop μ-loop
-returns c = c .before .loop .inv .3 ∙ ap (λ (d : ℕ). sets (c .before .before .before .before .args .out .now) 0 (fitting (c .before .before .before .before .args .r) (c .before .before .before .before .args .first) (d - c .before .before .before .before .args .first))) (omega (arith, walk-inside (c .before .before .before .before .args .first) (c .before .before .before .before .args .end) (c .before .loop .day) (c .before .loop .n) (c .before .before .before .before .pre .0) (c .before .loop .inv .0))) ∙ placed-sets (fitting (c .before .before .before .before .args .r) (c .before .before .before .before .args .first) (c .before .before .before .before .args .end - c .before .before .before .before .args .first)) (c .before .before .before .before .args .out .now) (c .before .before .before .before .pre .2)
+returns c = c .before .loop .inv .3 ∙ ap (λ (d : ℕ). sets (c .before .before .before .before .args .out .now) 0 (fitting (c .before .before .before .before .args .r) (c .before .before .before .before .args .first) (d - c .before .before .before .before .args .first))) (omega (arith, walk-inside (c .before .before .before .before .args .first) (c .before .before .before .before .args .end) (c .before .loop .day) (c .before .loop .n) (c .before .before .before .before .pre .0) (c .before .loop .inv .0))) ∙ from-front (fitting (c .before .before .before .before .args .r) (c .before .before .before .before .args .first) (c .before .before .before .before .args .end - c .before .before .before .before .args .first)) (c .before .before .before .before .args .out .now) (c .before .before .before .before .pre .2)
 
 pub fill-window-spec : {M : Type 1} → statement M
 fill-window-spec =

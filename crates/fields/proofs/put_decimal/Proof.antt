@@ -1,0 +1,25 @@
+-- `fields::put_decimal` meets its contract: a number of 32 bits has ten digits at most. Assumes nothing.
+use native.Mathlib.Omega.{arith}
+use Rattle.fields.proofs.Decimals.{decimal-short}
+use Rattle.fields.proofs.Putting.{wide}
+use borrow.Author.Needs.{needs}
+use Rattle.fields.proofs.put_decimal.Statement.{statement}
+use Rattle.fields.proofs.put_decimal.Tie as tie
+use Rattle.fields.proofs.put_decimal.Reads as reads
+use Rattle.fields.proofs.put_decimal.Lts as lts
+use Rattle.fields.proofs.put_digits.Reads as put-digits-reads
+
+-- src/lib.rt:49:5
+put-digits-requires : tie.Need-put-digits-requires
+put-digits-requires c κs = omega (arith, decimal-short 9 (c .before .before .args .n) (omega arith))
+
+-- src/lib.rt:45:1
+same-length : tie.Need-same-length
+same-length c = search needs
+
+-- src/lib.rt:45:1
+returns : tie.Need-returns
+returns c = wide (decimal-short 9 (c .before .before .before .before .before .args .n) (omega arith)) (c .before .before .put-digits .ensures)
+
+pub put-decimal-spec : {M : Type 1} → statement M
+put-decimal-spec = tie.close (tie.spec put-digits-requires same-length returns)

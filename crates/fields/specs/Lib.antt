@@ -1,0 +1,3 @@
+-- The fields of printed lines: definitions, and statements of them.
+pub mod Fields
+pub mod Paper

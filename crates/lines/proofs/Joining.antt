@@ -1,0 +1,27 @@
+-- Laws of texts put one after the other, and of the months that a year lists. Assumes nothing.
+use Prim.Native.Nat.{ℕ, _+_, _≤_}
+use native.Mathlib.Omega.{arith}
+use mathlib.Core.Path.{_≡_, ap}
+use mathlib.Core.List.{List, [], _∷_, _++_, append-assoc}
+use Rattle.rule.specs.Counts.{YearInRange}
+use Rattle.rule.proofs.Years.{first-step, first-next, first-end}
+use Rattle.facts.specs.declared.YearFacts.{YearFacts}
+use Rattle.facts.specs.Facts.{yearFacts}
+use Rattle.fields.specs.Fields.{decimal, Put}
+use Rattle.fields.proofs.Putting.{then, put-as}
+
+-- a number and a mark, and then the rest of a line
+pub number-and-mark : {w v a b d : ℕ} {o o′ o″ : List ℕ} (k m : ℕ) {rest : List ℕ} →
+    Put w o a (32 ∷ (decimal k ++ (32 ∷ m ∷ []))) o′ b → Put v o′ b rest o″ d →
+    Put (w + v) o a (32 ∷ (decimal k ++ (32 ∷ m ∷ rest))) o″ d
+number-and-mark k m {rest} p q = put-as (ap (λ (l : List ℕ). 32 ∷ l) (append-assoc (decimal k) (32 ∷ m ∷ []) rest)) (then p q)
+
+-- a year lists months in range, 13 at most
+pub months-listed : (y : ℕ) → YearInRange y → (f : YearFacts) → f ≡ yearFacts y → (f .«first_month» + f .months ≤ 507600) × (f .months ≤ 13)
+unfolding yearFacts
+months-listed y h f e =
+    let a = ap (λ (g : YearFacts). g .«first_month») e in
+    let b = ap (λ (g : YearFacts). g .months) e in
+    let s = first-step y (h .0) in
+    let n = first-next y (h .0) in
+    (omega (arith, a, b, n, first-end (y + 1) (omega (arith, h .1))), omega (arith, b, n, s .1))

@@ -1,0 +1,64 @@
+-- `lines::put_years` meets its contract. The invariant: the texts of the first i items are put. Assumes nothing.
+use Prim.Native.Nat.{_-_}
+use native.Mathlib.Omega.{arith}
+use lib.ListN.{length}
+use Rattle.fields.proofs.Putting.{put-kept}
+use Rattle.lines.specs.Lines.{yearBlock}
+use Rattle.lines.proofs.Items.{ItemsPut, no-item, room-for-item, next-item, all-items}
+use Rattle.lines.proofs.put_years.Statement.{statement}
+use Rattle.lines.proofs.put_years.Tie as tie
+use Rattle.lines.proofs.put_years.Reads as reads
+use Rattle.lines.proofs.put_years.Lts as lts
+use Rattle.lines.proofs.put_year.Reads as put-year-reads
+
+abbrev Inv-loop : tie.InvT-loop
+Inv-loop years out₀ at to₀ i₀ out to i = ItemsPut 674 yearBlock years out₀ at out to i
+
+abbrev μ-loop : tie.MeasureT-loop
+μ-loop years out₀ at to₀ i₀ out to i = length years - i
+
+loop-holds : tie.Need-loop-holds Inv-loop μ-loop
+loop-holds c = no-item 674 yearBlock (c .before .before .args .years .now) (c .before .before .args .out .now) (c .before .before .args .at)
+
+mul-put-year : tie.Need-mul-put-year Inv-loop μ-loop
+mul-put-year c = omega arith
+
+shared-slice-read-put-year : tie.Need-shared-slice-read-put-year Inv-loop μ-loop
+shared-slice-read-put-year c = omega arith
+
+put-year-requires : tie.Need-put-year-requires Inv-loop μ-loop
+put-year-requires c κs =
+    let l = c .before .before .before in
+    let h = c .before .before .loop-test .taken in
+    (c .before .before .before .before .before .before .pre .0 .items (l .loop .i) h, room-for-item (l .loop .inv) h (c .before .before .before .before .before .before .pre .1))
+
+add-i : tie.Need-add-i Inv-loop μ-loop
+add-i c = omega arith
+
+loop-less : tie.Need-loop-less Inv-loop μ-loop
+loop-less c = omega arith
+
+loop-again : tie.Need-loop-again Inv-loop μ-loop
+loop-again c = next-item (c .before .before .before .before .before .before .loop .inv) (c .before .before .before .before .before .loop-test .taken) (c .before .before .put-year .ensures)
+
+same-length : tie.Need-same-length Inv-loop μ-loop
+same-length c = put-kept (c .before .loop .inv .put)
+
+returns : tie.Need-returns Inv-loop μ-loop
+returns c = all-items (c .before .loop .inv) (c .loop-test .left)
+
+pub put-years-spec : {M : Type 1} → statement M
+put-years-spec =
+    tie.close
+    (tie.spec
+    Inv-loop
+    μ-loop
+    loop-holds
+    mul-put-year
+    shared-slice-read-put-year
+    put-year-requires
+    add-i
+    loop-less
+    loop-again
+    same-length
+    returns)

@@ -1,0 +1,3 @@
+-- The printed lines: definitions, promises, and statements.
+pub mod Lines
+pub mod Promises

@@ -1,0 +1,126 @@
+-- "The listing program": the text of its lines and of a whole listing, as lists of bytes; and the words of the reasons.
+-- Assumes nothing.
+use Prim.Native.Nat.{ℕ}
+use mathlib.Core.Bool.{Bool, true}
+use mathlib.Core.List.{List, [], _∷_, _++_}
+use Rattle.rule.specs.Lists.{those}
+use Rattle.rule.specs.Rule.{numberOf, leapMark}
+use Rattle.rule.specs.Reasons.{Answer, is, refused, refused-with}
+use Rattle.rule.specs.declared.Reason.{Reason}
+use Rattle.rule.specs.declared.Reason.the-variants.{
+  NoSuchYear,
+  NoSuchMonthNumber,
+  NoSuchDayOfMonth,
+  NoSuchLeapMonth,
+  NoThirtiethDay,
+  NoSuchDay,
+  NoSuchMonth,
+  MoveOutOfRange,
+  SheetEndsEarly,
+  CountTooLarge,
+  BytesAfterLast,
+  LentTooShort,
+  BadWindow,
+  FieldOutOfRange,
+  NoSuchTermOrQuarter,
+}
+use Rattle.dates.specs.declared.Date.{Date}
+use Rattle.dates.specs.Dates.{dateOf}
+use Rattle.facts.specs.declared.MonthFacts.{MonthFacts}
+use Rattle.facts.specs.declared.YearFacts.{YearFacts}
+use Rattle.facts.specs.Facts.{monthFacts, yearFacts}
+use Rattle.sheet.specs.Sheet.{Lists, readSheet}
+use Rattle.fields.specs.Fields.{word, decimal, mark, joined, lined, each}
+
+-- the letters of the two marks, `L` and `E`
+abbrev pub letterL : ℕ
+letterL = 76
+
+abbrev pub letterE : ℕ
+letterE = 69
+
+-- "Fields of a month's line: month count, number, `L` for leap, first day's name, length, `E` for eclipse month"
+abbrev pub fieldsOfMonth : ℕ → MonthFacts → List (List ℕ)
+fieldsOfMonth n f =
+    decimal n
+    ∷ decimal (numberOf (f .month))
+    ∷ (mark (leapMark (f .month)) letterL ∷ [])
+    ∷ decimal (f .«first_name»)
+    ∷ decimal (f .«month_length»)
+    ∷ (mark (f .eclipse) letterE ∷ [])
+    ∷ []
+
+-- "The header holds the year, its name and how many months it has"
+abbrev pub fieldsOfYear : ℕ → YearFacts → List (List ℕ)
+fieldsOfYear y f = word "YEAR" ∷ decimal y ∷ word "NAME" ∷ decimal (f .name) ∷ word "MONTHS" ∷ decimal (f .months) ∷ []
+
+-- "`DAY`, day, year, month, `L` or `-`, day of month, day name"; "the day is the day count and the month is its number"
+abbrev pub fieldsOfDay : ℕ → Date → List (List ℕ)
+fieldsOfDay d r =
+    word "DAY"
+    ∷ decimal d
+    ∷ decimal (r .year)
+    ∷ decimal (numberOf (r .month))
+    ∷ (mark (leapMark (r .month)) letterL ∷ [])
+    ∷ decimal (r .«day_of_month»)
+    ∷ decimal (r .«day_name»)
+    ∷ []
+
+-- a month's line, without its newline
+unfoldable pub monthLine : ℕ → List ℕ
+monthLine n = joined (fieldsOfMonth n (monthFacts n))
+
+-- the same as a line of a year's block
+unfoldable pub monthLined : ℕ → List ℕ
+monthLined n = lined (fieldsOfMonth n (monthFacts n))
+
+-- "For each year it prints a header and one line a month": the months that the year lists
+abbrev pub monthsListed : YearFacts → List ℕ
+monthsListed f = those (λ n. true) (f .«first_month») (f .months)
+
+unfoldable pub yearBlock : ℕ → List ℕ
+yearBlock y = lined (fieldsOfYear y (yearFacts y)) ++ each monthLined (monthsListed (yearFacts y))
+
+-- "each month item gives `MONTH` and such a line"
+unfoldable pub monthItem : ℕ → List ℕ
+monthItem n = lined (word "MONTH" ∷ fieldsOfMonth n (monthFacts n))
+
+-- "each day item gives `DAY`, .."
+unfoldable pub dayItem : ℕ → List ℕ
+dayItem d = lined (fieldsOfDay d (dateOf d))
+
+-- "A refused sheet prints `REFUSED` and the number"
+unfoldable pub refusedLine : ℕ → List ℕ
+refusedLine k = lined (word "REFUSED" ∷ decimal k ∷ [])
+
+-- the listing of three lists: the years, then the months, then the days, each in its order
+unfoldable pub listingOf : Lists → List ℕ
+listingOf l = each yearBlock (l .years) ++ (each monthItem (l .months) ++ each dayItem (l .days))
+
+-- what is printed for what a sheet says
+abbrev pub printed : Answer Lists → List ℕ
+printed (is l) = listingOf l
+printed (refused k) = refusedLine k
+printed (refused-with k n) = refusedLine k
+
+-- the listing of a sheet's bytes
+unfoldable pub listing : List ℕ → List ℕ
+listing s = printed (readSheet s)
+
+-- the words of the reasons, as the paper's table has them
+abbrev pub wordsOf : Reason → List ℕ
+wordsOf NoSuchYear = word "year outside 1 to 41,040"
+wordsOf NoSuchMonthNumber = word "month number outside 1 to 12"
+wordsOf NoSuchDayOfMonth = word "day of month outside 1 to 30"
+wordsOf NoSuchLeapMonth = word "leap month asked and that year has none of that number"
+wordsOf NoThirtiethDay = word "day 30 of a 29-day month"
+wordsOf NoSuchDay = word "day count outside the range"
+wordsOf NoSuchMonth = word "month count outside the range"
+wordsOf MoveOutOfRange = word "a move ends outside the range"
+wordsOf SheetEndsEarly = word "sheet ends before a count or an item is whole"
+wordsOf CountTooLarge = word "a count above 1,000"
+wordsOf BytesAfterLast = word "bytes after the last section"
+wordsOf LentTooShort = word "a lent list or buffer too short for the whole answer"
+wordsOf BadWindow = word "window's last day before its first, or more than 27,759 days"
+wordsOf FieldOutOfRange = word "a known field of a reading outside its range"
+wordsOf NoSuchTermOrQuarter = word "term above 23 or quarter above 3"

@@ -1,0 +1,333 @@
+// The printed lines of "The listing program", put into a lent buffer, and the listing of a whole sheet.
+ghost use mathlib.Core.Path.{_≡_};
+ghost use mathlib.Core.Bool.{true};
+ghost use mathlib.Core.List.{[], _∷_, _++_};
+ghost use Prim.Native.Nat.{_+_, _*_, _≤_};
+ghost use lib.ListN.{length};
+ghost use Rattle.rule.specs.Counts.{YearInRange, MonthInRange, DayInRange};
+ghost use Rattle.rule.specs.Reasons.{reasonNumber};
+ghost use Rattle.rule.specs.Lists.{those};
+ghost use Rattle.rule.specs.Rule.{numberOf, leapMark};
+ghost use Rattle.fields.specs.Fields.{Put, decimal, mark, joined, each};
+ghost use Rattle.facts.specs.Facts.{monthFacts};
+ghost use Rattle.sheet.specs.Sheet.{yearItems, monthItems, dayItems};
+ghost use Rattle.sheet.specs.Paper.{GoodList, GoodLists};
+ghost use Rattle.lines.specs.Lines.{
+  letterL,
+  fieldsOfMonth,
+  fieldsOfYear,
+  fieldsOfDay,
+  monthLined,
+  yearBlock,
+  monthItem,
+  dayItem,
+  refusedLine,
+  listingOf,
+  listing,
+  wordsOf,
+};
+ghost use Rattle.lines.specs.Promises.{intoRoom, Printed, PrintYear, PrintMonthLine, PrintMonth, PrintDay};
+use dates::Date;
+use facts::MonthFacts;
+use facts::YearFacts;
+use rule::Month;
+use rule::Reason;
+use sheet::HowMany;
+use sheet::SheetCounts;
+
+// Two fields that both a month's and a day's line have: the month's number, and `L` for leap.
+fn put_number_and_mark(m: Month, out: &mut [u8], at: usize) -> usize
+    requires { ⌜ at + 13 ≤ length (now out) ⌝ }
+    ensures { λ r. ⌜ Put 13 (now (out .entry)) at (32 ∷ joined (decimal (numberOf m) ∷ (mark (leapMark m) letterL ∷ []) ∷ []))
+        (now (out .exit)) r ⌝ }
+{
+    let to = fields::put_next(rule::number_of(m) as u32, out, at);
+    fields::put_mark(rule::leap_mark(m), 76, out, to)
+}
+
+// The six fields of a month's line.
+pub fn put_month_fields(n: u32, f: MonthFacts, out: &mut [u8], at: usize) -> usize
+    requires { ⌜ at + 47 ≤ length (now out) ⌝ }
+    ensures { λ r. ⌜ Put 47 (now (out .entry)) at (joined (fieldsOfMonth n f)) (now (out .exit)) r ⌝ }
+{
+    let m = f.month;
+    let to1 = fields::put_decimal(n, out, at);
+    let to2 = put_number_and_mark(m, out, to1);
+    let to3 = fields::put_next(f.first_name as u32, out, to2);
+    let to4 = fields::put_next(f.month_length as u32, out, to3);
+    fields::put_mark(f.eclipse, 69, out, to4)
+}
+
+// A month's line.
+pub fn put_month_line(n: u32, out: &mut [u8], at: usize) -> usize
+    requires { ⌜ MonthInRange n × (at + 48 ≤ length (now out)) ⌝ }
+    ensures { λ r. ⌜ Put 48 (now (out .entry)) at (monthLined n) (now (out .exit)) r ⌝ }
+{
+    let f = facts::month_facts_at(n);
+    let to = put_month_fields(n, f, out, at);
+    fields::put_byte(10, out, to)
+}
+
+// A `MONTH` line: the word, a space and the month's line.
+pub fn put_month(n: u32, out: &mut [u8], at: usize) -> usize
+    requires { ⌜ MonthInRange n × (at + 54 ≤ length (now out)) ⌝ }
+    ensures { λ r. ⌜ Put 54 (now (out .entry)) at (monthItem n) (now (out .exit)) r ⌝ }
+{
+    let to = fields::put_bytes(b"MONTH ", out, at);
+    put_month_line(n, out, to)
+}
+
+// The six fields of a year's header.
+pub fn put_year_fields(year: u16, f: YearFacts, out: &mut [u8], at: usize) -> usize
+    requires { ⌜ at + 49 ≤ length (now out) ⌝ }
+    ensures { λ r. ⌜ Put 49 (now (out .entry)) at (joined (fieldsOfYear year f)) (now (out .exit)) r ⌝ }
+{
+    let to1 = fields::put_bytes(b"YEAR", out, at);
+    let to2 = fields::put_next(year as u32, out, to1);
+    let to3 = fields::put_bytes(b" NAME", out, to2);
+    let to4 = fields::put_next(f.name as u32, out, to3);
+    let to5 = fields::put_bytes(b" MONTHS", out, to4);
+    fields::put_next(f.months as u32, out, to5)
+}
+
+// The lines of so many months from a month on.
+fn put_months(first: u32, months: u32, out: &mut [u8], at: usize) -> usize
+    requires { ⌜ (first + months ≤ 507600) × (at + 48 * months ≤ length (now out)) ⌝ }
+    ensures { λ r. ⌜ Put (48 * months) (now (out .entry)) at (each monthLined (those (λ n. true) first months))
+        (now (out .exit)) r ⌝ }
+{
+    let mut to = at;
+    let mut i = 0;
+    while i < months {
+        to = put_month_line(first + i, out, to);
+        i += 1;
+    }
+    to
+}
+
+// A year's block: its header, and one line a month.
+pub fn put_year(year: u16, out: &mut [u8], at: usize) -> usize
+    requires { ⌜ YearInRange year × (at + 674 ≤ length (now out)) ⌝ }
+    ensures { λ r. ⌜ Put 674 (now (out .entry)) at (yearBlock year) (now (out .exit)) r ⌝ }
+{
+    let f = facts::year_facts_at(year);
+    let to1 = put_year_fields(year, f, out, at);
+    let to2 = fields::put_byte(10, out, to1);
+    put_months(f.first_month, f.months as u32, out, to2)
+}
+
+// The seven fields of a `DAY` line.
+pub fn put_day_fields(day: u32, d: Date, out: &mut [u8], at: usize) -> usize
+    requires { ⌜ at + 60 ≤ length (now out) ⌝ }
+    ensures { λ r. ⌜ Put 60 (now (out .entry)) at (joined (fieldsOfDay day d)) (now (out .exit)) r ⌝ }
+{
+    let m = d.month;
+    let to1 = fields::put_bytes(b"DAY", out, at);
+    let to2 = fields::put_next(day, out, to1);
+    let to3 = fields::put_next(d.year as u32, out, to2);
+    let to4 = put_number_and_mark(m, out, to3);
+    let to5 = fields::put_next(d.day_of_month as u32, out, to4);
+    fields::put_next(d.day_name as u32, out, to5)
+}
+
+// A `DAY` line.
+pub fn put_day(day: u32, out: &mut [u8], at: usize) -> usize
+    requires { ⌜ DayInRange day × (at + 61 ≤ length (now out)) ⌝ }
+    ensures { λ r. ⌜ Put 61 (now (out .entry)) at (dayItem day) (now (out .exit)) r ⌝ }
+{
+    let d = dates::date_at(day);
+    let to = put_day_fields(day, d, out, at);
+    fields::put_byte(10, out, to)
+}
+
+// A `REFUSED` line.
+pub fn put_refused(why: Reason, out: &mut [u8], at: usize) -> usize
+    requires { ⌜ at + 19 ≤ length (now out) ⌝ }
+    ensures { λ r. ⌜ Put 19 (now (out .entry)) at (refusedLine (reasonNumber why)) (now (out .exit)) r ⌝ }
+{
+    let to1 = fields::put_bytes(b"REFUSED", out, at);
+    let to2 = fields::put_next(rule::reason_number(why) as u32, out, to1);
+    fields::put_byte(10, out, to2)
+}
+
+// The words of a reason.
+pub fn put_words(why: Reason, out: &mut [u8], at: usize) -> usize
+    requires { ⌜ at + 64 ≤ length (now out) ⌝ }
+    ensures { λ r. ⌜ Put 64 (now (out .entry)) at (wordsOf why) (now (out .exit)) r ⌝ }
+{
+    match why {
+        Reason::NoSuchYear => fields::put_bytes(b"year outside 1 to 41,040", out, at),
+        Reason::NoSuchMonthNumber => fields::put_bytes(b"month number outside 1 to 12", out, at),
+        Reason::NoSuchDayOfMonth => fields::put_bytes(b"day of month outside 1 to 30", out, at),
+        Reason::NoSuchLeapMonth => fields::put_bytes(
+            b"leap month asked and that year has none of that number",
+            out,
+            at,
+        ),
+        Reason::NoThirtiethDay => fields::put_bytes(b"day 30 of a 29-day month", out, at),
+        Reason::NoSuchDay => fields::put_bytes(b"day count outside the range", out, at),
+        Reason::NoSuchMonth => fields::put_bytes(b"month count outside the range", out, at),
+        Reason::MoveOutOfRange => fields::put_bytes(b"a move ends outside the range", out, at),
+        Reason::SheetEndsEarly => fields::put_bytes(
+            b"sheet ends before a count or an item is whole",
+            out,
+            at,
+        ),
+        Reason::CountTooLarge => fields::put_bytes(b"a count above 1,000", out, at),
+        Reason::BytesAfterLast => fields::put_bytes(b"bytes after the last section", out, at),
+        Reason::LentTooShort => fields::put_bytes(
+            b"a lent list or buffer too short for the whole answer",
+            out,
+            at,
+        ),
+        Reason::BadWindow => fields::put_bytes(
+            b"window's last day before its first, or more than 27,759 days",
+            out,
+            at,
+        ),
+        Reason::FieldOutOfRange => fields::put_bytes(
+            b"a known field of a reading outside its range",
+            out,
+            at,
+        ),
+        Reason::NoSuchTermOrQuarter => fields::put_bytes(
+            b"term above 23 or quarter above 3",
+            out,
+            at,
+        ),
+    }
+}
+
+// A whole text into a lent buffer, or reason 12 and nothing changed.
+fn hand_over(s: &[u8], out: &mut [u8]) -> HowMany
+    ensures { λ r. ⌜ Printed (intoRoom (length (now (out .entry))) (now (s .entry))) (now (out .entry)) r (now (out .exit)) ⌝ }
+{
+    if out.len() < s.len() {
+        return HowMany::Refused(Reason::LentTooShort);
+    }
+    HowMany::Is(fields::put_bytes(s, out, 0))
+}
+
+// A year's block into a lent buffer: reason 1, then 12.
+pub fn print_year(year: u32, out: &mut [u8]) -> HowMany
+    ensures { λ r. ⌜ PrintYear year (now (out .entry)) r (now (out .exit)) ⌝ }
+{
+    if !rule::in_range(1, 41040, year) {
+        return HowMany::Refused(Reason::NoSuchYear);
+    }
+    let mut space = [0u8; 674];
+    let n = put_year(year as u16, &mut space, 0);
+    hand_over(&space[..n], out)
+}
+
+// A month's line into a lent buffer: reason 7, then 12.
+pub fn print_month_line(n: u32, out: &mut [u8]) -> HowMany
+    ensures { λ r. ⌜ PrintMonthLine n (now (out .entry)) r (now (out .exit)) ⌝ }
+{
+    if 507599 < n {
+        return HowMany::Refused(Reason::NoSuchMonth);
+    }
+    let mut space = [0u8; 48];
+    let to = put_month_line(n, &mut space, 0);
+    hand_over(&space[..to], out)
+}
+
+// A `MONTH` line into a lent buffer: reason 7, then 12.
+pub fn print_month(n: u32, out: &mut [u8]) -> HowMany
+    ensures { λ r. ⌜ PrintMonth n (now (out .entry)) r (now (out .exit)) ⌝ }
+{
+    if 507599 < n {
+        return HowMany::Refused(Reason::NoSuchMonth);
+    }
+    let mut space = [0u8; 54];
+    let to = put_month(n, &mut space, 0);
+    hand_over(&space[..to], out)
+}
+
+// A `DAY` line into a lent buffer: reason 6, then 12.
+pub fn print_day(day: u32, out: &mut [u8]) -> HowMany
+    ensures { λ r. ⌜ PrintDay day (now (out .entry)) r (now (out .exit)) ⌝ }
+{
+    if 14989859 < day {
+        return HowMany::Refused(Reason::NoSuchDay);
+    }
+    let mut space = [0u8; 61];
+    let to = put_day(day, &mut space, 0);
+    hand_over(&space[..to], out)
+}
+
+// The blocks of years.
+fn put_years(years: &[u16], out: &mut [u8], at: usize) -> usize
+    requires { ⌜ GoodList yearItems (now years) × (at + 674 * length (now years) ≤ length (now out)) ⌝ }
+    ensures { λ r. ⌜ Put (674 * length (now (years .entry))) (now (out .entry)) at (each yearBlock (now (years .entry)))
+        (now (out .exit)) r ⌝ }
+{
+    let mut to = at;
+    let mut i = 0;
+    while i < years.len() {
+        to = put_year(years[i], out, to);
+        i += 1;
+    }
+    to
+}
+
+// The `MONTH` lines of month items.
+fn put_month_items(months: &[u32], out: &mut [u8], at: usize) -> usize
+    requires { ⌜ GoodList monthItems (now months) × (at + 54 * length (now months) ≤ length (now out)) ⌝ }
+    ensures { λ r. ⌜ Put (54 * length (now (months .entry))) (now (out .entry)) at (each monthItem (now (months .entry)))
+        (now (out .exit)) r ⌝ }
+{
+    let mut to = at;
+    let mut i = 0;
+    while i < months.len() {
+        to = put_month(months[i], out, to);
+        i += 1;
+    }
+    to
+}
+
+// The `DAY` lines of day items.
+fn put_day_items(days: &[u32], out: &mut [u8], at: usize) -> usize
+    requires { ⌜ GoodList dayItems (now days) × (at + 61 * length (now days) ≤ length (now out)) ⌝ }
+    ensures { λ r. ⌜ Put (61 * length (now (days .entry))) (now (out .entry)) at (each dayItem (now (days .entry)))
+        (now (out .exit)) r ⌝ }
+{
+    let mut to = at;
+    let mut i = 0;
+    while i < days.len() {
+        to = put_day(days[i], out, to);
+        i += 1;
+    }
+    to
+}
+
+// The listing of three lists: 674, 54 and 61 bytes at most for an item, and 1,000 items at most in each.
+fn put_lists(years: &[u16], months: &[u32], days: &[u32], out: &mut [u8]) -> usize
+    requires { ⌜ GoodLists (record { years = now years; months = now months; days = now days }) × (789000 ≤ length (now out)) ⌝ }
+    ensures { λ r. ⌜ Put 789000 (now (out .entry)) 0
+        (listingOf (record { years = now (years .entry); months = now (months .entry); days = now (days .entry) }))
+        (now (out .exit)) r ⌝ }
+{
+    let to1 = put_years(years, out, 0);
+    let to2 = put_month_items(months, out, to1);
+    put_day_items(days, out, to2)
+}
+
+// The listing of a sheet's bytes, at the front of a buffer that has room for the longest.
+pub fn list_sheet(bytes: &[u8], out: &mut [u8]) -> usize
+    requires { ⌜ 789000 ≤ length (now out) ⌝ }
+    ensures { λ r. ⌜ Put 789000 (now (out .entry)) 0 (listing (now (bytes .entry))) (now (out .exit)) r ⌝ }
+{
+    let mut years = [0u16; 1000];
+    let mut months = [0u32; 1000];
+    let mut days = [0u32; 1000];
+    match sheet::read_sheet(bytes, &mut years, &mut months, &mut days) {
+        SheetCounts::Refused(why) => put_refused(why, out, 0),
+        SheetCounts::Is(c) => {
+            let y = c.years;
+            let m = c.months;
+            let d = c.days;
+            put_lists(&years[..y], &months[..m], &days[..d], out)
+        }
+    }
+}
