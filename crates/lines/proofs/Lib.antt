@@ -3,3 +3,5 @@ pub mod Joining
 pub mod Printing
 pub mod Items
 pub mod Reading
+pub mod Paper
+pub mod Fronts

@@ -89,7 +89,7 @@ counts-once a b e = once saidCounts Counts'.Is (λ k. Counts'.Refused (reasonOf 
     again (Counts'.Is c) = refl
     again (Counts'.Refused r) = ap Counts'.Refused (reason-back r)
 
-how-many-once : (a b : HowMany) → saidHowMany a ≡ saidHowMany b → a ≡ b
+pub how-many-once : (a b : HowMany) → saidHowMany a ≡ saidHowMany b → a ≡ b
 unfolding read-back
 how-many-once a b e = once saidHowMany HowMany'.Is (λ k. HowMany'.Refused (reasonOf k)) again a b (saidHowMany b) e refl
   where

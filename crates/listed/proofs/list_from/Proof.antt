@@ -1,0 +1,66 @@
+-- `listed::list_from` is safe and ends: the listing lies in its room. Assumes nothing.
+use native.Mathlib.Omega.{arith}
+use Rattle.lines.proofs.Printing.{made-size}
+use borrow.Author.Needs.{needs}
+use Rattle.listed.proofs.list_from.Statement.{statement}
+use Rattle.listed.proofs.list_from.Tie as tie
+use Rattle.listed.proofs.list_from.Reads as reads
+use Rattle.listed.proofs.list_from.Lts as lts
+use Rattle.io.proofs.read_full.Reads as read-full-reads
+use Rattle.io.proofs.write_all.Reads as write-all-reads
+use Rattle.lines.proofs.list_sheet.Reads as list-sheet-reads
+use Rattle.listed.proofs.room.Reads as room-reads
+use Rattle.listed.proofs.sheet_room.Reads as sheet-room-reads
+
+sheet-room-requires : tie.Need-sheet-room-requires
+sheet-room-requires c κs = search needs
+
+room-requires : tie.Need-room-requires
+room-requires c κs = search needs
+
+slice-aggregate-read-full : tie.Need-slice-aggregate-read-full
+slice-aggregate-read-full c = search needs
+
+read-full-requires : tie.Need-read-full-requires
+read-full-requires c κs = search needs
+
+array-share-prefix-bytes : tie.Need-array-share-prefix-bytes
+array-share-prefix-bytes c = search needs
+
+slice-aggregate-list-sheet : tie.Need-slice-aggregate-list-sheet
+slice-aggregate-list-sheet c = search needs
+
+slice-aggregate-list-sheet-2 : tie.Need-slice-aggregate-list-sheet-2
+slice-aggregate-list-sheet-2 c = search needs
+
+list-sheet-requires : tie.Need-list-sheet-requires
+list-sheet-requires c κs = search needs
+
+array-share-prefix-out : tie.Need-array-share-prefix-out
+array-share-prefix-out c = search needs
+
+slice-aggregate-write-all : tie.Need-slice-aggregate-write-all
+slice-aggregate-write-all c = made-size (c .before .before .list-sheet .ensures) (omega arith)
+
+write-all-requires : tie.Need-write-all-requires
+write-all-requires c κs = search needs
+
+returns : tie.Need-returns
+returns c = search needs
+
+pub list-from-spec : {M : Type 1} → statement M
+list-from-spec =
+    tie.close
+    (tie.spec
+    sheet-room-requires
+    room-requires
+    slice-aggregate-read-full
+    read-full-requires
+    array-share-prefix-bytes
+    slice-aggregate-list-sheet
+    slice-aggregate-list-sheet-2
+    list-sheet-requires
+    array-share-prefix-out
+    slice-aggregate-write-all
+    write-all-requires
+    returns)
