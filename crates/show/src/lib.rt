@@ -64,23 +64,9 @@ pub fn reason(r: Reason) {
 }
 
 pub fn words(r: Reason) {
-    match r {
-        Reason::NoSuchYear => text(b"year outside 1 to 41,040"),
-        Reason::NoSuchMonthNumber => text(b"month number outside 1 to 12"),
-        Reason::NoSuchDayOfMonth => text(b"day of month outside 1 to 30"),
-        Reason::NoSuchLeapMonth => text(b"leap month asked and that year has none of that number"),
-        Reason::NoThirtiethDay => text(b"day 30 of a 29-day month"),
-        Reason::NoSuchDay => text(b"day count outside the range"),
-        Reason::NoSuchMonth => text(b"month count outside the range"),
-        Reason::MoveOutOfRange => text(b"a move ends outside the range"),
-        Reason::SheetEndsEarly => text(b"sheet ends before a count or an item is whole"),
-        Reason::CountTooLarge => text(b"a count above 1,000"),
-        Reason::BytesAfterLast => text(b"bytes after the last section"),
-        Reason::LentTooShort => text(b"a lent list or buffer too short for the whole answer"),
-        Reason::BadWindow => text(b"window's last day before its first, or more than 27,759 days"),
-        Reason::FieldOutOfRange => text(b"a known field of a reading outside its range"),
-        Reason::NoSuchTermOrQuarter => text(b"term above 23 or quarter above 3"),
-    }
+    let mut space = [0u8; 64];
+    let n = words::put_words(r, &mut space, 0);
+    text(&space[..n]);
 }
 
 // A date: year, number, mark, day of month, month length, day name, year name.

@@ -1,0 +1,146 @@
+#!/usr/bin/env python3
+"""The sheets of the program `sheets`, and what it must write for them, by a computation of its own.
+
+The sheets are made here, byte by byte, and stand in crates/sheets/data/, their names in crates/sheets/args. What must be
+written is computed from them by the walked calendar and the plain reader of tools/expected.py, which share nothing with the
+library; the three kinds of line are written here from the sentences of the paper.
+
+usage: tools/sheets.py            write the sheets, their names and the expected output
+       tools/sheets.py --check    say whether what stands is what it computes (exit status 1 if not)
+"""
+import sys
+
+from expected import DAYS, MONTHS, ROOT, YEARS, Desk, name, mark, read_sheet
+
+
+def two(n):
+    return n.to_bytes(2, "little")
+
+
+def four(n):
+    return n.to_bytes(4, "little")
+
+
+def sheet(years=(), months=(), days=()):
+    out = two(len(years)) + b"".join(map(two, years))
+    out += two(len(months)) + b"".join(map(four, months))
+    return out + two(len(days)) + b"".join(map(four, days))
+
+
+def spread(count, least, most, step):
+    """So many items over a range, both ends among them, stepping round it so that neighbours lie far apart."""
+    size = most - least + 1
+    items = [least + i * step % size for i in range(count)]
+    if count > 1:
+        items[-1] = most
+    return items
+
+
+def many(count):
+    return sheet(spread(count, 1, YEARS, 7919), spread(count, 0, MONTHS - 1, 104729), spread(count, 0, DAYS - 1, 1299709))
+
+
+def sheets():
+    full = many(1000)
+    assert len(full) == 10006
+    eleven = sheet([11])
+    return {
+        # the empty sheet, the paper's own, and counts of 0, 1, 999 and 1,000 in every section and in one alone
+        "empty": sheet(),
+        "year-11": eleven,
+        "one-of-each": sheet([1], [0], [0]),
+        "last-of-each": sheet([YEARS], [MONTHS - 1], [DAYS - 1]),
+        "months-alone": sheet(months=[0, 1, 5, 6, 128, 129, 134, 135, 116957, 116962, 507599]),
+        "days-alone": sheet(days=[0, 28, 29, 27758, 27759, 3420558, 3420573, 3808, 3809, 3838, 3957, 14989859]),
+        "same-year-twice": sheet([11, 12, 11]),
+        "years-999": sheet([1] * 999),
+        "months-1000": sheet(months=spread(1000, 0, MONTHS - 1, 15013)),
+        "days-1000": sheet(days=spread(1000, 0, DAYS - 1, 15485863)),
+        "of-each-999": many(999),
+        "full": full,
+        # 9, sheet ends before a count or an item is whole
+        "nine-no-bytes": b"",
+        "nine-half-a-count": b"\0",
+        "nine-no-months": two(0),
+        "nine-half-a-year": two(1) + b"\x0b",
+        "nine-three-bytes-of-a-month": two(0) + two(1) + b"\x86\0\0",
+        "nine-no-days": two(0) + two(0) + b"\0",
+        "nine-three-bytes-of-a-day": two(0) + two(0) + two(1) + b"\0\0\0",
+        "nine-full-cut-by-one": full[:-1],
+        # 10, a count above 1,000
+        "ten-years-1001": two(1001) + two(11) * 1001 + two(0) + two(0),
+        "ten-months-1001": two(0) + two(1001) + four(0) * 1001 + two(0),
+        "ten-days-1001": two(0) + two(0) + two(1001) + four(0) * 1001,
+        "ten-years-65535": two(65535),
+        # 1, 7 and 6, an item outside its range
+        "one-year-0": sheet([0]),
+        "one-year-41041": sheet([1, 41040, 41041]),
+        "seven-month-507600": sheet(months=[507599, 507600]),
+        "seven-month-4294967295": sheet(months=[4294967295]),
+        "six-day-14989860": sheet(days=[14989859, 14989860]),
+        # 11, bytes after the last section
+        "eleven-empty-and-one": sheet() + b"\0",
+        "eleven-full-and-one": full + b"\0",
+        "eleven-full-and-twice": full + full,
+        "eleven-20000-noughts": b"\0" * 20000,
+        # the first fault in byte order
+        "order-nine-before-one": two(2) + two(11) + b"\0",
+        "order-one-before-nine": two(2) + two(0) + b"\0",
+        "order-one-before-ten": sheet([0])[:-4] + two(1001),
+        "order-ten-before-seven": two(0) + two(1001) + four(507600),
+        "order-seven-before-six": sheet(months=[507600], days=[14989860]),
+        "order-six-before-eleven": sheet(days=[14989860]) + b"\0",
+        "overlong-first-year-0": two(1000) + two(0) + full[4:] + full,
+        "overlong-last-day-out": full[:-4] + four(14989860) + full,
+        "overlong-days-1001": full[:6004] + two(1001) + full[6006:] + four(0) * 2,
+    }
+
+
+class Lines:
+    """The lines of the listing program, from the paper's sentences."""
+
+    def __init__(self, desk):
+        self.desk, self.c = desk, desk.c
+
+    def month(self, n):
+        eclipse = "E" if 23 * (n + 1) % 135 < 23 else "-"
+        first = name(self.c.starts[n], 1)
+        return f"{n} {self.c.number[n]} {mark(self.c.leap[n])} {first} {self.c.length(n)} {eclipse}\n"
+
+    def year(self, y):
+        months = self.c.months_of[y]
+        return f"YEAR {y} NAME {name(y - 1, 17)} MONTHS {len(months)}\n" + "".join(map(self.month, months))
+
+    def day(self, d):
+        y, k, l, m, _, dn, _ = self.desk.date_fields(d)
+        return f"DAY {d} {y} {k} {mark(l)} {m} {dn}\n"
+
+    def listing(self, data):
+        read = read_sheet(list(data), (1000, 1000, 1000))
+        if isinstance(read, int):
+            return f"REFUSED {read}\n"
+        years, months, days = read
+        return "".join(map(self.year, years)) + "".join("MONTH " + self.month(n) for n in months) + "".join(map(self.day, days))
+
+
+def main():
+    home = ROOT / "crates" / "sheets"
+    all_sheets, lines = sheets(), Lines(Desk())
+    text = "".join(f"SHEET {key}\n{lines.listing(data)}" for key, data in all_sheets.items())
+    met = {int(line.split()[1]) for line in text.splitlines() if line.startswith("REFUSED")}
+    assert met == {1, 6, 7, 9, 10, 11}, met
+    files = {home / "args": "".join(f"{key}\n" for key in all_sheets).encode(), home / "stdout": text.encode()}
+    files |= {home / "data" / key: data for key, data in all_sheets.items()}
+    if "--check" in sys.argv[1:]:
+        extra = {p for p in (home / "data").iterdir()} - set(files)
+        same = not extra and all(path.exists() and path.read_bytes() == data for path, data in files.items())
+        print(f"sheets of sheets and their expected output: {'as computed' if same else 'NOT as computed'}")
+        return 0 if same else 1
+    (home / "data").mkdir(exist_ok=True)
+    for path, data in files.items():
+        path.write_bytes(data)
+    return 0
+
+
+if __name__ == "__main__":
+    sys.exit(main())
