@@ -1,4 +1,5 @@
 -- Laws of a year's leap month and of records made of parts, and the proofs of the statements.
+pub mod Cases
 pub mod Leaps
 pub mod Made
 pub mod Paper

@@ -1,7 +1,7 @@
 -- The statements of specs/Paper, proved, each under its own name. Assumes nothing.
 use Prim.Native.Nat.{ℕ, _+_, _≤_, _<_}
 use native.Mathlib.Omega.{arith}
-use mathlib.Core.Path.{_≡_, refl, ap, ap₂, sym, _∙_}
+use mathlib.Core.Path.{_≡_, refl, ap, ap₂, sym, _∙_, subst}
 use mathlib.Core.Bool.{Bool, true, false}
 use mathlib.Core.List.{List, [], _∷_, _++_, append-assoc}
 use mathlib.Core.Logic.{_↔_}
@@ -133,12 +133,19 @@ pub reasons-of-printing : Paper.Reasons-of-printing
 unfolding yearBlockAt monthLineAt monthItemAt dayItemAt
 reasons-of-printing =
     record {
-      year = λ y n. of-text (within 1 41040 y) 1 (omega arith) (yearBlock y) n (within-true 1 41040 y);
-      month-line = λ m n. of-text (leb m 507599) 7 (omega arith) (monthLined m) n (at-most m 507599);
-      month = λ m n. of-text (leb m 507599) 7 (omega arith) (monthItem m) n (at-most m 507599);
-      day = λ d n. of-text (leb d 14989859) 6 (omega arith) (dayItem d) n (at-most d 14989859);
+      year = λ y n. of-text (within 1 _ y) 1 (omega arith) (yearBlock y) n (years-to y (omega arith));
+      month-line = λ m n. of-text (leb m _) 7 (omega arith) (monthLined m) n (to m (omega arith));
+      month = λ m n. of-text (leb m _) 7 (omega arith) (monthItem m) n (to m (omega arith));
+      day = λ d n. of-text (leb d _) 6 (omega arith) (dayItem d) n (to d (omega arith));
     }
   where
+    -- the range that is tested is the range that is said
+    to : (x : ℕ) {k n : ℕ} → k ≡ n → (leb x k ≡ true) ↔ (x ≤ n)
+    to x {k} e = subst (λ (n : ℕ). (leb x k ≡ true) ↔ (x ≤ n)) e (at-most x k)
+
+    years-to : (x : ℕ) {k n : ℕ} → k ≡ n → (within 1 k x ≡ true) ↔ ((1 ≤ x) × (x ≤ n))
+    years-to x {k} e = subst (λ (n : ℕ). (within 1 k x ≡ true) ↔ ((1 ≤ x) × (x ≤ n))) e (within-true 1 k x)
+
     of-text : {There : Type 0} (t : Bool) (k : ℕ) → k < 12 → (text : List ℕ) (n : ℕ) → ((t ≡ true) ↔ There) →
         Paper.PrintReasons There k text n (guard t k (intoRoom n text))
     of-text t k l text n e =
@@ -206,13 +213,17 @@ wrong-printings =
     day-given : dayItemAt 0 (length (noughts (dayItem 0))) ≡ is (dayItem 0)
     day-given = reasons-of-printing .day 0 (length (noughts (dayItem 0))) .given .1 (omega arith, room-in-noughts (dayItem 0))
 
-pub front-is-enough : Paper.Front-is-enough
+-- so many bytes or more are enough
+front-of : (k : ℕ) → 10007 ≤ k → (s : List ℕ) → listing (take k s) ≡ listing s
 unfolding listing readSheet
-front-is-enough s = go (decLt 10007 (length s))
+front-of k h s = go (decLt k (length s))
   where
-    go : Dec (10007 < length s) → printed (readSheet (take 10007 s)) ≡ printed (readSheet s)
-    go (no g) = ap (λ (t : List ℕ). printed (readSheet t)) (take-all 10007 s (omega (arith, g)))
+    go : Dec (k < length s) → printed (readSheet (take k s)) ≡ printed (readSheet s)
+    go (no g) = ap (λ (t : List ℕ). printed (readSheet t)) (take-all k s (omega (arith, g)))
     go (yes l) =
         ap printed
-        (sheet-front (drop 10007 s) (is (listsIn (take 10007 s))) (is (listsIn (take 10007 s ++ drop 10007 s))) (take 10007 s) (omega (arith, length-take-le 10007 s (omega (arith, l)))))
-        ∙ ap (λ (t : List ℕ). printed (readSheet t)) (take-append-drop 10007 s)
+        (sheet-front (drop k s) (is (listsIn (take k s))) (is (listsIn (take k s ++ drop k s))) (take k s) (omega (arith, h, length-take-le k s (omega (arith, l)))))
+        ∙ ap (λ (t : List ℕ). printed (readSheet t)) (take-append-drop k s)
+
+pub front-is-enough : Paper.Front-is-enough
+front-is-enough s = ap (λ (k : ℕ). listing (take k s)) {y = 10007} (omega arith) ∙ front-of 10007 (omega arith) s

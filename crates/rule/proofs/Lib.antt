@@ -1,4 +1,5 @@
 -- The laws of the rule by topic, the laws of answers and lists, and the proofs of the paper's sentences.
+pub mod Cases
 pub mod Lists
 pub mod Stores
 pub mod Calendar

@@ -3,7 +3,7 @@ use native.Mathlib.Omega.{arith}
 use mathlib.Core.Path.{_≡_, ap, sym, _∙_}
 use lib.Dec.{leb}
 use borrow.Author.Tests.{le-leb, lt-leb}
-use Rattle.rule.specs.Reasons.{Answer, is, guard}
+use Rattle.rule.specs.Reasons.{Answer, is, refused, guard}
 use Rattle.rule.specs.declared.Quarter.{Quarter}
 use Rattle.rule.proofs.Answers.{stops, passes}
 use Rattle.facts.specs.Facts.{quarterOf, quarterAt}
@@ -14,7 +14,7 @@ use Rattle.facts.proofs.quarter.Tie as tie
 
 returns : tie.Need-returns
 unfolding quarterAt
-returns c = sym (stops (leb (c .before .args .n) 507599) 7 _ (lt-leb (c .before .args .n) 507599 (c .if1 .taken)))
+returns c = ap refused {y = 7} (omega arith) ∙ sym (stops (leb (c .before .args .n) 507599) 7 _ (lt-leb (c .before .args .n) 507599 (c .if1 .taken)))
 
 -- the month is there
 month-there : (c : tie.Else1) (a : Answer Quarter) → guard (leb (c .before .args .n) 507599) 7 a ≡ a
@@ -22,7 +22,7 @@ month-there c a = passes (leb (c .before .args .n) 507599) 7 a (le-leb (c .befor
 
 returns-2 : tie.Need-returns-2
 unfolding quarterAt
-returns-2 c = sym (month-there (c .before) _ ∙ stops (leb (c .before .before .args .q) 3) 15 (is (quarterOf (c .before .before .args .n) (c .before .before .args .q))) (lt-leb (c .before .before .args .q) 3 (c .if2 .taken)))
+returns-2 c = ap refused {y = 15} (omega arith) ∙ sym (month-there (c .before) _ ∙ stops (leb (c .before .before .args .q) 3) 15 (is (quarterOf (c .before .before .args .n) (c .before .before .args .q))) (lt-leb (c .before .before .args .q) 3 (c .if2 .taken)))
 
 cast-quarter-of : tie.Need-cast-quarter-of
 cast-quarter-of c = search needs

@@ -9,7 +9,7 @@ use Rattle.lines.proofs.hand_over.Lts as lts
 use Rattle.fields.proofs.put_bytes.Reads as put-bytes-reads
 
 returns : tie.Need-returns
-returns c = too-short (c .before .before .before .args .s .now) (c .before .before .before .args .out .now) (c .if1 .taken)
+returns c = too-short (c .before .before .before .args .s .now) (c .before .before .before .args .out .now) (omega (arith, c .if1 .taken))
 
 put-bytes-requires : tie.Need-put-bytes-requires
 put-bytes-requires c κs = search needs
