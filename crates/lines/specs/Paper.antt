@@ -149,6 +149,11 @@ pub record Wrong-printings : Type 0 where
   pub day-refused : Refuses-all PrintDay → ⊥
   pub day-unwritten : Writes-nothing PrintDay → ⊥
 
--- "so the program holds at least 10,007 bytes": the first 10,007 bytes of an input have the listing of the whole
+-- so many bytes of an input the listing program holds
+abbrev pub held : ℕ
+held = 10007
+
+-- a longer input "is refused by its first fault in byte order, and with 11 only if it has none before": the bytes that are held
+-- have the listing of the whole
 abbrev pub Front-is-enough : Type 0
-Front-is-enough = (s : List ℕ) → listing (take 10007 s) ≡ listing s
+Front-is-enough = (s : List ℕ) → listing (take held s) ≡ listing s
