@@ -1,5 +1,5 @@
 #!/usr/bin/env python3
-"""What the program `tray` must write, by a computation of its own, straight from the sentences of the paper.
+"""What the programs `tray` and `uses` must write, by a computation of its own, straight from the sentences of the paper.
 
 It shares nothing with the library: the calendar is walked month by month from the origin, mid-terms are looked for among all
 even terms on each month's days, numbers are given out by the paper's two sentences, and every date is found by looking it up.
@@ -378,10 +378,85 @@ def tray(desk):
     return "\n".join(out) + "\n"
 
 
+# The program `uses`: each call where it answers and where it is refused, a few figures of each answer.
+
+
+def month_fields(desk, n):
+    """The six fields of a month's line."""
+    c = desk.c
+    eclipse = "E" if 23 * (n + 1) % 135 < 23 else "-"
+    return f"{n} {c.number[n]} {mark(c.leap[n])} {name(c.starts[n], 1)} {c.length(n)} {eclipse}"
+
+
+def year_block(desk, y):
+    if not 1 <= y <= YEARS:
+        return ["no line:" + refusal(1)]
+    months = desk.c.months_of[y]
+    return [f"YEAR {y} NAME {name(y - 1, 17)} MONTHS {len(months)}"] + [month_fields(desk, n) for n in months]
+
+
+def month_or_refusal(desk, word, n):
+    return word + month_fields(desk, n) if 0 <= n < MONTHS else "no line:" + refusal(7)
+
+
+def day_or_refusal(desk, day):
+    if not 0 <= day < DAYS:
+        return "no line:" + refusal(6)
+    y, k, l, m, _, dn, _ = desk.date_fields(day)
+    return f"DAY {day} {y} {k} {mark(l)} {m} {dn}"
+
+
+def answer_of(line):
+    """What stands after the colon of a line of the tray."""
+    return line.partition(":")[2]
+
+
+def uses_search(desk, first, last):
+    """The slip with the year name 27, the month number 9 and the day of month 1."""
+    reading = (27, 9, None, 1, None, None)
+    if last < first:
+        return f"search {first} {last}:" + refusal(13)
+    return f"search {first} {last}:" + spaced(d for d in range(first, last + 1) if all(f is None or f == v for f, v in zip(reading, desk.six(d))))
+
+
+def uses_read(data):
+    answer = read_sheet(data, (10, 10, 10))
+    text = refusal(answer) if isinstance(answer, int) else spaced(len(items) for items in answer) + spaced(answer[1])
+    return f"sheet{spaced(data)}:{text}"
+
+
+def uses_write(*lists):
+    answer = write_sheet(lists, 20)
+    return "bytes:" + (refusal(answer) if isinstance(answer, int) else spaced(answer))
+
+
+def uses(desk):
+    out = [f"day {d}:" + answer_of(desk.day_line(d)) for d in (3420558, 14989860)]
+    out += [f"date {y} {k} {mark(l)} {m}:" + answer_of(desk.date_line(y, k, l, m)) for y, k, l, m in ((9366, 11, False, 1), (11, 8, True, 1))]
+    out += [f"date 1 11 - 1 moved by {n}:" + answer_of(desk.move_line(1, 11, False, 1, n)) for n in (27759, -1)]
+    for y in (9366, 0):
+        place = answer_of(desk.year_lines(y)[0])
+        figures = place.split(" ")
+        out.append(f"place of year {y}:" + (" ".join(figures[:5] + figures[6:7]) if 1 <= y <= YEARS else place))
+    out += [f"year {y}:" + answer_of(desk.year_lines(y)[1]) for y in (11, 41041)]
+    for n in (134, 507600):
+        month = answer_of(desk.month_line(n))
+        out.append(f"month {n}:" + (month.rpartition(" ")[0] if n < MONTHS else month))
+    out += [f"quarter {n} {q}:" + answer_of(desk.quarter_line(n, q)) for n, q in ((115830, 2), (115830, 4))]
+    out += [f"term {y} {k}:" + answer_of(desk.term_line(y, k)) for y, k in ((9366, 0), (9366, 24))]
+    out += [uses_search(desk, 3600, 4000), uses_search(desk, 4000, 3600)]
+    out += [uses_read([0, 0, 1, 0, 134, 0, 0, 0, 0, 0]), uses_read([1, 0, 11])]
+    out += [uses_write([11], [134], [3957]), uses_write([0], [134], [3957])]
+    out += year_block(desk, 11) + year_block(desk, 0)
+    out += [month_or_refusal(desk, word, n) for word in ("", "MONTH ") for n in (134, 507600)]
+    out += [day_or_refusal(desk, d) for d in (0, 14989860)]
+    return "\n".join(out) + "\n"
+
+
 def main():
     desk = Desk()
     wrong = 0
-    for program, text in {"tray": tray(desk)}.items():
+    for program, text in {"tray": tray(desk), "uses": uses(desk)}.items():
         path = ROOT / "crates" / program / "stdout"
         if "--check" in sys.argv[1:]:
             same = path.exists() and path.read_text(encoding="utf8") == text

@@ -1,4 +1,4 @@
--- "decimal numbers without leading zeros", read literally: what the digits are, what they are worth, and that a number has one
+-- Decimal numbers without leading zeros, read literally: what the digits are, what they are worth, and that a number has one
 -- such text alone. No proofs here: proofs/Paper.antt has each under its own name.
 use Prim.Native.Nat.{ℕ, _+_, _-_, _*_, _≤_}
 use mathlib.Core.Path.{_≡_}

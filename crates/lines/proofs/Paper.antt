@@ -13,6 +13,7 @@ use Rattle.rule.specs.Counts.{dayName, yearName}
 use Rattle.rule.specs.Rule.{
   monthStart,
   monthLength,
+  monthOfDay,
   firstMonth,
   monthsInYear,
   midTermsBefore,
@@ -30,6 +31,7 @@ use Rattle.rule.specs.Reasons.{Answer, is, refused, guard, within, andThen, rea
 use Rattle.rule.specs.declared.Reason.{Reason}
 use Rattle.rule.proofs.Answers.{within-true, at-most, two-given, two-first, two-second}
 use Rattle.rule.proofs.Lists.{table-length}
+use Rattle.dates.specs.Dates.{dateIn, dateOf}
 use Rattle.facts.specs.Facts.{monthFacts, yearFacts}
 use Rattle.sheet.specs.declared.HowMany.{HowMany}
 use Rattle.sheet.specs.declared.HowMany.the-variants as HowMany'
@@ -49,7 +51,7 @@ use Rattle.sheet.specs.Sheet.{
   readSheet,
   afterwards,
 }
-use Rattle.fields.specs.Fields.{word, digits, decimal, mark, followed, joined, each}
+use Rattle.fields.specs.Fields.{word, digits, decimal, mark, followed, joined, lined, each}
 use Rattle.lines.specs.Lines.{
   fieldsOfYear,
   monthLine,
@@ -64,7 +66,7 @@ use Rattle.lines.specs.Lines.{
   listing,
 }
 use Rattle.fields.proofs.Paper.{first-tells}
-use Rattle.lines.specs.Promises.{intoRoom, yearBlockAt, monthLineAt, monthItemAt, dayItemAt, Printed}
+use Rattle.lines.specs.Promises.{intoRoom, yearBlockAt, monthLineAt, monthItemAt, dayItemAt, Printed, PrintYear}
 use Rattle.lines.proofs.Fronts.{sheet-front}
 use Rattle.lines.specs.Paper.{inLines}
 use Rattle.lines.specs.Paper as Paper
@@ -125,6 +127,10 @@ year-block-literally y =
 pub month-and-such-a-line : Paper.Month-and-such-a-line
 unfolding monthItem monthLine followed
 month-and-such-a-line n = refl
+
+pub day-line-literally : Paper.Day-line-literally
+unfolding dayItem dateOf dateIn followed
+day-line-literally d = rw (number-at (monthOfDay d), mark-at (monthOfDay d)) refl
 
 pub two-months-two-lines : Paper.Two-months-two-lines
 two-months-two-lines n m e = first-tells n m _ _ (sym (month-line-literally n) ∙ e ∙ month-line-literally m)
@@ -187,12 +193,24 @@ not-unwritten {b = b} {rest} text e f l p =
     let h : 0 ≡ b = ap (λ (s : List ℕ). getD s 0 0) g ∙ ap (λ (s : List ℕ). getD (s ++ drop (length text) (noughts text)) 0 0) f in
     omega (arith, h, l)
 
+-- after the header, in place 26, a line follows and not what was lent
+year-11-given : yearBlockAt 11 (length (noughts (yearBlock 11))) ≡ is (yearBlock 11)
+year-11-given = reasons-of-printing .year 11 (length (noughts (yearBlock 11))) .given .1 ((omega arith, omega arith), room-in-noughts (yearBlock 11))
+
+not-header : {a : HowMany} → PrintYear 11 (noughts (yearBlock 11)) a (placed (lined (fieldsOfYear 11 (yearFacts 11))) (noughts (yearBlock 11))) → ⊥
+unfolding yearBlock monthLined monthFacts yearFacts dayName yearName monthStart monthLength firstMonth monthsInYear midTermsBefore leap midTermNumber monthNumber monthAt eclipse those table digits decimal followed each
+not-header p =
+    let g = p .buffer ∙ ap (λ (c : Answer (List ℕ)). afterwards c (λ s. s) (noughts (yearBlock 11))) year-11-given in
+    let h : _≡_ {A = ℕ} 0 49 = ap (λ (s : List ℕ). getD s 26 0) g in
+    omega (arith, h)
+
 pub wrong-printings : Paper.Wrong-printings
 unfolding yearBlock monthLined monthItem dayItem followed digits decimal
 wrong-printings =
     record {
       year-refused = λ h. not-refused year-given (h 1 (noughts (yearBlock 1)) .1);
       year-unwritten = λ h. not-unwritten (yearBlock 1) year-given refl (omega arith) (h 1 (noughts (yearBlock 1)) .1);
+      header-alone = λ h. not-header (h 11 (noughts (yearBlock 11)) .1);
       month-line-refused = λ h. not-refused line-given (h 0 (noughts (monthLined 0)) .1);
       month-line-unwritten = λ h. not-unwritten (monthLined 0) line-given refl (omega arith) (h 0 (noughts (monthLined 0)) .1);
       month-refused = λ h. not-refused month-given (h 0 (noughts (monthItem 0)) .1);

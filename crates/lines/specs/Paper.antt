@@ -1,13 +1,13 @@
 -- What the paper says of the printed lines, as statements. proofs/Paper.antt proves each under the same name in small letters.
 -- Assumes nothing.
-use Prim.Native.Nat.{ℕ, _+_, _≤_, _<_}
+use Prim.Native.Nat.{ℕ, _+_, _-_, _≤_, _<_}
 use mathlib.Core.Path.{_≡_}
 use mathlib.Core.Logic.{_↔_}
 use mathlib.Core.Bool.{true}
 use mathlib.Core.List.{List, [], _∷_, _++_}
 use lib.ListN.{length, take}
 use Rattle.rule.specs.Counts.{YearInRange, MonthInRange, DayInRange, dayName, yearName}
-use Rattle.rule.specs.Rule.{monthStart, monthLength, monthsInYear, leap, monthNumber, eclipse}
+use Rattle.rule.specs.Rule.{monthStart, monthLength, monthOfDay, monthsInYear, yearOfMonth, leap, monthNumber, eclipse}
 use Rattle.rule.specs.Paper.{monthsOf}
 use Rattle.rule.specs.Reasons.{Answer, is, refused}
 use Rattle.rule.specs.declared.Reason.{Reason}
@@ -15,10 +15,13 @@ use Rattle.sheet.specs.declared.HowMany.{HowMany}
 use Rattle.sheet.specs.declared.HowMany.the-variants as HowMany'
 use Rattle.sheet.specs.Sheet.{Lists, readSheet}
 use Rattle.sheet.specs.Paper.{emptySheet, sheetOf11}
-use Rattle.fields.specs.Fields.{word, decimal, mark, each}
+use Rattle.rule.specs.Lists.{placed}
+use Rattle.facts.specs.Facts.{yearFacts}
+use Rattle.fields.specs.Fields.{word, decimal, mark, lined, each}
 use Rattle.lines.specs.Lines.{
   letterL,
   letterE,
+  fieldsOfYear,
   monthLine,
   monthLined,
   yearBlock,
@@ -105,6 +108,23 @@ Year-block-literally =
 abbrev pub Month-and-such-a-line : Type 0
 Month-and-such-a-line = (n : ℕ) → monthItem n ≡ word "MONTH " ++ (monthLine n ++ (10 ∷ []))
 
+-- a `DAY` line by the date of its day: "the day is the day count and the month is its number"
+abbrev pub Day-line-literally : Type 0
+Day-line-literally =
+    (d : ℕ) →
+    dayItem d
+    ≡ (word "DAY "
+    ++ (decimal d
+    ++ (32
+    ∷ (decimal (yearOfMonth (monthOfDay d))
+    ++ (32
+    ∷ (decimal (monthNumber (monthOfDay d))
+    ++ (32
+    ∷ mark (leap (monthOfDay d)) letterL
+    ∷ 32
+    ∷ (decimal (d - monthStart (monthOfDay d) + 1) ++ (32 ∷ decimal (dayName d))))))))))
+    ++ (10 ∷ [])
+
 -- two different months have two different lines
 abbrev pub Two-months-two-lines : Type 0
 Two-months-two-lines = (n m : ℕ) → monthLine n ≡ monthLine m → n ≡ m
@@ -132,7 +152,7 @@ pub record Unique-printing : Type 0 where
   pub month : Once PrintMonth
   pub day : Once PrintDay
 
--- wrong versions, each shut out at some input: refusing all, and writing nothing
+-- wrong versions, each shut out at some input: refusing all, writing nothing, and a year's header without its months
 abbrev pub Refuses-all : (ℕ → List ℕ → HowMany → List ℕ → Type 0) → Type 0
 Refuses-all P = (x : ℕ) (o : List ℕ) → (r : Reason) × P x o (HowMany'.Refused r) o
 
@@ -142,6 +162,7 @@ Writes-nothing P = (x : ℕ) (o : List ℕ) → (a : HowMany) × P x o a o
 pub record Wrong-printings : Type 0 where
   pub year-refused : Refuses-all PrintYear → ⊥
   pub year-unwritten : Writes-nothing PrintYear → ⊥
+  pub header-alone : ((y : ℕ) (o : List ℕ) → (a : HowMany) × PrintYear y o a (placed (lined (fieldsOfYear y (yearFacts y))) o)) → ⊥
   pub month-line-refused : Refuses-all PrintMonthLine → ⊥
   pub month-line-unwritten : Writes-nothing PrintMonthLine → ⊥
   pub month-refused : Refuses-all PrintMonth → ⊥

@@ -89,7 +89,7 @@ unfoldable pub midTermNumber : ℕ → ℕ
 midTermNumber m = (m + 10) % 12 + 1
 
 -- a month's number is that of the last mid-term before its end: its own, or, where it holds none, that of the month before
--- (Paper, Number-of-mid-term and Leap-bears-number-before)
+-- (Paper, NumberSentences and Numbers)
 unfoldable pub monthNumber : ℕ → ℕ
 monthNumber n = midTermNumber (midTermsBefore (n + 1) - 1)
 

@@ -142,7 +142,7 @@ pub data TooShort (s : List ℕ) (y m d : ℕ) : Type 0 where
   short-months : m < countOf (monthsPart s) → TooShort s y m d
   short-days : d < countOf (daysPart s) → TooShort s y m d
 
--- the first fault of a sheet in byte order, and its reason; then "bytes after the last section"; then "a lent list too short"
+-- the first fault of a sheet in byte order, and its reason; then "bytes after the last section"; then a lent list too short
 pub data SheetFault (s : List ℕ) (y m d r : ℕ) : Type 0 where
   in-years : SectionFault yearItems s r → SheetFault s y m d r
   in-months : GoodSection yearItems s → SectionFault monthItems (monthsPart s) r → SheetFault s y m d r
