@@ -1,4 +1,5 @@
 -- Laws of named months and of days, and the proofs of the statements.
+pub mod Cases
 pub mod Named
 pub mod Days
 pub mod Paper

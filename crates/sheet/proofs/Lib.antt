@@ -1,4 +1,5 @@
 -- Laws of numbers in bytes, of reading, filling and writing, and the proofs of the statements.
+pub mod Cases
 pub mod Numbers
 pub mod Reading
 pub mod Filling

@@ -1,7 +1,9 @@
 -- `moves::back` meets its contract: the day so many earlier, or reason 8. Assumes nothing.
+use Prim.Native.Nat.{ℕ, _-_}
 use native.Mathlib.Omega.{arith}
 use mathlib.Core.Path.{ap, sym, _∙_}
 use Rattle.rule.specs.Reasons.{is}
+use Rattle.dates.specs.Dates.{dateOf}
 use Rattle.moves.proofs.Landing.{back-out, back-lands}
 use borrow.Author.Needs.{needs}
 use Rattle.moves.proofs.back.Statement.{statement}
@@ -23,7 +25,7 @@ date-at-requires : tie.Need-date-at-requires
 date-at-requires c κs = search needs
 
 returns-2 : tie.Need-returns-2
-returns-2 c = ap is (c .date-at .ensures) ∙ sym (back-lands (c .before .before .args .day) (c .before .before .args .n) (omega arith) (omega arith))
+returns-2 c = ap is (c .date-at .ensures) ∙ ap (λ (d : ℕ). is (dateOf d)) {y = c .before .before .args .day - 1 - c .before .before .args .n} (omega arith) ∙ sym (back-lands (c .before .before .args .day) (c .before .before .args .n) (omega arith) (omega arith))
 
 pub back-spec : {M : Type 1} → statement M
 back-spec =

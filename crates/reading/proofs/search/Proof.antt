@@ -23,7 +23,7 @@ use Rattle.reading.proofs.search.Statement.{statement}
 use Rattle.reading.proofs.search.Tie as tie
 
 returns : tie.Need-returns
-returns c = made (c .before .before .args .r) (c .before .before .args .first) (c .before .before .args .last) (c .before .before .args .out .now) (refused 6) (Refused NoSuchDay) (c .before .before .args .out .now) (first-outside (c .before .before .args .r) (c .before .before .args .first) (c .before .before .args .last) (length (c .before .before .args .out .now)) (c .if1 .taken)) refl refl
+returns c = made (c .before .before .args .r) (c .before .before .args .first) (c .before .before .args .last) (c .before .before .args .out .now) (refused 6) (Refused NoSuchDay) (c .before .before .args .out .now) (first-outside (c .before .before .args .r) (c .before .before .args .first) (c .before .before .args .last) (length (c .before .before .args .out .now)) (omega (arith, c .if1 .taken))) refl refl
 
 returns-2 : tie.Need-returns-2
 returns-2 c = made (c .before .before .before .args .r) (c .before .before .before .args .first) (c .before .before .before .args .last) (c .before .before .before .args .out .now) (refused 6) (Refused NoSuchDay) (c .before .before .before .args .out .now) (last-outside (c .before .before .before .args .r) (c .before .before .before .args .first) (c .before .before .before .args .last) (length (c .before .before .before .args .out .now)) (c .if2 .taken)) refl refl
