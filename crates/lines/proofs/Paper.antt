@@ -67,7 +67,6 @@ use Rattle.lines.specs.Lines.{
 }
 use Rattle.fields.proofs.Paper.{first-tells}
 use Rattle.lines.specs.Promises.{intoRoom, yearBlockAt, monthLineAt, monthItemAt, dayItemAt, Printed, PrintYear}
-use Rattle.lines.proofs.Fronts.{sheet-front}
 use Rattle.lines.specs.Paper.{inLines}
 use Rattle.lines.specs.Paper as Paper
 
@@ -230,18 +229,3 @@ wrong-printings =
 
     day-given : dayItemAt 0 (length (noughts (dayItem 0))) ≡ is (dayItem 0)
     day-given = reasons-of-printing .day 0 (length (noughts (dayItem 0))) .given .1 (omega arith, room-in-noughts (dayItem 0))
-
--- so many bytes or more are enough
-front-of : (k : ℕ) → 10007 ≤ k → (s : List ℕ) → listing (take k s) ≡ listing s
-unfolding listing readSheet
-front-of k h s = go (decLt k (length s))
-  where
-    go : Dec (k < length s) → printed (readSheet (take k s)) ≡ printed (readSheet s)
-    go (no g) = ap (λ (t : List ℕ). printed (readSheet t)) (take-all k s (omega (arith, g)))
-    go (yes l) =
-        ap printed
-        (sheet-front (drop k s) (is (listsIn (take k s))) (is (listsIn (take k s ++ drop k s))) (take k s) (omega (arith, h, length-take-le k s (omega (arith, l)))))
-        ∙ ap (λ (t : List ℕ). printed (readSheet t)) (take-append-drop k s)
-
-pub front-is-enough : Paper.Front-is-enough
-front-is-enough = front-of Paper.held (omega arith)

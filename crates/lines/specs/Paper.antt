@@ -169,12 +169,3 @@ pub record Wrong-printings : Type 0 where
   pub month-unwritten : Writes-nothing PrintMonth → ⊥
   pub day-refused : Refuses-all PrintDay → ⊥
   pub day-unwritten : Writes-nothing PrintDay → ⊥
-
--- so many bytes of an input the listing program holds
-abbrev pub held : ℕ
-held = 10007
-
--- a longer input "is refused by its first fault in byte order, and with 11 only if it has none before": the bytes that are held
--- have the listing of the whole
-abbrev pub Front-is-enough : Type 0
-Front-is-enough = (s : List ℕ) → listing (take held s) ≡ listing s

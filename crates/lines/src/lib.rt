@@ -1,7 +1,6 @@
-// The printed lines of "The listing program", put into a lent buffer, and the listing of a whole sheet.
-ghost use mathlib.Core.Path.{_≡_};
+// The printed lines of "The listing program", put into a lent buffer. The listing of a whole sheet is the crate `listed`.
 ghost use mathlib.Core.Bool.{true};
-ghost use mathlib.Core.List.{[], _∷_, _++_};
+ghost use mathlib.Core.List.{[], _∷_};
 ghost use Prim.Native.Nat.{_+_, _*_, _≤_};
 ghost use lib.ListN.{length};
 ghost use Rattle.rule.specs.Counts.{YearInRange, MonthInRange, DayInRange};
@@ -10,8 +9,6 @@ ghost use Rattle.rule.specs.Lists.{those};
 ghost use Rattle.rule.specs.Rule.{numberOf, leapMark};
 ghost use Rattle.fields.specs.Fields.{Put, decimal, mark, joined, each};
 ghost use Rattle.facts.specs.Facts.{monthFacts};
-ghost use Rattle.sheet.specs.Sheet.{yearItems, monthItems, dayItems};
-ghost use Rattle.sheet.specs.Paper.{GoodList, GoodLists};
 ghost use Rattle.lines.specs.Lines.{
   letterL,
   fieldsOfMonth,
@@ -22,8 +19,6 @@ ghost use Rattle.lines.specs.Lines.{
   monthItem,
   dayItem,
   refusedLine,
-  listingOf,
-  listing,
 };
 ghost use Rattle.lines.specs.Promises.{intoRoom, Printed, PrintYear, PrintMonthLine, PrintMonth, PrintDay};
 use dates::Date;
@@ -32,7 +27,6 @@ use facts::YearFacts;
 use rule::Month;
 use rule::Reason;
 use sheet::HowMany;
-use sheet::SheetCounts;
 
 // Two fields that both a month's and a day's line have: the month's number, and `L` for leap.
 fn put_number_and_mark(m: Month, out: &mut [u8], at: usize) -> usize
@@ -205,80 +199,4 @@ pub fn print_day(day: u32, out: &mut [u8]) -> HowMany
     let mut space = [0u8; 61];
     let to = put_day(day, &mut space, 0);
     hand_over(&space[..to], out)
-}
-
-// The blocks of years.
-fn put_years(years: &[u16], out: &mut [u8], at: usize) -> usize
-    requires { ⌜ GoodList yearItems (now years) × (at + 674 * length (now years) ≤ length (now out)) ⌝ }
-    ensures { λ r. ⌜ Put (674 * length (now (years .entry))) (now (out .entry)) at (each yearBlock (now (years .entry)))
-        (now (out .exit)) r ⌝ }
-{
-    let mut to = at;
-    let mut i = 0;
-    while i < years.len() {
-        to = put_year(years[i], out, to);
-        i += 1;
-    }
-    to
-}
-
-// The `MONTH` lines of month items.
-fn put_month_items(months: &[u32], out: &mut [u8], at: usize) -> usize
-    requires { ⌜ GoodList monthItems (now months) × (at + 54 * length (now months) ≤ length (now out)) ⌝ }
-    ensures { λ r. ⌜ Put (54 * length (now (months .entry))) (now (out .entry)) at (each monthItem (now (months .entry)))
-        (now (out .exit)) r ⌝ }
-{
-    let mut to = at;
-    let mut i = 0;
-    while i < months.len() {
-        to = put_month(months[i], out, to);
-        i += 1;
-    }
-    to
-}
-
-// The `DAY` lines of day items.
-fn put_day_items(days: &[u32], out: &mut [u8], at: usize) -> usize
-    requires { ⌜ GoodList dayItems (now days) × (at + 61 * length (now days) ≤ length (now out)) ⌝ }
-    ensures { λ r. ⌜ Put (61 * length (now (days .entry))) (now (out .entry)) at (each dayItem (now (days .entry)))
-        (now (out .exit)) r ⌝ }
-{
-    let mut to = at;
-    let mut i = 0;
-    while i < days.len() {
-        to = put_day(days[i], out, to);
-        i += 1;
-    }
-    to
-}
-
-// The listing of three lists: 674, 54 and 61 bytes at most for an item, and 1,000 items at most in each.
-fn put_lists(years: &[u16], months: &[u32], days: &[u32], out: &mut [u8]) -> usize
-    requires { ⌜ GoodLists (record { years = now years; months = now months; days = now days }) × (789000 ≤ length (now out)) ⌝ }
-    ensures { λ r. ⌜ Put 789000 (now (out .entry)) 0
-        (listingOf (record { years = now (years .entry); months = now (months .entry); days = now (days .entry) }))
-        (now (out .exit)) r ⌝ }
-{
-    let to1 = put_years(years, out, 0);
-    let to2 = put_month_items(months, out, to1);
-    put_day_items(days, out, to2)
-}
-
-// The listing of a sheet's bytes, at the front of a buffer that has room for the longest.
-pub fn list_sheet(bytes: &[u8], out: &mut [u8]) -> usize
-    requires { ⌜ 789000 ≤ length (now out) ⌝ }
-    ensures { λ r. ⌜ Put 789000 (now (out .entry)) 0 (listing (now (bytes .entry))) (now (out .exit)) r ⌝ }
-{
-    let mut years = [0u16; 1000];
-    let mut months = [0u32; 1000];
-    let mut days = [0u32; 1000];
-    match sheet::read_sheet(bytes, &mut years, &mut months, &mut days) {
-        SheetCounts::Refused(why) => put_refused(why, out, 0),
-        SheetCounts::Is(c) => {
-            let y = c.years;
-            let m = c.months;
-            let d = c.days;
-            put_lists(&years[..y], &months[..m], &days[..d], out)
-        }
-    }
 }

@@ -8,7 +8,7 @@ use Rattle.listed.proofs.list_from.Reads as reads
 use Rattle.listed.proofs.list_from.Lts as lts
 use Rattle.io.proofs.read_full.Reads as read-full-reads
 use Rattle.io.proofs.write_all.Reads as write-all-reads
-use Rattle.lines.proofs.list_sheet.Reads as list-sheet-reads
+use Rattle.listed.proofs.list_sheet.Reads as list-sheet-reads
 use Rattle.listed.proofs.room.Reads as room-reads
 use Rattle.listed.proofs.sheet_room.Reads as sheet-room-reads
 

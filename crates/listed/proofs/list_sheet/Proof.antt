@@ -1,18 +1,18 @@
--- `lines::list_sheet` meets its contract: `REFUSED` and the number, or the lists' listing. Assumes nothing.
+-- `listed::list_sheet` meets its contract: `REFUSED` and the number, or the lists' listing. Assumes nothing.
 use native.Mathlib.Omega.{arith}
 use mathlib.Core.Path.{ap, sym, subst, _∙_}
 use lib.ListN.{length}
 use Rattle.sheet.specs.Paper.{GoodLists}
 use Rattle.fields.proofs.Putting.{wide, put-as}
 use Rattle.lines.specs.Lines.{printed, listingOf, listing}
-use Rattle.lines.proofs.Reading.{sheet-says, years-there, months-there, days-there, all-there, all-good, sheet-refused}
+use Rattle.listed.proofs.Reading.{sheet-says, years-there, months-there, days-there, all-there, all-good, sheet-refused}
 use borrow.Author.Needs.{needs}
-use Rattle.lines.proofs.list_sheet.Statement.{statement}
-use Rattle.lines.proofs.list_sheet.Tie as tie
-use Rattle.lines.proofs.list_sheet.Reads as reads
-use Rattle.lines.proofs.list_sheet.Lts as lts
-use Rattle.lines.proofs.put_lists.Reads as put-lists-reads
+use Rattle.listed.proofs.list_sheet.Statement.{statement}
+use Rattle.listed.proofs.list_sheet.Tie as tie
+use Rattle.listed.proofs.list_sheet.Reads as reads
+use Rattle.listed.proofs.list_sheet.Lts as lts
+use Rattle.listed.proofs.put_lists.Reads as put-lists-reads
 use Rattle.lines.proofs.put_refused.Reads as put-refused-reads
 use Rattle.sheet.proofs.read_sheet.Reads as read-sheet-reads
 
 slice-aggregate-read-sheet : tie.Need-slice-aggregate-read-sheet

@@ -1,15 +1,15 @@
--- `lines::put_month_items` meets its contract. The invariant: the texts of the first i items are put. Assumes nothing.
+-- `listed::put_month_items` meets its contract. The invariant: the texts of the first i items are put. Assumes nothing.
 use Prim.Native.Nat.{_-_}
 use native.Mathlib.Omega.{arith}
 use lib.ListN.{length}
 use Rattle.fields.proofs.Putting.{put-kept}
 use Rattle.lines.specs.Lines.{monthItem}
-use Rattle.lines.proofs.Items.{ItemsPut, no-item, room-for-item, next-item, all-items}
-use Rattle.lines.proofs.put_month_items.Statement.{statement}
-use Rattle.lines.proofs.put_month_items.Tie as tie
-use Rattle.lines.proofs.put_month_items.Reads as reads
-use Rattle.lines.proofs.put_month_items.Lts as lts
+use Rattle.listed.proofs.Items.{ItemsPut, no-item, room-for-item, next-item, all-items}
+use Rattle.listed.proofs.put_month_items.Statement.{statement}
+use Rattle.listed.proofs.put_month_items.Tie as tie
+use Rattle.listed.proofs.put_month_items.Reads as reads
+use Rattle.listed.proofs.put_month_items.Lts as lts
 use Rattle.lines.proofs.put_month.Reads as put-month-reads
 
 abbrev Inv-loop : tie.InvT-loop
 Inv-loop months out₀ at to₀ i₀ out to i = ItemsPut 54 monthItem months out₀ at out to i

@@ -1,15 +1,15 @@
--- `lines::put_years` meets its contract. The invariant: the texts of the first i items are put. Assumes nothing.
+-- `listed::put_years` meets its contract. The invariant: the texts of the first i items are put. Assumes nothing.
 use Prim.Native.Nat.{_-_}
 use native.Mathlib.Omega.{arith}
 use lib.ListN.{length}
 use Rattle.fields.proofs.Putting.{put-kept}
 use Rattle.lines.specs.Lines.{yearBlock}
-use Rattle.lines.proofs.Items.{ItemsPut, no-item, room-for-item, next-item, all-items}
-use Rattle.lines.proofs.put_years.Statement.{statement}
-use Rattle.lines.proofs.put_years.Tie as tie
-use Rattle.lines.proofs.put_years.Reads as reads
-use Rattle.lines.proofs.put_years.Lts as lts
+use Rattle.listed.proofs.Items.{ItemsPut, no-item, room-for-item, next-item, all-items}
+use Rattle.listed.proofs.put_years.Statement.{statement}
+use Rattle.listed.proofs.put_years.Tie as tie
+use Rattle.listed.proofs.put_years.Reads as reads
+use Rattle.listed.proofs.put_years.Lts as lts
 use Rattle.lines.proofs.put_year.Reads as put-year-reads
 
 abbrev Inv-loop : tie.InvT-loop
 Inv-loop years out₀ at to₀ i₀ out to i = ItemsPut 674 yearBlock years out₀ at out to i

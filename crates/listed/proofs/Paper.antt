@@ -1,0 +1,28 @@
+-- The statement of specs/Paper, proved under its own name. Assumes nothing.
+use Prim.Native.Nat.{ℕ, _≤_, _<_}
+use native.Mathlib.Omega.{arith}
+use native.Mathlib.Decide.{decLt}
+use mathlib.Core.Path.{_≡_, ap, _∙_}
+use mathlib.Core.List.{List, _++_}
+use lib.ListN.{length, take, drop, take-append-drop}
+use lib.Seq.{take-all, length-take-le}
+use Rattle.rule.specs.Reasons.{is}
+use Rattle.sheet.specs.Sheet.{listsIn, readSheet}
+use Rattle.lines.specs.Lines.{printed, listing}
+use Rattle.listed.proofs.Fronts.{sheet-front}
+use Rattle.listed.specs.Paper as Paper
+
+-- so many bytes or more are enough
+front-of : (k : ℕ) → 10007 ≤ k → (s : List ℕ) → listing (take k s) ≡ listing s
+unfolding listing readSheet
+front-of k h s = go (decLt k (length s))
+  where
+    go : Dec (k < length s) → printed (readSheet (take k s)) ≡ printed (readSheet s)
+    go (no g) = ap (λ (t : List ℕ). printed (readSheet t)) (take-all k s (omega (arith, g)))
+    go (yes l) =
+        ap printed
+        (sheet-front (drop k s) (is (listsIn (take k s))) (is (listsIn (take k s ++ drop k s))) (take k s) (omega (arith, h, length-take-le k s (omega (arith, l)))))
+        ∙ ap (λ (t : List ℕ). printed (readSheet t)) (take-append-drop k s)
+
+pub front-is-enough : Paper.Front-is-enough
+front-is-enough = front-of Paper.held (omega arith)

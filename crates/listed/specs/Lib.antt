@@ -1,0 +1,2 @@
+-- The listing of a sheet: what is stated of it. Its definition is in `lines`.
+pub mod Paper
