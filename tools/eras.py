@@ -24,9 +24,8 @@ import pathlib
 import sys
 
 sys.dont_write_bytecode = True
-from expected import Desk, name
+from expected import ROOT, Desk, hold, name
 
-ROOT = pathlib.Path(__file__).resolve().parent.parent
 ROWS = ROOT / "tools" / "eras.tsv"
 COLUMNS = "id kind inputs printed rule lines agrees class literal quote note".split()
 
@@ -295,19 +294,12 @@ def main():
     if sys.argv[1:2] == ["--from"]:
         choose(pathlib.Path(sys.argv[2]))
         return 0
-    run, wrong = Run(), 0
+    run = Run()
     for row in rows_in(ROWS):
         assert is_used(row)
         run.row(row)
-    for file, lines in (("stdin", run.input), ("stdout", run.output + run.total())):
-        path, text = ROOT / "crates" / "eras" / file, "".join(line + "\n" for line in lines)
-        if "--check" in sys.argv[1:]:
-            same = path.exists() and path.read_text(encoding="utf8") == text
-            print(f"{file} of eras: {'as computed' if same else 'NOT as computed'}")
-            wrong += not same
-        else:
-            path.write_text(text, encoding="utf8")
-    return 1 if wrong else 0
+    texts = {"stdin": run.input, "stdout": run.output + run.total()}
+    return hold({ROOT / "crates" / "eras" / file: "".join(line + "\n" for line in lines).encode() for file, lines in texts.items()})
 
 
 if __name__ == "__main__":

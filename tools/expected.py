@@ -10,6 +10,8 @@ usage: tools/expected.py            write the expected output of each program it
 import pathlib
 import sys
 
+sys.dont_write_bytecode = True
+
 ROOT = pathlib.Path(__file__).resolve().parent.parent
 YEARS, MONTHS, DAYS = 41040, 507600, 14989860
 
@@ -453,18 +455,24 @@ def uses(desk):
     return "\n".join(out) + "\n"
 
 
+def hold(files):
+    """Write the files, or with --check say of each program whether its files stand as computed. The exit status."""
+    if "--check" not in sys.argv[1:]:
+        for path, data in files.items():
+            path.parent.mkdir(exist_ok=True)
+            path.write_bytes(data)
+        return 0
+    wrong = {path for path, data in files.items() if not (path.exists() and path.read_bytes() == data)}
+    for program in dict.fromkeys(path.relative_to(ROOT).parts[1] for path in files):
+        strange = sorted(str(path.relative_to(ROOT)) for path in wrong if path.relative_to(ROOT).parts[1] == program)
+        print(f"{program}: {'as computed' if not strange else 'NOT as computed: ' + ', '.join(strange)}")
+    return 1 if wrong else 0
+
+
 def main():
     desk = Desk()
-    wrong = 0
-    for program, text in {"tray": tray(desk), "uses": uses(desk)}.items():
-        path = ROOT / "crates" / program / "stdout"
-        if "--check" in sys.argv[1:]:
-            same = path.exists() and path.read_text(encoding="utf8") == text
-            print(f"expected output of {program}: {'as computed' if same else 'NOT as computed'}")
-            wrong += not same
-        else:
-            path.write_text(text, encoding="utf8")
-    return 1 if wrong else 0
+    texts = {"tray": tray(desk), "uses": uses(desk)}
+    return hold({ROOT / "crates" / program / "stdout": text.encode() for program, text in texts.items()})
 
 
 if __name__ == "__main__":

@@ -2,15 +2,15 @@
 """The sheets of the program `sheets`, and what it must write for them, by a computation of its own.
 
 The sheets are made here, byte by byte, and stand in crates/sheets/data/, their names in crates/sheets/args. What must be
-written is computed from them by the walked calendar and the plain reader of tools/expected.py, which share nothing with the
-library; the three kinds of line are written here from the sentences of the paper.
+written is computed from them by the walked calendar, the plain reader and the plain lines of tools/expected.py, which share
+nothing with the library.
 
 usage: tools/sheets.py            write the sheets, their names and the expected output
        tools/sheets.py --check    say whether what stands is what it computes (exit status 1 if not)
 """
 import sys
 
-from expected import DAYS, MONTHS, ROOT, YEARS, Desk, name, mark, read_sheet
+from expected import DAYS, MONTHS, ROOT, YEARS, Desk, day_or_refusal, hold, month_fields, read_sheet, year_block
 
 
 def two(n):
@@ -96,50 +96,24 @@ def sheets():
     }
 
 
-class Lines:
-    """The lines of the listing program, from the paper's sentences."""
-
-    def __init__(self, desk):
-        self.desk, self.c = desk, desk.c
-
-    def month(self, n):
-        eclipse = "E" if 23 * (n + 1) % 135 < 23 else "-"
-        first = name(self.c.starts[n], 1)
-        return f"{n} {self.c.number[n]} {mark(self.c.leap[n])} {first} {self.c.length(n)} {eclipse}\n"
-
-    def year(self, y):
-        months = self.c.months_of[y]
-        return f"YEAR {y} NAME {name(y - 1, 17)} MONTHS {len(months)}\n" + "".join(map(self.month, months))
-
-    def day(self, d):
-        y, k, l, m, _, dn, _ = self.desk.date_fields(d)
-        return f"DAY {d} {y} {k} {mark(l)} {m} {dn}\n"
-
-    def listing(self, data):
-        read = read_sheet(list(data), (1000, 1000, 1000))
-        if isinstance(read, int):
-            return f"REFUSED {read}\n"
-        years, months, days = read
-        return "".join(map(self.year, years)) + "".join("MONTH " + self.month(n) for n in months) + "".join(map(self.day, days))
+def listing(desk, data):
+    """What the listing program prints for a sheet: years, months, days, or `REFUSED` and the number."""
+    read = read_sheet(list(data), (1000, 1000, 1000))
+    if isinstance(read, int):
+        return f"REFUSED {read}\n"
+    lines = [line for y in read[0] for line in year_block(desk, y)]
+    lines += ["MONTH " + month_fields(desk, n) for n in read[1]]
+    lines += [day_or_refusal(desk, d) for d in read[2]]
+    return "".join(line + "\n" for line in lines)
 
 
 def main():
-    home = ROOT / "crates" / "sheets"
-    all_sheets, lines = sheets(), Lines(Desk())
-    text = "".join(f"SHEET {key}\n{lines.listing(data)}" for key, data in all_sheets.items())
+    home, desk, all_sheets = ROOT / "crates" / "sheets", Desk(), sheets()
+    text = "".join(f"SHEET {key}\n{listing(desk, data)}" for key, data in all_sheets.items())
     met = {int(line.split()[1]) for line in text.splitlines() if line.startswith("REFUSED")}
     assert met == {1, 6, 7, 9, 10, 11}, met
     files = {home / "args": "".join(f"{key}\n" for key in all_sheets).encode(), home / "stdout": text.encode()}
-    files |= {home / "data" / key: data for key, data in all_sheets.items()}
-    if "--check" in sys.argv[1:]:
-        extra = {p for p in (home / "data").iterdir()} - set(files)
-        same = not extra and all(path.exists() and path.read_bytes() == data for path, data in files.items())
-        print(f"sheets of sheets and their expected output: {'as computed' if same else 'NOT as computed'}")
-        return 0 if same else 1
-    (home / "data").mkdir(exist_ok=True)
-    for path, data in files.items():
-        path.write_bytes(data)
-    return 0
+    return hold(files | {home / "data" / key: data for key, data in all_sheets.items()})
 
 
 if __name__ == "__main__":
