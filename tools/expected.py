@@ -321,6 +321,28 @@ def searches_kept(desk):
     return out + [desk.search_line((27, 5, 1, m, None, None), 3600, 3900) for m in (1, 15, 30)]
 
 
+def print_line(word, n, room, reason, lines):
+    """A text, none where it does not exist, into the first so many of thirty sevens."""
+    text = None if lines is None else "".join(line + "\n" for line in lines).encode()
+    buffer, answer = b"\7" * 30, f" BYTES {len(text)}" if text else refusal(reason)
+    if text and len(text) > room:
+        answer = refusal(12)
+    elif text:
+        buffer = text + buffer[len(text):]
+    return f"PRINT {word} {n} INTO {room}:{answer}; BUFFER{spaced(buffer)}"
+
+
+def printed_lines(desk):
+    def month(n, word):
+        return [word + month_fields(desk, n)] if 0 <= n < MONTHS else None
+
+    out = [print_line("YEAR", y, room, 1, year_block(desk, y) if 1 <= y <= YEARS else None) for y, room in ((0, 0), (41041, 30), (70000, 30), (11, 30))]
+    out += [print_line("LINE", n, room, 7, month(n, "")) for n, room in ((507600, 0), (507599, 0), (134, 15), (134, 16), (134, 30))]
+    out += [print_line("MONTH", n, room, 7, month(n, "MONTH ")) for n, room in ((507600, 0), (134, 21), (134, 22), (4294967295, 30))]
+    days = ((14989860, 0), (14989859, 29), (14989859, 30), (0, 30))
+    return out + [print_line("DAY", d, room, 6, [day_or_refusal(desk, d)] if d < DAYS else None) for d, room in days]
+
+
 def tray(desk):
     least, most = -(2**63), 2**63 - 1
     out = ["THE REJECT TRAY"]
@@ -358,6 +380,7 @@ def tray(desk):
     out += searches(desk)
     out += sheets()
     out.append("WRITE 1001 YEARS:" + refusal(write_sheet(([11] * 1001, [], []), 2)))
+    out += printed_lines(desk)
     out.append("WHAT MUST NOT BE REJECTED")
     out += [desk.day_line(14989859), desk.date_line(*last)]
     out += [desk.move_line(*first, 0), desk.move_line(*first, 14989859), desk.move_line(*last, -14989859)]

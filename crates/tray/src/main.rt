@@ -3,6 +3,7 @@
 
 mod ask;
 mod pairs;
+mod printed;
 mod readings;
 mod sheets;
 
@@ -150,6 +151,7 @@ fn main() {
     sheets::ends();
     sheets::written();
     sheets::too_many();
+    printed::all();
     show::text(b"WHAT MUST NOT BE REJECTED\n");
     kept();
     readings::kept();
