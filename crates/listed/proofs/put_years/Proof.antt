@@ -30,7 +30,7 @@ put-year-requires : tie.Need-put-year-requires Inv-loop μ-loop
 put-year-requires c κs =
     let l = c .before .before .before in
     let h = c .before .before .loop-test .taken in
-    (c .before .before .before .before .before .before .pre .0 .items (l .loop .i) h, room-for-item (l .loop .inv) h (c .before .before .before .before .before .before .pre .1))
+    (c .before .before .before .before .before .before .pre .0 .items _ (omega (arith, h)), room-for-item (l .loop .inv) h (c .before .before .before .before .before .before .pre .1))
 
 add-i : tie.Need-add-i Inv-loop μ-loop
 add-i c = omega arith
