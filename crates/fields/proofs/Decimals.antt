@@ -37,6 +37,14 @@ decimal-more (suc j) h =
 pub length-more : (n : ℕ) → 10 ≤ n → length (decimal n) ≡ length (decimal (n / 10)) + 1
 length-more n h = ap length (decimal-more n h) ∙ length-append (decimal (n / 10)) ((48 + n % 10) ∷ [])
 
+-- every number has a digit
+pub decimal-some : (n : ℕ) → 1 ≤ length (decimal n)
+decimal-some n = go (decLt n 10)
+  where
+    go : Dec (n < 10) → 1 ≤ length (decimal n)
+    go (yes l) = omega (arith, ap length (decimal-one n l))
+    go (no g) = omega (arith, length-more n (omega (arith, g)))
+
 -- a number below the w-th power of ten after the first has so many digits at most
 pub decimal-short : (w n : ℕ) → n < 10 ^ suc w → length (decimal n) ≤ suc w
 decimal-short zero n h = omega (arith, ap length (decimal-one n h))

@@ -3,7 +3,7 @@ use native.Mathlib.Omega.{arith}
 use mathlib.Core.Path.{ap, sym}
 use lib.ListN.{length}
 use borrow.Author.Needs.{needs}
-use Rattle.fields.proofs.Decimals.{decimal-one, decimal-more, length-more}
+use Rattle.fields.proofs.Decimals.{decimal-one, decimal-more, decimal-some, length-more}
 use Rattle.fields.proofs.Putting.{put-kept, wide, then, put-as}
 use Prim.Native.Nat.{ℕ, _<_}
 use borrow.Fn.Kinds.{In}
@@ -52,7 +52,7 @@ put-digits-put-byte-requires : (t : ℕ) → put-digits-lts.Need-put-byte-requir
   put-digits.Post,
 ) (put-digits-at t) put-digits.Post
 put-digits-put-byte-requires t c κs =
-    omega (arith, ap length (decimal-one (c .before .before .before .args .n) (omega arith)))
+    omega (arith, decimal-some (c .before .before .before .args .n))
 
 -- src/lib.rt:37:9
 put-digits-same-length : (t : ℕ) → put-digits-lts.Need-same-length (
