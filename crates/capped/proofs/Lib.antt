@@ -1,0 +1,2 @@
+-- The statements about numbers too large for their type, proved.
+pub mod Paper
