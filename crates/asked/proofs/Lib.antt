@@ -1,0 +1,3 @@
+-- Laws of a line's fields, and the proofs of the statements.
+pub mod Scanning
+pub mod Parting

@@ -1,0 +1,124 @@
+-- Laws of scans, one byte after the other: digits, what they are worth, forms, the end of a field. Assumes nothing.
+use Prim.Native.Nat.{ℕ, suc, _+_, _-_, _*_, _≤_, _<_}
+use native.Mathlib.Numerals.{add-one}
+use native.Mathlib.Omega.{arith}
+use native.Mathlib.Nat.{not-suc-le-zero}
+use mathlib.Core.Path.{_≡_, refl, ap, ap₂, sym, _∙_}
+use mathlib.Core.Bool.{Bool, true, false, not, cond, _&&_, and-eq-true-iff}
+use mathlib.Core.List.{List, [], _∷_, _++_}
+use lib.Dec.{eqb}
+use lib.ListN.{length, getD, take, drop, set, drop-of-length-le, length-drop}
+use lib.Seq.{sets, drop-cons, drop-drop, take-all}
+use Rattle.rule.specs.Reasons.{within}
+use Rattle.fields.specs.Fields.{word}
+use Rattle.fields.specs.Paper.{valueFrom}
+use Rattle.capped.specs.Capped.{capped}
+use Rattle.asked.specs.Asked.{firstField, inFrontOf, fieldsIn, allDigits, leads, isDecimal, admits, like, isBack}
+
+-- what is left of a list, from its next byte on
+pub rest : (s : List ℕ) (i : ℕ) → i < length s → drop i s ≡ getD s i 0 ∷ drop (i + 1) s
+rest s i h = drop-cons s i 0 h ∙ ap (λ (j : ℕ). getD s i 0 ∷ drop j s) (sym (add-one i))
+
+-- a part up to the end
+pub to-the-end : (i : ℕ) (s : List ℕ) → take (length s - i) (drop i s) ≡ drop i s
+to-the-end i s = take-all (length s - i) (drop i s) (omega (arith, length-drop i s))
+
+-- the digits that are left
+pub digit-next : (s : List ℕ) (i : ℕ) → i < length s → within 48 57 (getD s i 0) ≡ true → allDigits (drop i s) ≡ allDigits (drop (i + 1) s)
+unfolding allDigits
+digit-next s i h e = ap allDigits (rest s i h) ∙ rw (e) refl
+
+pub no-digit : (s : List ℕ) (i : ℕ) → i < length s → within 48 57 (getD s i 0) ≡ false → allDigits (drop i s) ≡ false
+unfolding allDigits
+no-digit s i h e = ap allDigits (rest s i h) ∙ rw (e) refl
+
+pub no-more-digits : (s : List ℕ) (i : ℕ) → length s ≤ i → allDigits (drop i s) ≡ true
+unfolding allDigits
+no-more-digits s i h = ap allDigits (drop-of-length-le s h)
+
+-- how a number may start, by its length
+pub short : (s : List ℕ) → length s < 2 → eqb (length s) 1 ≡ leads s
+short [] h = refl
+short (b ∷ []) h = refl
+short (b ∷ c ∷ s) h = absurd (omega arith)
+
+pub long : (s : List ℕ) → 2 ≤ length s → not (eqb (getD s 0 0) 48) ≡ leads s
+long [] h = absurd (omega arith)
+long (b ∷ []) h = absurd (omega arith)
+long (b ∷ c ∷ s) h = refl
+
+-- what the digits that are left make of a number
+capped-step : (a d : ℕ) → capped (10 * capped a + d) ≡ capped (10 * a + d)
+capped-step a d = omega arith
+
+pub capped-value : (s : List ℕ) (a : ℕ) → capped (valueFrom (capped a) s) ≡ capped (valueFrom a s)
+unfolding valueFrom
+capped-value [] a = omega arith
+capped-value (d ∷ s) a =
+    sym (capped-value s (10 * capped a + (d - 48)))
+    ∙ ap (λ (v : ℕ). capped (valueFrom v s)) (capped-step a (d - 48))
+    ∙ capped-value s (10 * a + (d - 48))
+
+pub value-next : (s : List ℕ) (i v : ℕ) → i < length s → capped (valueFrom (capped (10 * v + (getD s i 0 - 48))) (drop (i + 1) s)) ≡ capped (valueFrom v (drop i s))
+unfolding valueFrom
+value-next s i v h = capped-value (drop (i + 1) s) (10 * v + (getD s i 0 - 48)) ∙ sym (ap (λ (t : List ℕ). capped (valueFrom v t)) (rest s i h))
+
+pub value-last : (s : List ℕ) (i v : ℕ) → length s ≤ i → v ≤ 4294967295 → capped (valueFrom v (drop i s)) ≡ v
+unfolding valueFrom
+value-last s i v h r = ap (λ (t : List ℕ). capped (valueFrom v t)) (drop-of-length-le s h) ∙ omega arith
+
+-- a form and a text
+pub like-next : (p s : List ℕ) (i : ℕ) → i < length p → i < length s → admits (getD p i 0) (getD s i 0) ≡ true → like (drop i p) (drop i s) ≡ like (drop (i + 1) p) (drop (i + 1) s)
+unfolding like
+like-next p s i h g e = ap₂ like (rest p i h) (rest s i g) ∙ ap (λ (t : Bool). t && like (drop (i + 1) p) (drop (i + 1) s)) e
+
+pub unlike : (p s : List ℕ) (i : ℕ) → i < length p → i < length s → admits (getD p i 0) (getD s i 0) ≡ false → like (drop i p) (drop i s) ≡ false
+unfolding like
+unlike p s i h g e = ap₂ like (rest p i h) (rest s i g) ∙ ap (λ (t : Bool). t && like (drop (i + 1) p) (drop (i + 1) s)) e
+
+pub like-end : (p s : List ℕ) (i : ℕ) → length p ≤ i → length s ≤ i → like (drop i p) (drop i s) ≡ true
+unfolding like
+like-end p s i h g = ap₂ like (drop-of-length-le p h) (drop-of-length-le s g)
+
+pub as-long : (p s : List ℕ) → like p s ≡ true → length s ≡ length p
+unfolding like
+as-long [] [] e = refl
+as-long [] (k ∷ s) e = absurd (let o : _≡_ {A = ℕ} 0 1 = cc in omega arith)
+as-long (q ∷ p) [] e = absurd (let o : _≡_ {A = ℕ} 0 1 = cc in omega arith)
+as-long (q ∷ p) (k ∷ s) e = ap suc (as-long p s (and-eq-true-iff (admits q k) (like p s) .0 e .1))
+
+pub not-as-long : (p s : List ℕ) → (length p ≡ length s → ⊥) → like p s ≡ false
+not-as-long p s other = go (like p s) refl
+  where
+    go : (t : Bool) → like p s ≡ t → t ≡ false
+    go true e = absurd (other (sym (as-long p s e)))
+    go false e = refl
+
+-- a number that starts with `-`
+pub empty-back : (s : List ℕ) → length s ≡ 0 → false ≡ isBack s
+unfolding isBack
+empty-back [] h = refl
+empty-back (b ∷ s) h = absurd (omega arith)
+
+pub back-made : (s : List ℕ) → (length s ≡ 0 → ⊥) → (a b : Bool) → a ≡ like (word "0") (drop 1 s) → b ≡ isDecimal (drop 1 s) → (eqb (getD s 0 0) 45 && not a && b) ≡ isBack s
+unfolding isBack
+back-made [] h a b e f = absurd (h refl)
+back-made (d ∷ s) h a b e f = ap₂ (λ (i j : Bool). eqb d 45 && not i && j) e f
+
+pub back-long : (s : List ℕ) → isBack s ≡ true → 1 ≤ length s
+unfolding isBack
+back-long [] e = absurd (let o : _≡_ {A = ℕ} 0 1 = cc in omega arith)
+back-long (d ∷ s) e = omega arith
+
+-- the first field of what is left
+pub field-more : (s : List ℕ) (i : ℕ) → i < length s → eqb (getD s i 0) 32 ≡ false → length (firstField (drop i s)) ≡ length (firstField (drop (i + 1) s)) + 1
+unfolding firstField
+field-more s i h e = ap (λ (t : List ℕ). length (firstField t)) (rest s i h) ∙ rw (e) (omega arith)
+
+pub field-over : (s : List ℕ) (i : ℕ) → i < length s → eqb (getD s i 0) 32 ≡ true → length (firstField (drop i s)) ≡ 0
+unfolding firstField
+field-over s i h e = ap (λ (t : List ℕ). length (firstField t)) (rest s i h) ∙ rw (e) refl
+
+pub field-none : (s : List ℕ) (i : ℕ) → length s ≤ i → length (firstField (drop i s)) ≡ 0
+unfolding firstField
+field-none s i h = ap (λ (t : List ℕ). length (firstField t)) (drop-of-length-le s h)
