@@ -1,0 +1,3 @@
+-- Laws of answers, and the proofs of the statements.
+pub mod Telling
+pub mod Paper

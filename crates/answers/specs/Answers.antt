@@ -1,0 +1,114 @@
+-- The text with which the desk program answers a query, for every number, as lists of bytes. "Where 01's listing has such a line,
+-- its fields come first and in its order." Assumes nothing.
+use Prim.Native.Nat.{ℕ, _-_}
+use mathlib.Core.Bool.{Bool}
+use mathlib.Core.List.{List, [], _∷_, _++_}
+use lib.IntN.{ℤ}
+use lib.ListN.{getD}
+use Rattle.rule.specs.Rule.{numberOf, leapMark}
+use Rattle.rule.specs.Reasons.{Answer, is, refused, refused-with, reasonsInOrder}
+use Rattle.rule.specs.declared.Quarter.{Quarter}
+use Rattle.rule.specs.declared.Reason.the-variants.{NoSuchYear}
+use Rattle.dates.specs.declared.Date.{Date}
+use Rattle.dates.specs.Dates.{dateOf, dateAt, dayOfDate}
+use Rattle.moves.specs.Moves.{moved}
+use Rattle.facts.specs.declared.SolsticeYear.{SolsticeYear}
+use Rattle.facts.specs.declared.LeapMonth.{LeapMonth}
+use Rattle.facts.specs.declared.LeapMonth.the-variants.{Without, With}
+use Rattle.facts.specs.declared.YearFacts.{YearFacts}
+use Rattle.facts.specs.declared.MonthFacts.{MonthFacts}
+use Rattle.facts.specs.Facts.{solsticeYearAt, yearFactsAt, monthFactsAt, quarterAt, termAt}
+use Rattle.reading.specs.declared.Reading.{Reading}
+use Rattle.reading.specs.Readings.{windowDays, fitting}
+use Rattle.reading.specs.Search.{searchAt}
+use Rattle.fields.specs.Fields.{word, decimal, lined, each}
+use Rattle.lines.specs.Lines.{fieldsOfMonth, fieldsOfYear, fieldsOfDay, wordsOf}
+
+-- the words of the reason with number k: the paper's table has it in place k (Paper, Words-of-a-number)
+unfoldable pub wordsNumbered : ℕ → List ℕ
+wordsNumbered k = wordsOf (getD reasonsInOrder (k - 1) NoSuchYear)
+
+-- "A refusal is `REFUSED number words`"
+unfoldable pub refusedText : ℕ → List ℕ
+refusedText k = lined (word "REFUSED" ∷ decimal k ∷ wordsNumbered k ∷ [])
+
+-- an answer: its text, or the refusal
+abbrev pub told : {A : Type 0} → (A → List ℕ) → Answer A → List ℕ
+told f (is a) = f a
+told f (refused k) = refusedText k
+told f (refused-with k n) = refusedText k
+
+-- `PLACE year`: `PLACE ji bu year-in-bu head-name first-month leap-remainder months`
+abbrev pub fieldsOfBu : SolsticeYear → List (List ℕ)
+fieldsOfBu p = word "PLACE" ∷ decimal (p .ji) ∷ decimal (p .bu) ∷ decimal (p .«year_in_bu») ∷ decimal (p .«head_name») ∷ []
+
+unfoldable pub placeLine : SolsticeYear → List ℕ
+placeLine p = lined (fieldsOfBu p ++ (decimal (p .«first_month») ∷ decimal (p .«leap_remainder») ∷ decimal (p .months) ∷ []))
+
+unfoldable pub placeText : ℕ → List ℕ
+placeText y = told placeLine (solsticeYearAt y)
+
+-- a year's leap month by number and count, "`-` where there is none"
+abbrev pub fieldsOfLeap : LeapMonth → List (List ℕ)
+fieldsOfLeap Without = word "-" ∷ word "-" ∷ []
+fieldsOfLeap (With k n) = decimal k ∷ decimal n ∷ []
+
+-- `YEAR year`: `YEAR year NAME name MONTHS months FIRST first-month LEAP number month-count`
+unfoldable pub yearLine : ℕ → YearFacts → List ℕ
+yearLine y f = lined (fieldsOfYear y f ++ (word "FIRST" ∷ decimal (f .«first_month») ∷ word "LEAP" ∷ fieldsOfLeap (f .«leap_month»)))
+
+unfoldable pub yearText : ℕ → List ℕ
+yearText y = told (yearLine y) (yearFactsAt y)
+
+-- `MONTH count`: `MONTH count number mark first-name length eclipse first-day small-remainder`
+unfoldable pub monthLineOf : ℕ → MonthFacts → List ℕ
+monthLineOf n f = lined (word "MONTH" ∷ (fieldsOfMonth n f ++ (decimal (f .«first_day») ∷ decimal (f .«small_remainder») ∷ [])))
+
+unfoldable pub monthText : ℕ → List ℕ
+monthText n = told (monthLineOf n) (monthFactsAt n)
+
+-- `QUARTER month q`: `QUARTER day parts`
+unfoldable pub quarterLine : Quarter → List ℕ
+quarterLine q = lined (word "QUARTER" ∷ decimal (q .day) ∷ decimal (q .parts) ∷ [])
+
+unfoldable pub quarterText : ℕ → ℕ → List ℕ
+quarterText n q = told quarterLine (quarterAt n q)
+
+-- `TERM year k`: `TERM day`
+unfoldable pub termLine : ℕ → List ℕ
+termLine d = lined (word "TERM" ∷ decimal d ∷ [])
+
+unfoldable pub termText : ℕ → ℕ → List ℕ
+termText y k = told termLine (termAt y k)
+
+-- `DAY day`: `DAY day year number mark day-of-month day-name month-length year-name`
+unfoldable pub dayLineOf : ℕ → Date → List ℕ
+dayLineOf d r = lined (fieldsOfDay d r ++ (decimal (r .«month_length») ∷ decimal (r .«year_name») ∷ []))
+
+unfoldable pub dayText : ℕ → List ℕ
+dayText d = told (dayLineOf d) (dateAt d)
+
+-- the `DAY` line of a day, by its date
+unfoldable pub dayLine : ℕ → List ℕ
+dayLine d = dayLineOf d (dateOf d)
+
+-- `DATE year number mark day-of-month`: "the same `DAY` line"
+unfoldable pub dateText : ℕ → ℕ → Bool → ℕ → List ℕ
+dateText y k l m = told dayLine (dayOfDate y k l m)
+
+-- a date as it is asked for by its four things
+abbrev pub textOfDate : Date → List ℕ
+textOfDate r = dateText (r .year) (numberOf (r .month)) (leapMark (r .month)) (r .«day_of_month»)
+
+-- `MOVE year number mark day-of-month n`: "the same `DAY` line", of the date to which the move leads (Paper, Move-literally)
+unfoldable pub moveText : ℕ → ℕ → Bool → ℕ → ℤ → List ℕ
+moveText y k l m n = told textOfDate (moved y k l m n)
+
+-- `SEARCH ..`: "`FOUND total`, then the `DAY` lines"
+unfoldable pub foundLine : ℕ → List ℕ
+foundLine n = lined (word "FOUND" ∷ decimal n ∷ [])
+
+-- the lent list has a place for every day of the longest window, so that reason 12 never comes (Paper, Never-twelve)
+unfoldable pub searchText : Reading → ℕ → ℕ → List ℕ
+searchText r first last =
+    told (λ n. foundLine n ++ each dayLine (fitting r first (windowDays first last))) (searchAt r first last 27759)

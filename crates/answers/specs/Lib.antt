@@ -1,0 +1,3 @@
+-- The desk program's answers: their text, and statements of it.
+pub mod Answers
+pub mod Paper

@@ -1,0 +1,329 @@
+// The desk program's answers, put into a lent buffer: one function a query, the query already taken apart into numbers. All are
+// inner: each asks for room. A one-line answer takes 120 bytes at most, so that the caller has one need of room for all of them.
+ghost use mathlib.Core.List.{_∷_};
+ghost use Prim.Native.Nat.{ℕ, _+_, _*_, _≤_, _<_};
+ghost use lib.ListN.{length, getD};
+ghost use Rattle.rule.specs.Counts.{YearInRange, DayInRange};
+ghost use Rattle.rule.specs.Reasons.{reasonNumber};
+ghost use Rattle.fields.specs.Fields.{Put, decimal, joined, each};
+ghost use Rattle.answers.specs.Answers.{
+  refusedText,
+  fieldsOfBu,
+  fieldsOfLeap,
+  placeLine,
+  placeText,
+  yearLine,
+  yearText,
+  monthLineOf,
+  monthText,
+  quarterLine,
+  quarterText,
+  termLine,
+  termText,
+  dayLineOf,
+  dayText,
+  dayLine,
+  dateText,
+  textOfDate,
+  moveText,
+  foundLine,
+  searchText,
+};
+use dates::Date;
+use dates::Dated;
+use dates::DayFound;
+use facts::LeapMonth;
+use facts::MonthFacts;
+use facts::MonthTold;
+use facts::QuarterTold;
+use facts::SolsticeYear;
+use facts::SolsticeYearTold;
+use facts::TermTold;
+use facts::YearFacts;
+use facts::YearTold;
+use reading::Found;
+use reading::Reading;
+use rule::Quarter;
+use rule::Reason;
+
+// A refusal: `REFUSED`, the reason's number and its words.
+pub fn put_refusal(why: Reason, out: &mut [u8], at: usize) -> usize
+    requires { ⌜ at + 84 ≤ length (now out) ⌝ }
+    ensures { λ r. ⌜ Put 84 (now (out .entry)) at (refusedText (reasonNumber why)) (now (out .exit)) r ⌝ }
+{
+    let to1 = fields::put_bytes(b"REFUSED", out, at);
+    let to2 = fields::put_next(rule::reason_number(why) as u32, out, to1);
+    let to3 = fields::put_byte(32, out, to2);
+    let to4 = words::put_words(why, out, to3);
+    fields::put_byte(10, out, to4)
+}
+
+// A `TERM` line.
+fn put_term(day: u32, out: &mut [u8], at: usize) -> usize
+    requires { ⌜ at + 16 ≤ length (now out) ⌝ }
+    ensures { λ r. ⌜ Put 16 (now (out .entry)) at (termLine day) (now (out .exit)) r ⌝ }
+{
+    let to1 = fields::put_bytes(b"TERM", out, at);
+    let to2 = fields::put_next(day, out, to1);
+    fields::put_byte(10, out, to2)
+}
+
+// The answer to `TERM year k`.
+pub fn answer_term(year: u32, k: u32, out: &mut [u8], at: usize) -> usize
+    requires { ⌜ at + 120 ≤ length (now out) ⌝ }
+    ensures { λ r. ⌜ Put 120 (now (out .entry)) at (termText year k) (now (out .exit)) r ⌝ }
+{
+    match facts::term(year, k) {
+        TermTold::Is(day) => put_term(day, out, at),
+        TermTold::Refused(why) => put_refusal(why, out, at),
+    }
+}
+
+// A `QUARTER` line.
+fn put_quarter(q: Quarter, out: &mut [u8], at: usize) -> usize
+    requires { ⌜ at + 30 ≤ length (now out) ⌝ }
+    ensures { λ r. ⌜ Put 30 (now (out .entry)) at (quarterLine q) (now (out .exit)) r ⌝ }
+{
+    let to1 = fields::put_bytes(b"QUARTER", out, at);
+    let to2 = fields::put_next(q.day, out, to1);
+    let to3 = fields::put_next(q.parts as u32, out, to2);
+    fields::put_byte(10, out, to3)
+}
+
+// The answer to `QUARTER month q`.
+pub fn answer_quarter(n: u32, q: u32, out: &mut [u8], at: usize) -> usize
+    requires { ⌜ at + 120 ≤ length (now out) ⌝ }
+    ensures { λ r. ⌜ Put 120 (now (out .entry)) at (quarterText n q) (now (out .exit)) r ⌝ }
+{
+    match facts::quarter(n, q) {
+        QuarterTold::Is(f) => put_quarter(f, out, at),
+        QuarterTold::Refused(why) => put_refusal(why, out, at),
+    }
+}
+
+// A `DAY` line: the listing's fields, then the month's length and the year's name.
+fn put_day_line(day: u32, d: Date, out: &mut [u8], at: usize) -> usize
+    requires { ⌜ at + 83 ≤ length (now out) ⌝ }
+    ensures { λ r. ⌜ Put 83 (now (out .entry)) at (dayLineOf day d) (now (out .exit)) r ⌝ }
+{
+    let to1 = lines::put_day_fields(day, d, out, at);
+    let to2 = fields::put_next(d.month_length as u32, out, to1);
+    let to3 = fields::put_next(d.year_name as u32, out, to2);
+    fields::put_byte(10, out, to3)
+}
+
+// The answer to `DAY day`.
+pub fn answer_day(day: u32, out: &mut [u8], at: usize) -> usize
+    requires { ⌜ at + 120 ≤ length (now out) ⌝ }
+    ensures { λ r. ⌜ Put 120 (now (out .entry)) at (dayText day) (now (out .exit)) r ⌝ }
+{
+    match dates::date_of_day(day) {
+        Dated::Is(d) => put_day_line(day, d, out, at),
+        Dated::Refused(why) => put_refusal(why, out, at),
+    }
+}
+
+// A year's place among ji and bu, and its bu's head name.
+fn put_bu_fields(p: SolsticeYear, out: &mut [u8], at: usize) -> usize
+    requires { ⌜ at + 49 ≤ length (now out) ⌝ }
+    ensures { λ r. ⌜ Put 49 (now (out .entry)) at (joined (fieldsOfBu p)) (now (out .exit)) r ⌝ }
+{
+    let to1 = fields::put_bytes(b"PLACE", out, at);
+    let to2 = fields::put_next(p.ji as u32, out, to1);
+    let to3 = fields::put_next(p.bu as u32, out, to2);
+    let to4 = fields::put_next(p.year_in_bu as u32, out, to3);
+    fields::put_next(p.head_name as u32, out, to4)
+}
+
+// A `PLACE` line: the year's place, then its first month, leap remainder and how many months.
+fn put_place(p: SolsticeYear, out: &mut [u8], at: usize) -> usize
+    requires { ⌜ at + 83 ≤ length (now out) ⌝ }
+    ensures { λ r. ⌜ Put 83 (now (out .entry)) at (placeLine p) (now (out .exit)) r ⌝ }
+{
+    let to1 = put_bu_fields(p, out, at);
+    let to2 = fields::put_next(p.first_month, out, to1);
+    let to3 = fields::put_next(p.leap_remainder as u32, out, to2);
+    let to4 = fields::put_next(p.months as u32, out, to3);
+    fields::put_byte(10, out, to4)
+}
+
+// The answer to `PLACE year`.
+pub fn answer_place(year: u32, out: &mut [u8], at: usize) -> usize
+    requires { ⌜ at + 120 ≤ length (now out) ⌝ }
+    ensures { λ r. ⌜ Put 120 (now (out .entry)) at (placeText year) (now (out .exit)) r ⌝ }
+{
+    match facts::solstice_year(year) {
+        SolsticeYearTold::Is(p) => put_place(p, out, at),
+        SolsticeYearTold::Refused(why) => put_refusal(why, out, at),
+    }
+}
+
+// A `MONTH` line: the listing's fields, then the first day and the small remainder.
+fn put_month_line(n: u32, f: MonthFacts, out: &mut [u8], at: usize) -> usize
+    requires { ⌜ at + 76 ≤ length (now out) ⌝ }
+    ensures { λ r. ⌜ Put 76 (now (out .entry)) at (monthLineOf n f) (now (out .exit)) r ⌝ }
+{
+    let to1 = fields::put_bytes(b"MONTH ", out, at);
+    let to2 = lines::put_month_fields(n, f, out, to1);
+    let to3 = fields::put_next(f.first_day, out, to2);
+    let to4 = fields::put_next(f.small_remainder as u32, out, to3);
+    fields::put_byte(10, out, to4)
+}
+
+// The answer to `MONTH count`.
+pub fn answer_month(n: u32, out: &mut [u8], at: usize) -> usize
+    requires { ⌜ at + 120 ≤ length (now out) ⌝ }
+    ensures { λ r. ⌜ Put 120 (now (out .entry)) at (monthText n) (now (out .exit)) r ⌝ }
+{
+    match facts::month_facts(n) {
+        MonthTold::Is(f) => put_month_line(n, f, out, at),
+        MonthTold::Refused(why) => put_refusal(why, out, at),
+    }
+}
+
+// A year's leap month by number and count, or two `-`, each after a space.
+fn put_leap(l: LeapMonth, out: &mut [u8], at: usize) -> usize
+    requires { ⌜ at + 22 ≤ length (now out) ⌝ }
+    ensures { λ r. ⌜ Put 22 (now (out .entry)) at (32 ∷ joined (fieldsOfLeap l)) (now (out .exit)) r ⌝ }
+{
+    match l {
+        LeapMonth::Without => fields::put_bytes(b" - -", out, at),
+        LeapMonth::With(k, n) => {
+            let to = fields::put_next(k as u32, out, at);
+            fields::put_next(n, out, to)
+        }
+    }
+}
+
+// A `YEAR` line: the listing's header, then the first month and the leap month.
+fn put_year_line(year: u16, f: YearFacts, out: &mut [u8], at: usize) -> usize
+    requires { ⌜ at + 94 ≤ length (now out) ⌝ }
+    ensures { λ r. ⌜ Put 94 (now (out .entry)) at (yearLine year f) (now (out .exit)) r ⌝ }
+{
+    let l = f.leap_month;
+    let to1 = lines::put_year_fields(year, f, out, at);
+    let to2 = fields::put_bytes(b" FIRST", out, to1);
+    let to3 = fields::put_next(f.first_month, out, to2);
+    let to4 = fields::put_bytes(b" LEAP", out, to3);
+    let to5 = put_leap(l, out, to4);
+    fields::put_byte(10, out, to5)
+}
+
+// The answer to `YEAR year`.
+pub fn answer_year(year: u32, out: &mut [u8], at: usize) -> usize
+    requires { ⌜ at + 120 ≤ length (now out) ⌝ }
+    ensures { λ r. ⌜ Put 120 (now (out .entry)) at (yearText year) (now (out .exit)) r ⌝ }
+{
+    match facts::year_facts(year) {
+        YearTold::Is(f) => put_year_line(year as u16, f, out, at),
+        YearTold::Refused(why) => put_refusal(why, out, at),
+    }
+}
+
+// The `DAY` line of a day in range.
+fn put_day_of(day: u32, out: &mut [u8], at: usize) -> usize
+    requires { ⌜ DayInRange day × (at + 83 ≤ length (now out)) ⌝ }
+    ensures { λ r. ⌜ Put 83 (now (out .entry)) at (dayLine day) (now (out .exit)) r ⌝ }
+{
+    put_day_line(day, dates::date_at(day), out, at)
+}
+
+// The answer to `DATE year number mark day-of-month`.
+pub fn answer_date(
+    year: u32,
+    number: u32,
+    leap: bool,
+    day_of_month: u32,
+    out: &mut [u8],
+    at: usize,
+) -> usize
+    requires { ⌜ at + 120 ≤ length (now out) ⌝ }
+    ensures { λ r. ⌜ Put 120 (now (out .entry)) at (dateText year number leap «day_of_month») (now (out .exit)) r ⌝ }
+{
+    match dates::day_of_date(year, number, leap, day_of_month) {
+        DayFound::Is(day) => put_day_of(day, out, at),
+        DayFound::Refused(why) => put_refusal(why, out, at),
+    }
+}
+
+// The answer for a date, asked for by its own four things.
+fn answer_of_date(d: Date, out: &mut [u8], at: usize) -> usize
+    requires { ⌜ at + 120 ≤ length (now out) ⌝ }
+    ensures { λ r. ⌜ Put 120 (now (out .entry)) at (textOfDate d) (now (out .exit)) r ⌝ }
+{
+    let m = d.month;
+    answer_date(
+        d.year as u32,
+        rule::number_of(m) as u32,
+        rule::leap_mark(m),
+        d.day_of_month as u32,
+        out,
+        at,
+    )
+}
+
+// The answer to `MOVE year number mark day-of-month n`: the moved date is looked up as a date.
+pub fn answer_move(
+    year: u32,
+    number: u32,
+    leap: bool,
+    day_of_month: u32,
+    days: i64,
+    out: &mut [u8],
+    at: usize,
+) -> usize
+    requires { ⌜ at + 120 ≤ length (now out) ⌝ }
+    ensures { λ r. ⌜ Put 120 (now (out .entry)) at (moveText year number leap «day_of_month» days) (now (out .exit)) r ⌝ }
+{
+    match moves::move_date(year, number, leap, day_of_month, days) {
+        Dated::Is(d) => answer_of_date(d, out, at),
+        Dated::Refused(why) => put_refusal(why, out, at),
+    }
+}
+
+// A `FOUND` line.
+fn put_found(n: u32, out: &mut [u8], at: usize) -> usize
+    requires { ⌜ at + 17 ≤ length (now out) ⌝ }
+    ensures { λ r. ⌜ Put 17 (now (out .entry)) at (foundLine n) (now (out .exit)) r ⌝ }
+{
+    let to1 = fields::put_bytes(b"FOUND", out, at);
+    let to2 = fields::put_next(n, out, to1);
+    fields::put_byte(10, out, to2)
+}
+
+// The `DAY` lines of days in range.
+fn put_days(days: &[u32], out: &mut [u8], at: usize) -> usize
+    requires { ⌜ ((i : ℕ) → i < length (now days) → DayInRange (getD (now days) i 0)) × (at + 83 * length (now days) ≤ length (now out)) ⌝ }
+    ensures { λ r. ⌜ Put (83 * length (now (days .entry))) (now (out .entry)) at (each dayLine (now (days .entry))) (now (out .exit)) r ⌝ }
+{
+    let mut to = at;
+    let mut i = 0;
+    while i < days.len() {
+        to = put_day_of(days[i], out, to);
+        i += 1;
+    }
+    to
+}
+
+// The answer to `SEARCH ..`, into a lent list of days with a place for each day of the longest window, and a buffer with room for
+// a `FOUND` line of 17 bytes and 27,759 `DAY` lines of 83. What the list of days holds afterwards is not promised.
+pub fn answer_search(
+    r: Reading,
+    first: u32,
+    last: u32,
+    days: &mut [u32],
+    out: &mut [u8],
+    at: usize,
+) -> usize
+    requires { ⌜ (27759 ≤ length (now days)) × (at + 2304014 ≤ length (now out)) ⌝ }
+    ensures { λ b. ⌜ Put 2304014 (now (out .entry)) at (searchText r first last) (now (out .exit)) b ⌝ }
+{
+    match reading::search(r, first, last, days) {
+        Found::Is(n) => {
+            let to = put_found(n, out, at);
+            put_days(&days[0..n as usize], out, to)
+        }
+        Found::TooShort(_n) => put_refusal(Reason::LentTooShort, out, at),
+        Found::Refused(why) => put_refusal(why, out, at),
+    }
+}
