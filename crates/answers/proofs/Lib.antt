@@ -1,3 +1,4 @@
 -- Laws of answers, and the proofs of the statements.
 pub mod Telling
+pub mod Finding
 pub mod Paper

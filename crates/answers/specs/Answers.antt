@@ -49,9 +49,16 @@ unfoldable pub placeText : ℕ → List ℕ
 placeText y = told placeLine (solsticeYearAt y)
 
 -- a year's leap month by number and count, "`-` where there is none"
+abbrev pub leapNumber : LeapMonth → List ℕ
+leapNumber Without = word "-"
+leapNumber (With k n) = decimal k
+
+abbrev pub leapCount : LeapMonth → List ℕ
+leapCount Without = word "-"
+leapCount (With k n) = decimal n
+
 abbrev pub fieldsOfLeap : LeapMonth → List (List ℕ)
-fieldsOfLeap Without = word "-" ∷ word "-" ∷ []
-fieldsOfLeap (With k n) = decimal k ∷ decimal n ∷ []
+fieldsOfLeap l = leapNumber l ∷ leapCount l ∷ []
 
 -- `YEAR year`: `YEAR year NAME name MONTHS months FIRST first-month LEAP number month-count`
 unfoldable pub yearLine : ℕ → YearFacts → List ℕ

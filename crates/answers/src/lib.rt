@@ -2,7 +2,7 @@
 // inner: each asks for room. A one-line answer takes 120 bytes at most, so that the caller has one need of room for all of them.
 ghost use mathlib.Core.List.{_∷_};
 ghost use Prim.Native.Nat.{ℕ, _+_, _*_, _≤_, _<_};
-ghost use lib.ListN.{length, getD};
+ghost use lib.ListN.{length, getD, take};
 ghost use Rattle.rule.specs.Counts.{YearInRange, DayInRange};
 ghost use Rattle.rule.specs.Reasons.{reasonNumber};
 ghost use Rattle.fields.specs.Fields.{Put, decimal, joined, each};
@@ -291,14 +291,14 @@ fn put_found(n: u32, out: &mut [u8], at: usize) -> usize
     fields::put_byte(10, out, to2)
 }
 
-// The `DAY` lines of days in range.
-fn put_days(days: &[u32], out: &mut [u8], at: usize) -> usize
-    requires { ⌜ ((i : ℕ) → i < length (now days) → DayInRange (getD (now days) i 0)) × (at + 83 * length (now days) ≤ length (now out)) ⌝ }
-    ensures { λ r. ⌜ Put (83 * length (now (days .entry))) (now (out .entry)) at (each dayLine (now (days .entry))) (now (out .exit)) r ⌝ }
+// The `DAY` lines of the first n days of a list, which are in range.
+fn put_days(n: usize, days: &[u32], out: &mut [u8], at: usize) -> usize
+    requires { ⌜ (n ≤ length (now days)) × ((i : ℕ) → i < n → DayInRange (getD (now days) i 0)) × (at + 83 * n ≤ length (now out)) ⌝ }
+    ensures { λ r. ⌜ Put (83 * n) (now (out .entry)) at (each dayLine (take n (now (days .entry)))) (now (out .exit)) r ⌝ }
 {
     let mut to = at;
     let mut i = 0;
-    while i < days.len() {
+    while i < n {
         to = put_day_of(days[i], out, to);
         i += 1;
     }
@@ -321,9 +321,9 @@ pub fn answer_search(
     match reading::search(r, first, last, days) {
         Found::Is(n) => {
             let to = put_found(n, out, at);
-            put_days(&days[0..n as usize], out, to)
+            put_days(n as usize, days, out, to)
         }
-        Found::TooShort(_n) => put_refusal(Reason::LentTooShort, out, at),
+        Found::TooShort(_) => put_refusal(Reason::LentTooShort, out, at),
         Found::Refused(why) => put_refusal(why, out, at),
     }
 }

@@ -1,3 +1,11 @@
+-- `answers::answer_date` meets its contract: what `dates::day_of_date` says, told. Assumes nothing.
+use Rattle.dates.proofs.Paper.{back-and-there}
+use mathlib.Core.Path.{ap, sym, _∙_}
+use native.Mathlib.Omega.{arith}
+use Rattle.fields.proofs.Putting.{wide}
+use Rattle.dates.specs.Promises.{saidDay}
+use Rattle.answers.specs.Answers.{dayLine, dateText}
+use Rattle.answers.proofs.Telling.{tells}
 use borrow.Author.Needs.{needs}
 use Rattle.answers.proofs.answer_date.Statement.{statement}
 use Rattle.answers.proofs.answer_date.Tie as tie
@@ -7,41 +15,44 @@ use Rattle.answers.proofs.put_day_of.Reads as put-day-of-reads
 use Rattle.answers.proofs.put_refusal.Reads as put-refusal-reads
 use Rattle.dates.proofs.day_of_date.Reads as day-of-date-reads
 
--- src/lib.rt:236:11
 day-of-date-requires : tie.Need-day-of-date-requires
 day-of-date-requires c κs = search needs
 
--- src/lib.rt:237:22
 enum-known-day : tie.Need-enum-known-day
 enum-known-day c = search needs
 
--- src/lib.rt:237:30
 put-day-of-requires : tie.Need-put-day-of-requires
-put-day-of-requires c κs = ?
+put-day-of-requires c κs =
+    let q = c .before .before in
+    let s = q .before .before .before .before .args in
+    let e = sym (q .before .before .day-of-date .ensures) ∙ ap saidDay (q .day .given .1) in
+    (back-and-there (s .year) (s .number) (s .leap) (s .day-of-month) (q .day .given .0 .0) e .0, omega arith)
 
--- src/lib.rt:238:27
 enum-known-why : tie.Need-enum-known-why
 enum-known-why c = search needs
 
--- src/lib.rt:238:35
 put-refusal-requires : tie.Need-put-refusal-requires
 put-refusal-requires c κs = search needs
 
--- src/lib.rt:232:1
 same-length : tie.Need-same-length
 same-length c = search needs
 
--- src/lib.rt:232:1
 returns : tie.Need-returns
-returns c = ?
+unfolding dateText
+returns c =
+    let p = c .before .before in
+    let q = p .before .before .before in
+    tells dayLine saidDay (q .before .before .day-of-date .ensures) (q .day .given .1) (wide (omega arith) (p .put-day-of .ensures))
 
--- src/lib.rt:232:1
 same-length-2 : tie.Need-same-length-2
 same-length-2 c = search needs
 
--- src/lib.rt:232:1
 returns-2 : tie.Need-returns-2
-returns-2 c = ?
+unfolding dateText
+returns-2 c =
+    let p = c .before .before in
+    let q = p .before .before .before in
+    tells dayLine saidDay (q .before .before .day-of-date .ensures) (q .why .given .1) (wide (omega arith) (p .put-refusal .ensures))
 
 pub answer-date-spec : {M : Type 1} → statement M
 answer-date-spec =

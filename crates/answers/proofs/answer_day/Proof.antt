@@ -1,3 +1,9 @@
+-- `answers::answer_day` meets its contract: what `dates::date_of_day` says, told. Assumes nothing.
+use native.Mathlib.Omega.{arith}
+use Rattle.fields.proofs.Putting.{wide}
+use Rattle.dates.specs.Promises.{saidDate}
+use Rattle.answers.specs.Answers.{dayLineOf, dayText}
+use Rattle.answers.proofs.Telling.{tells}
 use borrow.Author.Needs.{needs}
 use Rattle.answers.proofs.answer_day.Statement.{statement}
 use Rattle.answers.proofs.answer_day.Tie as tie
@@ -7,41 +13,40 @@ use Rattle.answers.proofs.put_day_line.Reads as put-day-line-reads
 use Rattle.answers.proofs.put_refusal.Reads as put-refusal-reads
 use Rattle.dates.proofs.date_of_day.Reads as date-of-day-reads
 
--- src/lib.rt:120:11
 date-of-day-requires : tie.Need-date-of-day-requires
 date-of-day-requires c κs = search needs
 
--- src/lib.rt:121:19
 enum-known-d : tie.Need-enum-known-d
 enum-known-d c = search needs
 
--- src/lib.rt:121:25
 put-day-line-requires : tie.Need-put-day-line-requires
 put-day-line-requires c κs = search needs
 
--- src/lib.rt:122:24
 enum-known-why : tie.Need-enum-known-why
 enum-known-why c = search needs
 
--- src/lib.rt:122:32
 put-refusal-requires : tie.Need-put-refusal-requires
 put-refusal-requires c κs = search needs
 
--- src/lib.rt:116:1
 same-length : tie.Need-same-length
 same-length c = search needs
 
--- src/lib.rt:116:1
 returns : tie.Need-returns
-returns c = ?
+unfolding dayText
+returns c =
+    let p = c .before .before in
+    let q = p .before .before .before in
+    tells (dayLineOf (q .before .before .before .before .args .day)) saidDate (q .before .before .date-of-day .ensures) (q .d .given .1) (wide (omega arith) (p .put-day-line .ensures))
 
--- src/lib.rt:116:1
 same-length-2 : tie.Need-same-length-2
 same-length-2 c = search needs
 
--- src/lib.rt:116:1
 returns-2 : tie.Need-returns-2
-returns-2 c = ?
+unfolding dayText
+returns-2 c =
+    let p = c .before .before in
+    let q = p .before .before .before in
+    tells (dayLineOf (q .before .before .before .before .args .day)) saidDate (q .before .before .date-of-day .ensures) (q .why .given .1) (wide (omega arith) (p .put-refusal .ensures))
 
 pub answer-day-spec : {M : Type 1} → statement M
 answer-day-spec =

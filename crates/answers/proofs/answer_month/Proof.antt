@@ -1,3 +1,9 @@
+-- `answers::answer_month` meets its contract: what `facts::month_facts` says, told. Assumes nothing.
+use native.Mathlib.Omega.{arith}
+use Rattle.fields.proofs.Putting.{wide}
+use Rattle.facts.specs.Promises.{saidMonth}
+use Rattle.answers.specs.Answers.{monthLineOf, monthText}
+use Rattle.answers.proofs.Telling.{tells}
 use borrow.Author.Needs.{needs}
 use Rattle.answers.proofs.answer_month.Statement.{statement}
 use Rattle.answers.proofs.answer_month.Tie as tie
@@ -7,41 +13,40 @@ use Rattle.answers.proofs.put_month_line.Reads as put-month-line-reads
 use Rattle.answers.proofs.put_refusal.Reads as put-refusal-reads
 use Rattle.facts.proofs.month_facts.Reads as month-facts-reads
 
--- src/lib.rt:178:11
 month-facts-requires : tie.Need-month-facts-requires
 month-facts-requires c κs = search needs
 
--- src/lib.rt:179:23
 enum-known-f : tie.Need-enum-known-f
 enum-known-f c = search needs
 
--- src/lib.rt:179:29
 put-month-line-requires : tie.Need-put-month-line-requires
 put-month-line-requires c κs = search needs
 
--- src/lib.rt:180:28
 enum-known-why : tie.Need-enum-known-why
 enum-known-why c = search needs
 
--- src/lib.rt:180:36
 put-refusal-requires : tie.Need-put-refusal-requires
 put-refusal-requires c κs = search needs
 
--- src/lib.rt:174:1
 same-length : tie.Need-same-length
 same-length c = search needs
 
--- src/lib.rt:174:1
 returns : tie.Need-returns
-returns c = ?
+unfolding monthText
+returns c =
+    let p = c .before .before in
+    let q = p .before .before .before in
+    tells (monthLineOf (q .before .before .before .before .args .n)) saidMonth (q .before .before .month-facts .ensures) (q .f .given .1) (wide (omega arith) (p .put-month-line .ensures))
 
--- src/lib.rt:174:1
 same-length-2 : tie.Need-same-length-2
 same-length-2 c = search needs
 
--- src/lib.rt:174:1
 returns-2 : tie.Need-returns-2
-returns-2 c = ?
+unfolding monthText
+returns-2 c =
+    let p = c .before .before in
+    let q = p .before .before .before in
+    tells (monthLineOf (q .before .before .before .before .args .n)) saidMonth (q .before .before .month-facts .ensures) (q .why .given .1) (wide (omega arith) (p .put-refusal .ensures))
 
 pub answer-month-spec : {M : Type 1} → statement M
 answer-month-spec =

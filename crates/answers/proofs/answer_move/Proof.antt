@@ -1,3 +1,13 @@
+-- `answers::answer_move` meets its contract: what `moves::move_date` says, told. Assumes nothing.
+use native.Mathlib.Omega.{arith}
+use Rattle.fields.proofs.Putting.{wide}
+use mathlib.Core.Path.{_≡_, ap, _∙_}
+use mir.Syntax.{w64}
+use mir.ValLaws.{toZ-ofZ}
+use Rattle.moves.specs.Moves.{moved}
+use Rattle.dates.specs.Promises.{saidDate}
+use Rattle.answers.specs.Answers.{textOfDate, moveText}
+use Rattle.answers.proofs.Telling.{tells}
 use borrow.Author.Needs.{needs}
 use Rattle.answers.proofs.answer_move.Statement.{statement}
 use Rattle.answers.proofs.answer_move.Tie as tie
@@ -7,41 +17,48 @@ use Rattle.answers.proofs.answer_of_date.Reads as answer-of-date-reads
 use Rattle.answers.proofs.put_refusal.Reads as put-refusal-reads
 use Rattle.moves.proofs.move_date.Reads as move-date-reads
 
--- src/lib.rt:263:11
 move-date-requires : tie.Need-move-date-requires
 move-date-requires c κs = search needs
 
--- src/lib.rt:264:19
 enum-known-d : tie.Need-enum-known-d
 enum-known-d c = search needs
 
--- src/lib.rt:264:25
 answer-of-date-requires : tie.Need-answer-of-date-requires
 answer-of-date-requires c κs = search needs
 
--- src/lib.rt:265:24
 enum-known-why : tie.Need-enum-known-why
 enum-known-why c = search needs
 
--- src/lib.rt:265:32
 put-refusal-requires : tie.Need-put-refusal-requires
 put-refusal-requires c κs = search needs
 
--- src/lib.rt:259:1
+-- what the move promised, its number read through its bits
+promised : (c : tie.After-move-date) →
+    saidDate (c .move-date .result)
+    ≡ moved (c .before .before .args .year) (c .before .before .args .number) (c .before .before .args .leap) (c .before .before .args .day-of-month) (c .before .before .args .days)
+promised c =
+    let s = c .before .before in
+    c .move-date .ensures ∙ ap (moved (s .args .year) (s .args .number) (s .args .leap) (s .args .day-of-month)) (toZ-ofZ w64 (s .args .days) (s .fits .days))
+
 same-length : tie.Need-same-length
 same-length c = search needs
 
--- src/lib.rt:259:1
 returns : tie.Need-returns
-returns c = ?
+unfolding moveText
+returns c =
+    let p = c .before .before in
+    let q = p .before .before .before in
+    tells textOfDate saidDate (promised (q .before .before)) (q .d .given .1) (wide (omega arith) (p .answer-of-date .ensures))
 
--- src/lib.rt:259:1
 same-length-2 : tie.Need-same-length-2
 same-length-2 c = search needs
 
--- src/lib.rt:259:1
 returns-2 : tie.Need-returns-2
-returns-2 c = ?
+unfolding moveText
+returns-2 c =
+    let p = c .before .before in
+    let q = p .before .before .before in
+    tells textOfDate saidDate (promised (q .before .before)) (q .why .given .1) (wide (omega arith) (p .put-refusal .ensures))
 
 pub answer-move-spec : {M : Type 1} → statement M
 answer-move-spec =

@@ -1,3 +1,9 @@
+-- `answers::answer_of_date` meets its contract: the date by its own four things. Assumes nothing.
+use Rattle.answers.specs.Answers.{dateText}
+use Rattle.fields.proofs.Putting.{put-as}
+use mathlib.Core.Bool.{Bool}
+use mathlib.Core.Path.{ap₂}
+use Prim.Native.Nat.{ℕ}
 use borrow.Author.Needs.{needs}
 use Rattle.answers.proofs.answer_of_date.Statement.{statement}
 use Rattle.answers.proofs.answer_of_date.Tie as tie
@@ -7,37 +13,36 @@ use Rattle.answers.proofs.answer_date.Reads as answer-date-reads
 use Rattle.rule.proofs.leap_mark.Reads as leap-mark-reads
 use Rattle.rule.proofs.number_of.Reads as number-of-reads
 
--- src/lib.rt:249:9
 cast-answer-date : tie.Need-cast-answer-date
 cast-answer-date c = search needs
 
--- src/lib.rt:250:9
 number-of-requires : tie.Need-number-of-requires
 number-of-requires c κs = search needs
 
--- src/lib.rt:250:9
 cast-answer-date-2 : tie.Need-cast-answer-date-2
 cast-answer-date-2 c = search needs
 
--- src/lib.rt:251:9
 leap-mark-requires : tie.Need-leap-mark-requires
 leap-mark-requires c κs = search needs
 
--- src/lib.rt:252:9
 cast-answer-date-3 : tie.Need-cast-answer-date-3
 cast-answer-date-3 c = search needs
 
--- src/lib.rt:248:5
 answer-date-requires : tie.Need-answer-date-requires
 answer-date-requires c κs = search needs
 
--- src/lib.rt:243:1
 same-length : tie.Need-same-length
 same-length c = search needs
 
--- src/lib.rt:243:1
 returns : tie.Need-returns
-returns c = ?
+returns c =
+    let p = c .before .before in
+    let l = p .before .before .before in
+    let n = l .before in
+    let d = n .before .before .before .args .d in
+    put-as
+    (ap₂ (λ (k : ℕ) (m : Bool). dateText (d .year) k m (d .«day_of_month»)) (n .number-of .ensures) (l .leap-mark .ensures))
+    (p .answer-date .ensures)
 
 pub answer-of-date-spec : {M : Type 1} → statement M
 answer-of-date-spec =

@@ -1,3 +1,9 @@
+-- `answers::answer_place` meets its contract: what `facts::solstice_year` says, told. Assumes nothing.
+use native.Mathlib.Omega.{arith}
+use Rattle.fields.proofs.Putting.{wide}
+use Rattle.facts.specs.Promises.{saidSolsticeYear}
+use Rattle.answers.specs.Answers.{placeLine, placeText}
+use Rattle.answers.proofs.Telling.{tells}
 use borrow.Author.Needs.{needs}
 use Rattle.answers.proofs.answer_place.Statement.{statement}
 use Rattle.answers.proofs.answer_place.Tie as tie
@@ -7,41 +13,40 @@ use Rattle.answers.proofs.put_place.Reads as put-place-reads
 use Rattle.answers.proofs.put_refusal.Reads as put-refusal-reads
 use Rattle.facts.proofs.solstice_year.Reads as solstice-year-reads
 
--- src/lib.rt:155:11
 solstice-year-requires : tie.Need-solstice-year-requires
 solstice-year-requires c κs = search needs
 
--- src/lib.rt:156:30
 enum-known-p : tie.Need-enum-known-p
 enum-known-p c = search needs
 
--- src/lib.rt:156:36
 put-place-requires : tie.Need-put-place-requires
 put-place-requires c κs = search needs
 
--- src/lib.rt:157:35
 enum-known-why : tie.Need-enum-known-why
 enum-known-why c = search needs
 
--- src/lib.rt:157:43
 put-refusal-requires : tie.Need-put-refusal-requires
 put-refusal-requires c κs = search needs
 
--- src/lib.rt:151:1
 same-length : tie.Need-same-length
 same-length c = search needs
 
--- src/lib.rt:151:1
 returns : tie.Need-returns
-returns c = ?
+unfolding placeText
+returns c =
+    let p = c .before .before in
+    let q = p .before .before .before in
+    tells placeLine saidSolsticeYear (q .before .before .solstice-year .ensures) (q .p .given .1) (wide (omega arith) (p .put-place .ensures))
 
--- src/lib.rt:151:1
 same-length-2 : tie.Need-same-length-2
 same-length-2 c = search needs
 
--- src/lib.rt:151:1
 returns-2 : tie.Need-returns-2
-returns-2 c = ?
+unfolding placeText
+returns-2 c =
+    let p = c .before .before in
+    let q = p .before .before .before in
+    tells placeLine saidSolsticeYear (q .before .before .solstice-year .ensures) (q .why .given .1) (wide (omega arith) (p .put-refusal .ensures))
 
 pub answer-place-spec : {M : Type 1} → statement M
 answer-place-spec =

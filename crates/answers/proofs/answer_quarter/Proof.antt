@@ -1,3 +1,9 @@
+-- `answers::answer_quarter` meets its contract: what `facts::quarter` says, told. Assumes nothing.
+use native.Mathlib.Omega.{arith}
+use Rattle.fields.proofs.Putting.{wide}
+use Rattle.facts.specs.Promises.{saidQuarter}
+use Rattle.answers.specs.Answers.{quarterLine, quarterText}
+use Rattle.answers.proofs.Telling.{tells}
 use borrow.Author.Needs.{needs}
 use Rattle.answers.proofs.answer_quarter.Statement.{statement}
 use Rattle.answers.proofs.answer_quarter.Tie as tie
@@ -7,41 +13,40 @@ use Rattle.answers.proofs.put_quarter.Reads as put-quarter-reads
 use Rattle.answers.proofs.put_refusal.Reads as put-refusal-reads
 use Rattle.facts.proofs.quarter.Reads as quarter-reads
 
--- src/lib.rt:98:11
 quarter-requires : tie.Need-quarter-requires
 quarter-requires c κs = search needs
 
--- src/lib.rt:99:25
 enum-known-f : tie.Need-enum-known-f
 enum-known-f c = search needs
 
--- src/lib.rt:99:31
 put-quarter-requires : tie.Need-put-quarter-requires
 put-quarter-requires c κs = search needs
 
--- src/lib.rt:100:30
 enum-known-why : tie.Need-enum-known-why
 enum-known-why c = search needs
 
--- src/lib.rt:100:38
 put-refusal-requires : tie.Need-put-refusal-requires
 put-refusal-requires c κs = search needs
 
--- src/lib.rt:94:1
 same-length : tie.Need-same-length
 same-length c = search needs
 
--- src/lib.rt:94:1
 returns : tie.Need-returns
-returns c = ?
+unfolding quarterText
+returns c =
+    let p = c .before .before in
+    let q = p .before .before .before in
+    tells quarterLine saidQuarter (q .before .before .quarter .ensures) (q .f .given .1) (wide (omega arith) (p .put-quarter .ensures))
 
--- src/lib.rt:94:1
 same-length-2 : tie.Need-same-length-2
 same-length-2 c = search needs
 
--- src/lib.rt:94:1
 returns-2 : tie.Need-returns-2
-returns-2 c = ?
+unfolding quarterText
+returns-2 c =
+    let p = c .before .before in
+    let q = p .before .before .before in
+    tells quarterLine saidQuarter (q .before .before .quarter .ensures) (q .why .given .1) (wide (omega arith) (p .put-refusal .ensures))
 
 pub answer-quarter-spec : {M : Type 1} → statement M
 answer-quarter-spec =

@@ -1,3 +1,9 @@
+-- `answers::answer_term` meets its contract: what `facts::term` says, told. Assumes nothing.
+use native.Mathlib.Omega.{arith}
+use Rattle.fields.proofs.Putting.{wide}
+use Rattle.facts.specs.Promises.{saidTerm}
+use Rattle.answers.specs.Answers.{termLine, termText}
+use Rattle.answers.proofs.Telling.{tells}
 use borrow.Author.Needs.{needs}
 use Rattle.answers.proofs.answer_term.Statement.{statement}
 use Rattle.answers.proofs.answer_term.Tie as tie
@@ -7,41 +13,40 @@ use Rattle.answers.proofs.put_refusal.Reads as put-refusal-reads
 use Rattle.answers.proofs.put_term.Reads as put-term-reads
 use Rattle.facts.proofs.term.Reads as term-reads
 
--- src/lib.rt:76:11
 term-requires : tie.Need-term-requires
 term-requires c κs = search needs
 
--- src/lib.rt:77:22
 enum-known-day : tie.Need-enum-known-day
 enum-known-day c = search needs
 
--- src/lib.rt:77:30
 put-term-requires : tie.Need-put-term-requires
 put-term-requires c κs = search needs
 
--- src/lib.rt:78:27
 enum-known-why : tie.Need-enum-known-why
 enum-known-why c = search needs
 
--- src/lib.rt:78:35
 put-refusal-requires : tie.Need-put-refusal-requires
 put-refusal-requires c κs = search needs
 
--- src/lib.rt:72:1
 same-length : tie.Need-same-length
 same-length c = search needs
 
--- src/lib.rt:72:1
 returns : tie.Need-returns
-returns c = ?
+unfolding termText
+returns c =
+    let p = c .before .before in
+    let q = p .before .before .before in
+    tells termLine saidTerm (q .before .before .term .ensures) (q .day .given .1) (wide (omega arith) (p .put-term .ensures))
 
--- src/lib.rt:72:1
 same-length-2 : tie.Need-same-length-2
 same-length-2 c = search needs
 
--- src/lib.rt:72:1
 returns-2 : tie.Need-returns-2
-returns-2 c = ?
+unfolding termText
+returns-2 c =
+    let p = c .before .before in
+    let q = p .before .before .before in
+    tells termLine saidTerm (q .before .before .term .ensures) (q .why .given .1) (wide (omega arith) (p .put-refusal .ensures))
 
 pub answer-term-spec : {M : Type 1} → statement M
 answer-term-spec =

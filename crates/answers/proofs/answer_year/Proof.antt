@@ -1,3 +1,10 @@
+-- `answers::answer_year` meets its contract: what `facts::year_facts` says, told. Assumes nothing.
+use Rattle.answers.proofs.Telling.{year-there}
+use native.Mathlib.Omega.{arith}
+use Rattle.fields.proofs.Putting.{wide}
+use Rattle.facts.specs.Promises.{saidYear}
+use Rattle.answers.specs.Answers.{yearLine, yearText}
+use Rattle.answers.proofs.Telling.{tells}
 use borrow.Author.Needs.{needs}
 use Rattle.answers.proofs.answer_year.Statement.{statement}
 use Rattle.answers.proofs.answer_year.Tie as tie
@@ -7,45 +14,45 @@ use Rattle.answers.proofs.put_refusal.Reads as put-refusal-reads
 use Rattle.answers.proofs.put_year_line.Reads as put-year-line-reads
 use Rattle.facts.proofs.year_facts.Reads as year-facts-reads
 
--- src/lib.rt:217:11
 year-facts-requires : tie.Need-year-facts-requires
 year-facts-requires c κs = search needs
 
--- src/lib.rt:218:22
 enum-known-f : tie.Need-enum-known-f
 enum-known-f c = search needs
 
--- src/lib.rt:218:42
 cast-put-year-line : tie.Need-cast-put-year-line
-cast-put-year-line c = ?
+cast-put-year-line c =
+    let q = c .before in
+    omega (arith, year-there (q .before .before .before .before .args .year) (q .before .before .year-facts .ensures) (q .f .given .1) .1)
 
--- src/lib.rt:218:28
 put-year-line-requires : tie.Need-put-year-line-requires
 put-year-line-requires c κs = search needs
 
--- src/lib.rt:219:27
 enum-known-why : tie.Need-enum-known-why
 enum-known-why c = search needs
 
--- src/lib.rt:219:35
 put-refusal-requires : tie.Need-put-refusal-requires
 put-refusal-requires c κs = search needs
 
--- src/lib.rt:213:1
 same-length : tie.Need-same-length
 same-length c = search needs
 
--- src/lib.rt:213:1
 returns : tie.Need-returns
-returns c = ?
+unfolding yearText
+returns c =
+    let p = c .before .before in
+    let q = p .before .before .before in
+    tells (yearLine (q .before .before .before .before .args .year)) saidYear (q .before .before .year-facts .ensures) (q .f .given .1) (wide (omega arith) (p .put-year-line .ensures))
 
--- src/lib.rt:213:1
 same-length-2 : tie.Need-same-length-2
 same-length-2 c = search needs
 
--- src/lib.rt:213:1
 returns-2 : tie.Need-returns-2
-returns-2 c = ?
+unfolding yearText
+returns-2 c =
+    let p = c .before .before in
+    let q = p .before .before .before in
+    tells (yearLine (q .before .before .before .before .args .year)) saidYear (q .before .before .year-facts .ensures) (q .why .given .1) (wide (omega arith) (p .put-refusal .ensures))
 
 pub answer-year-spec : {M : Type 1} → statement M
 answer-year-spec =

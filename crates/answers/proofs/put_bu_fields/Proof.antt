@@ -1,3 +1,7 @@
+-- `answers::put_bu_fields` meets its contract. Assumes nothing.
+use native.Mathlib.Omega.{arith}
+use Rattle.fields.specs.Fields.{followed}
+use Rattle.fields.proofs.Putting.{then, put-kept}
 use borrow.Author.Needs.{needs}
 use Rattle.answers.proofs.put_bu_fields.Statement.{statement}
 use Rattle.answers.proofs.put_bu_fields.Tie as tie
@@ -6,53 +10,63 @@ use Rattle.answers.proofs.put_bu_fields.Lts as lts
 use Rattle.fields.proofs.put_bytes.Reads as put-bytes-reads
 use Rattle.fields.proofs.put_next.Reads as put-next-reads
 
--- src/lib.rt:131:33
 slice-aggregate-put-bytes : tie.Need-slice-aggregate-put-bytes
 slice-aggregate-put-bytes c = search needs
 
--- src/lib.rt:131:9
 put-bytes-requires : tie.Need-put-bytes-requires
 put-bytes-requires c κs = search needs
 
--- src/lib.rt:132:32
 cast-put-next : tie.Need-cast-put-next
 cast-put-next c = search needs
 
--- src/lib.rt:132:9
 put-next-requires : tie.Need-put-next-requires
 put-next-requires c κs = search needs
 
--- src/lib.rt:133:32
 cast-put-next-2 : tie.Need-cast-put-next-2
 cast-put-next-2 c = search needs
 
--- src/lib.rt:133:9
 put-next-requires-2 : tie.Need-put-next-requires-2
 put-next-requires-2 c κs = search needs
 
--- src/lib.rt:134:32
 cast-put-next-3 : tie.Need-cast-put-next-3
 cast-put-next-3 c = search needs
 
--- src/lib.rt:134:9
 put-next-requires-3 : tie.Need-put-next-requires-3
 put-next-requires-3 c κs = search needs
 
--- src/lib.rt:135:22
 cast-put-next-4 : tie.Need-cast-put-next-4
 cast-put-next-4 c = search needs
 
--- src/lib.rt:135:5
 put-next-requires-4 : tie.Need-put-next-requires-4
-put-next-requires-4 c κs = ?
+put-next-requires-4 c κs =
+    let p4 = c .before .before .before .before in
+    let p3 = p4 .before .before .before .before .before in
+    let p2 = p3 .before .before .before .before .before in
+    let p1 = p2 .before .before .before .before .before in
+    omega (
+      arith,
+      put-kept (p1 .put-bytes .ensures),
+      p1 .put-bytes .ensures .few,
+      put-kept (p2 .put-next .ensures),
+      p2 .put-next .ensures .few,
+      put-kept (p3 .put-next2 .ensures),
+      p3 .put-next2 .ensures .few,
+      put-kept (p4 .put-next3 .ensures),
+      p4 .put-next3 .ensures .few,
+    )
 
--- src/lib.rt:127:1
 same-length : tie.Need-same-length
 same-length c = search needs
 
--- src/lib.rt:127:1
 returns : tie.Need-returns
-returns c = ?
+unfolding followed
+returns c =
+    let p5 = c .before .before in
+    let p4 = p5 .before .before .before .before .before in
+    let p3 = p4 .before .before .before .before .before in
+    let p2 = p3 .before .before .before .before .before in
+    let p1 = p2 .before .before .before .before .before in
+    then (p1 .put-bytes .ensures) (then (p2 .put-next .ensures) (then (p3 .put-next2 .ensures) (then (p4 .put-next3 .ensures) (p5 .put-next4 .ensures))))
 
 pub put-bu-fields-spec : {M : Type 1} → statement M
 put-bu-fields-spec =

@@ -1,3 +1,11 @@
+-- `answers::put_days` meets its contract. The invariant: the lines of the first i days are put. Assumes nothing.
+use Prim.Native.Nat.{ℕ, _-_, _*_, _≤_}
+use native.Mathlib.Omega.{arith}
+use mathlib.Core.Path.{_≡_, ap}
+use lib.ListN.{take}
+use Rattle.fields.specs.Fields.{each, Put}
+use Rattle.fields.proofs.Putting.{put-kept, wide, put-none, put-as, each-next, turn}
+use Rattle.answers.specs.Answers.{dayLine}
 use Rattle.answers.proofs.put_days.Statement.{statement}
 use Rattle.answers.proofs.put_days.Tie as tie
 use Rattle.answers.proofs.put_days.Reads as reads
@@ -5,46 +13,49 @@ use Rattle.answers.proofs.put_days.Lts as lts
 use Rattle.answers.proofs.put_day_of.Reads as put-day-of-reads
 
 abbrev Inv-loop : tie.InvT-loop
-Inv-loop days out₀ at to₀ i₀ out to i = ?
+Inv-loop n days out₀ at to₀ i₀ out to i = (i ≤ n) × Put (83 * i) out₀ at (each dayLine (take i days)) out to
 
 abbrev μ-loop : tie.MeasureT-loop
-μ-loop days out₀ at to₀ i₀ out to i = ?
+μ-loop n days out₀ at to₀ i₀ out to i = n - i
 
--- src/lib.rt:286:5
 loop-holds : tie.Need-loop-holds Inv-loop μ-loop
-loop-holds c = ?
+unfolding each
+loop-holds c = (omega arith, put-none (c .before .before .args .out .now) (c .before .before .args .at))
 
--- src/lib.rt:287:25
 mul-put-day-of : tie.Need-mul-put-day-of Inv-loop μ-loop
-mul-put-day-of c = ?
+mul-put-day-of c = omega arith
 
--- src/lib.rt:287:25
 shared-slice-read-put-day-of : tie.Need-shared-slice-read-put-day-of Inv-loop μ-loop
-shared-slice-read-put-day-of c = ?
+shared-slice-read-put-day-of c = omega (arith, c .before .before .before .before .before .pre .0, c .before .loop-test .taken)
 
--- src/lib.rt:287:9
 put-day-of-requires : tie.Need-put-day-of-requires Inv-loop μ-loop
-put-day-of-requires c κs = ?
+put-day-of-requires c κs =
+    let l = c .before .before .before in
+    let pre = l .before .before .before .pre in
+    (pre .1 (l .loop .i) (c .before .before .loop-test .taken), omega (arith, put-kept (l .loop .inv .1), l .loop .inv .1 .few, pre .2, c .before .before .loop-test .taken))
 
--- src/lib.rt:288:9
 add-i : tie.Need-add-i Inv-loop μ-loop
-add-i c = ?
+add-i c = omega arith
 
--- src/lib.rt:286:5
 loop-less : tie.Need-loop-less Inv-loop μ-loop
-loop-less c = ?
+loop-less c = omega arith
 
--- src/lib.rt:286:5
 loop-again : tie.Need-loop-again Inv-loop μ-loop
-loop-again c = ?
+loop-again c =
+    let t = c .before .before .before .before .before in
+    let l = t .before in
+    let s = l .before .before .before in
+    (omega arith, turn (l .loop .i) (each-next dayLine (s .args .days .now) (l .loop .i) (omega (arith, s .pre .0, t .loop-test .taken))) (l .loop .inv .1) (c .before .before .put-day-of .ensures))
 
--- src/lib.rt:280:1
 same-length : tie.Need-same-length Inv-loop μ-loop
-same-length c = ?
+same-length c = put-kept (c .before .loop .inv .1)
 
--- src/lib.rt:280:1
 returns : tie.Need-returns Inv-loop μ-loop
-returns c = ?
+returns c =
+    let l = c .before in
+    let s = l .before .before .before in
+    let e : l .loop .i ≡ s .args .n = omega (arith, l .loop .inv .0, c .loop-test .left) in
+    wide (omega (arith, e)) (put-as (ap (λ (i : ℕ). each dayLine (take i (s .args .days .now))) e) (l .loop .inv .1))
 
 pub put-days-spec : {M : Type 1} → statement M
 put-days-spec =

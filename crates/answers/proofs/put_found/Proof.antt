@@ -1,3 +1,7 @@
+-- `answers::put_found` meets its contract. Assumes nothing.
+use Rattle.fields.specs.Fields.{followed}
+use Rattle.fields.proofs.Putting.{then}
+use Rattle.answers.specs.Answers.{foundLine}
 use borrow.Author.Needs.{needs}
 use Rattle.answers.proofs.put_found.Statement.{statement}
 use Rattle.answers.proofs.put_found.Tie as tie
@@ -7,29 +11,28 @@ use Rattle.fields.proofs.put_byte.Reads as put-byte-reads
 use Rattle.fields.proofs.put_bytes.Reads as put-bytes-reads
 use Rattle.fields.proofs.put_next.Reads as put-next-reads
 
--- src/lib.rt:274:33
 slice-aggregate-put-bytes : tie.Need-slice-aggregate-put-bytes
 slice-aggregate-put-bytes c = search needs
 
--- src/lib.rt:274:9
 put-bytes-requires : tie.Need-put-bytes-requires
 put-bytes-requires c κs = search needs
 
--- src/lib.rt:275:9
 put-next-requires : tie.Need-put-next-requires
 put-next-requires c κs = search needs
 
--- src/lib.rt:276:5
 put-byte-requires : tie.Need-put-byte-requires
 put-byte-requires c κs = search needs
 
--- src/lib.rt:270:1
 same-length : tie.Need-same-length
 same-length c = search needs
 
--- src/lib.rt:270:1
 returns : tie.Need-returns
-returns c = ?
+unfolding foundLine followed
+returns c =
+    let p3 = c .before .before in
+    let p2 = p3 .before .before .before .before in
+    let p1 = p2 .before .before .before .before in
+    then (p1 .put-bytes .ensures) (then (p2 .put-next .ensures) (p3 .put-byte .ensures))
 
 pub put-found-spec : {M : Type 1} → statement M
 put-found-spec =

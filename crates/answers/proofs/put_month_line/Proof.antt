@@ -1,3 +1,11 @@
+-- `answers::put_month_line` meets its contract. Assumes nothing.
+use native.Mathlib.Omega.{arith}
+use Rattle.fields.specs.Fields.{decimal, followed}
+use mathlib.Core.List.{[], _∷_}
+use Rattle.lines.specs.Lines.{fieldsOfMonth}
+use Rattle.fields.proofs.Putting.{then}
+use Rattle.answers.specs.Answers.{monthLineOf}
+use Rattle.answers.proofs.Telling.{more-fields}
 use borrow.Author.Needs.{needs}
 use Rattle.answers.proofs.put_month_line.Statement.{statement}
 use Rattle.answers.proofs.put_month_line.Tie as tie
@@ -8,41 +16,45 @@ use Rattle.fields.proofs.put_bytes.Reads as put-bytes-reads
 use Rattle.fields.proofs.put_next.Reads as put-next-reads
 use Rattle.lines.proofs.put_month_fields.Reads as put-month-fields-reads
 
--- src/lib.rt:166:33
 slice-aggregate-put-bytes : tie.Need-slice-aggregate-put-bytes
 slice-aggregate-put-bytes c = search needs
 
--- src/lib.rt:166:9
 put-bytes-requires : tie.Need-put-bytes-requires
 put-bytes-requires c κs = search needs
 
--- src/lib.rt:167:9
 put-month-fields-requires : tie.Need-put-month-fields-requires
 put-month-fields-requires c κs = search needs
 
--- src/lib.rt:168:9
 put-next-requires : tie.Need-put-next-requires
 put-next-requires c κs = search needs
 
--- src/lib.rt:169:32
 cast-put-next : tie.Need-cast-put-next
 cast-put-next c = search needs
 
--- src/lib.rt:169:9
 put-next-requires-2 : tie.Need-put-next-requires-2
 put-next-requires-2 c κs = search needs
 
--- src/lib.rt:170:5
 put-byte-requires : tie.Need-put-byte-requires
 put-byte-requires c κs = search needs
 
--- src/lib.rt:162:1
 same-length : tie.Need-same-length
 same-length c = search needs
 
--- src/lib.rt:162:1
 returns : tie.Need-returns
-returns c = ?
+unfolding monthLineOf followed
+returns c =
+    let p5 = c .before .before in
+    let p4 = p5 .before .before .before .before in
+    let p3 = p4 .before .before .before .before .before in
+    let p2 = p3 .before .before .before .before in
+    let p1 = p2 .before .before .before .before in
+    let s = p1 .before .before .before .before in
+    let f = s .args .f in
+    then (p1 .put-bytes .ensures)
+    (then
+    (more-fields (fieldsOfMonth (s .args .n) f) (decimal (f .«first_day») ∷ decimal (f .«small_remainder») ∷ []) (omega arith) (omega arith) (p2 .put-month-fields .ensures)
+    (then (p3 .put-next .ensures) (p4 .put-next2 .ensures)))
+    (p5 .put-byte .ensures))
 
 pub put-month-line-spec : {M : Type 1} → statement M
 put-month-line-spec =

@@ -1,3 +1,10 @@
+-- `answers::put_place` meets its contract. Assumes nothing.
+use native.Mathlib.Omega.{arith}
+use Rattle.fields.specs.Fields.{decimal, followed}
+use mathlib.Core.List.{[], _∷_}
+use Rattle.fields.proofs.Putting.{then}
+use Rattle.answers.specs.Answers.{placeLine, fieldsOfBu}
+use Rattle.answers.proofs.Telling.{more-fields}
 use borrow.Author.Needs.{needs}
 use Rattle.answers.proofs.put_place.Statement.{statement}
 use Rattle.answers.proofs.put_place.Tie as tie
@@ -7,41 +14,43 @@ use Rattle.answers.proofs.put_bu_fields.Reads as put-bu-fields-reads
 use Rattle.fields.proofs.put_byte.Reads as put-byte-reads
 use Rattle.fields.proofs.put_next.Reads as put-next-reads
 
--- src/lib.rt:143:9
 put-bu-fields-requires : tie.Need-put-bu-fields-requires
 put-bu-fields-requires c κs = search needs
 
--- src/lib.rt:144:9
 put-next-requires : tie.Need-put-next-requires
 put-next-requires c κs = search needs
 
--- src/lib.rt:145:32
 cast-put-next : tie.Need-cast-put-next
 cast-put-next c = search needs
 
--- src/lib.rt:145:9
 put-next-requires-2 : tie.Need-put-next-requires-2
 put-next-requires-2 c κs = search needs
 
--- src/lib.rt:146:32
 cast-put-next-2 : tie.Need-cast-put-next-2
 cast-put-next-2 c = search needs
 
--- src/lib.rt:146:9
 put-next-requires-3 : tie.Need-put-next-requires-3
 put-next-requires-3 c κs = search needs
 
--- src/lib.rt:147:5
 put-byte-requires : tie.Need-put-byte-requires
 put-byte-requires c κs = search needs
 
--- src/lib.rt:139:1
 same-length : tie.Need-same-length
 same-length c = search needs
 
--- src/lib.rt:139:1
 returns : tie.Need-returns
-returns c = ?
+unfolding placeLine followed
+returns c =
+    let p5 = c .before .before in
+    let p4 = p5 .before .before .before .before in
+    let p3 = p4 .before .before .before .before .before in
+    let p2 = p3 .before .before .before .before .before in
+    let p1 = p2 .before .before .before .before in
+    let p = p1 .before .before .before .args .p in
+    then
+    (more-fields (fieldsOfBu p) (decimal (p .«first_month») ∷ decimal (p .«leap_remainder») ∷ decimal (p .months) ∷ []) (omega arith) (omega arith) (p1 .put-bu-fields .ensures)
+    (then (p2 .put-next .ensures) (then (p3 .put-next2 .ensures) (p4 .put-next3 .ensures))))
+    (p5 .put-byte .ensures)
 
 pub put-place-spec : {M : Type 1} → statement M
 put-place-spec =

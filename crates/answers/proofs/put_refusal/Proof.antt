@@ -1,3 +1,7 @@
+-- `answers::put_refusal` meets its contract. Assumes nothing.
+use Rattle.fields.specs.Fields.{followed}
+use Rattle.fields.proofs.Putting.{then, put-as}
+use Rattle.answers.proofs.Telling.{as-refusal}
 use borrow.Author.Needs.{needs}
 use Rattle.answers.proofs.put_refusal.Statement.{statement}
 use Rattle.answers.proofs.put_refusal.Tie as tie
@@ -9,45 +13,43 @@ use Rattle.fields.proofs.put_next.Reads as put-next-reads
 use Rattle.rule.proofs.reason_number.Reads as reason-number-reads
 use Rattle.words.proofs.put_words.Reads as put-words-reads
 
--- src/lib.rt:54:33
 slice-aggregate-put-bytes : tie.Need-slice-aggregate-put-bytes
 slice-aggregate-put-bytes c = search needs
 
--- src/lib.rt:54:9
 put-bytes-requires : tie.Need-put-bytes-requires
 put-bytes-requires c κs = search needs
 
--- src/lib.rt:55:32
 reason-number-requires : tie.Need-reason-number-requires
 reason-number-requires c κs = search needs
 
--- src/lib.rt:55:32
 cast-put-next : tie.Need-cast-put-next
 cast-put-next c = search needs
 
--- src/lib.rt:55:9
 put-next-requires : tie.Need-put-next-requires
 put-next-requires c κs = search needs
 
--- src/lib.rt:56:9
 put-byte-requires : tie.Need-put-byte-requires
 put-byte-requires c κs = search needs
 
--- src/lib.rt:57:9
 put-words-requires : tie.Need-put-words-requires
 put-words-requires c κs = search needs
 
--- src/lib.rt:58:5
 put-byte-requires-2 : tie.Need-put-byte-requires-2
 put-byte-requires-2 c κs = search needs
 
--- src/lib.rt:50:1
 same-length : tie.Need-same-length
 same-length c = search needs
 
--- src/lib.rt:50:1
 returns : tie.Need-returns
-returns c = ?
+unfolding followed
+returns c =
+    let p5 = c .before .before in
+    let p4 = p5 .before .before .before .before in
+    let p3 = p4 .before .before .before .before in
+    let p2 = p3 .before .before .before .before in
+    let p1 = p2 .before .before .before .before .before in
+    put-as (as-refusal (p1 .before .before .before .before .args .why) (p2 .before .before .reason-number .ensures))
+    (then (then (p1 .put-bytes .ensures) (then (p2 .put-next .ensures) (then (p3 .put-byte .ensures) (p4 .put-words .ensures)))) (p5 .put-byte2 .ensures))
 
 pub put-refusal-spec : {M : Type 1} → statement M
 put-refusal-spec =

@@ -1,3 +1,11 @@
+-- `answers::put_year_line` meets its contract. Assumes nothing.
+use native.Mathlib.Omega.{arith}
+use Rattle.fields.specs.Fields.{word, decimal, followed}
+use mathlib.Core.List.{[], _∷_}
+use Rattle.lines.specs.Lines.{fieldsOfYear}
+use Rattle.fields.proofs.Putting.{then}
+use Rattle.answers.specs.Answers.{fieldsOfLeap, yearLine}
+use Rattle.answers.proofs.Telling.{more-fields}
 use borrow.Author.Needs.{needs}
 use Rattle.answers.proofs.put_year_line.Statement.{statement}
 use Rattle.answers.proofs.put_year_line.Tie as tie
@@ -9,45 +17,48 @@ use Rattle.fields.proofs.put_bytes.Reads as put-bytes-reads
 use Rattle.fields.proofs.put_next.Reads as put-next-reads
 use Rattle.lines.proofs.put_year_fields.Reads as put-year-fields-reads
 
--- src/lib.rt:204:9
 put-year-fields-requires : tie.Need-put-year-fields-requires
 put-year-fields-requires c κs = search needs
 
--- src/lib.rt:205:33
 slice-aggregate-put-bytes : tie.Need-slice-aggregate-put-bytes
 slice-aggregate-put-bytes c = search needs
 
--- src/lib.rt:205:9
 put-bytes-requires : tie.Need-put-bytes-requires
 put-bytes-requires c κs = search needs
 
--- src/lib.rt:206:9
 put-next-requires : tie.Need-put-next-requires
 put-next-requires c κs = search needs
 
--- src/lib.rt:207:33
 slice-aggregate-put-bytes-2 : tie.Need-slice-aggregate-put-bytes-2
 slice-aggregate-put-bytes-2 c = search needs
 
--- src/lib.rt:207:9
 put-bytes-requires-2 : tie.Need-put-bytes-requires-2
 put-bytes-requires-2 c κs = search needs
 
--- src/lib.rt:208:9
 put-leap-requires : tie.Need-put-leap-requires
 put-leap-requires c κs = search needs
 
--- src/lib.rt:209:5
 put-byte-requires : tie.Need-put-byte-requires
 put-byte-requires c κs = search needs
 
--- src/lib.rt:199:1
 same-length : tie.Need-same-length
 same-length c = search needs
 
--- src/lib.rt:199:1
 returns : tie.Need-returns
-returns c = ?
+unfolding yearLine followed
+returns c =
+    let p6 = c .before .before in
+    let p5 = p6 .before .before .before .before in
+    let p4 = p5 .before .before .before .before in
+    let p3 = p4 .before .before .before .before .before in
+    let p2 = p3 .before .before .before .before in
+    let p1 = p2 .before .before .before .before .before in
+    let s = p1 .before .before .before in
+    let f = s .args .f in
+    then
+    (more-fields (fieldsOfYear (s .args .year) f) (word "FIRST" ∷ decimal (f .«first_month») ∷ word "LEAP" ∷ fieldsOfLeap (f .«leap_month»)) (omega arith) (omega arith) (p1 .put-year-fields .ensures)
+    (then (p2 .put-bytes .ensures) (then (p3 .put-next .ensures) (then (p4 .put-bytes2 .ensures) (p5 .put-leap .ensures)))))
+    (p6 .put-byte .ensures)
 
 pub put-year-line-spec : {M : Type 1} → statement M
 put-year-line-spec =

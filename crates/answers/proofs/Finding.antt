@@ -1,0 +1,108 @@
+-- Laws of a search into a list with a place for each day of the longest window. Assumes nothing.
+use Prim.Native.Nat.{ℕ, _+_, _≤_, _<_}
+use native.Mathlib.Omega.{arith}
+use mathlib.Core.Path.{_≡_, refl, ap, sym, _∙_, subst}
+use mathlib.Core.Bool.{Bool, true, false, _&&_}
+use mathlib.Core.List.{List}
+use lib.Dec.{leb}
+use lib.ListN.{length, getD, take, drop, length-append, List·getD-append}
+use borrow.Author.Tests.{le-leb}
+use Rattle.rule.specs.Counts.{DayInRange}
+use Rattle.rule.specs.Lists.{placed}
+use Rattle.rule.specs.Reasons.{Answer, is, refused-with, guard}
+use Rattle.rule.proofs.Answers.{holds-all}
+use Rattle.rule.proofs.Lists.{complement, at-place}
+use Rattle.sheet.proofs.Paper.{front}
+use Rattle.reading.specs.declared.Reading.{Reading}
+use Rattle.reading.specs.declared.Found.{Found}
+use Rattle.reading.specs.declared.Found.the-variants.{Is}
+use Rattle.reading.specs.Readings.{inRanges, fits, windowDays, windowHolds, fitting}
+use Rattle.reading.specs.Search.{total, withRoom, searchAt, saidFound, listAfter, Searched}
+use Rattle.reading.proofs.Answered.{window-true, ends-true}
+
+-- as many days fit at most as the window has
+pub total-few : (r : Reading) (first last : ℕ) → total r first last ≤ windowDays first last
+unfolding total fitting
+total-few r first last = omega (arith, complement (fits r) first (windowDays first last))
+
+-- so many places are enough: more make no difference
+pub room-enough : (r : Reading) (first last room : ℕ) → 27759 ≤ room → searchAt r first last room ≡ searchAt r first last 27759
+unfolding searchAt
+room-enough r first last room h = ap (guard (leb first 14989859 && leb last 14989859) 6) (go (windowHolds first last) refl)
+  where
+    t : ℕ
+    t = total r first last
+
+    go : (b : Bool) → windowHolds first last ≡ b →
+        guard b 13 (guard (inRanges r) 14 (withRoom (leb t room) t)) ≡ guard b 13 (guard (inRanges r) 14 (withRoom (leb t 27759) t))
+    go false e = refl
+    go true e =
+        let w = window-true first last .0 e in
+        let f = total-few r first last in
+        ap (λ (b : Bool). guard (inRanges r) 14 (withRoom b t)) (le-leb t room (omega (arith, w .1)) ∙ sym (le-leb t 27759 (omega (arith, w .1))))
+
+-- what is known where a search is answered with n
+pub record AnsweredWith (r : Reading) (first last n : ℕ) : Type 0 where
+  pub ends : last ≤ 14989859
+  pub window : (first ≤ last) × (windowDays first last ≤ 27759)
+  pub counted : n ≡ total r first last
+
+pub answered-with : (r : Reading) (first last room n : ℕ) → searchAt r first last room ≡ is n → AnsweredWith r first last n
+unfolding searchAt
+answered-with r first last room n e =
+    let a = holds-all (leb first 14989859 && leb last 14989859) 6 _ n .0 e in
+    let b = holds-all (windowHolds first last) 13 _ n .0 (a .1) in
+    let c = holds-all (inRanges r) 14 _ n .0 (b .1) in
+    record {
+      ends = ends-true first last .0 (a .0) .1;
+      window = window-true first last .0 (b .0);
+      counted = go (leb (total r first last) room) (c .1);
+    }
+  where
+    go : (t : Bool) → withRoom t (total r first last) ≡ is n → n ≡ total r first last
+    go true f = let g : _≡_ {A = Answer ℕ} (is (total r first last)) (is n) = f in cc
+    go false f = let g : _≡_ {A = Answer ℕ} (refused-with 12 (total r first last)) (is n) = f in absurd (let o : _≡_ {A = ℕ} 0 1 = cc in omega arith)
+
+-- the list after a search that is answered with n: its first n places are the days that fit, each a day in range
+module _ {r : Reading} {first last : ℕ} {old new : List ℕ} {a : Found} (s : Searched r first last old a new) {n : ℕ} (e : a ≡ Is n) where
+  days : List ℕ
+  days = fitting r first (windowDays first last)
+
+  said : searchAt r first last (length old) ≡ is n
+  said = sym (s .answered) ∙ ap saidFound e
+
+  known : AnsweredWith r first last n
+  known = answered-with r first last (length old) n said
+
+  count : n ≡ length days
+  unfolding total days
+  count = known .counted
+
+  filled : new ≡ placed days old
+  unfolding days
+  filled = s .lent ∙ ap (λ (x : Answer ℕ). listAfter x (fitting r first (windowDays first last)) old) said
+
+  pub found-days : take n new ≡ fitting r first (windowDays first last)
+  unfolding days
+  found-days = front days old n new filled count
+
+  pub found-few : n ≤ 27759
+  found-few = omega (arith, known .counted, known .window .1, total-few r first last)
+
+  pub found-inside : n ≤ length new
+  found-inside = omega (arith, count, ap length filled, length-append days (drop (length days) old))
+
+  pub found-in-range : (i : ℕ) → i < n → DayInRange (getD new i 0)
+  unfolding days fitting
+  found-in-range i h =
+      let l : i < length days = omega (arith, count) in
+      let w = at-place (fits r) first (windowDays first last) i l in
+      omega (
+        arith,
+        ap (λ (xs : List ℕ). getD xs i 0) filled,
+        List·getD-append days (drop (length days) old) 0 i l,
+        w .here,
+        w .inside,
+        known .ends,
+        known .window .0,
+      )

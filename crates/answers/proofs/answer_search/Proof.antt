@@ -1,0 +1,131 @@
+-- `answers::answer_search` meets its contract: what `reading::search` says, told, and the lines of the days. Assumes nothing.
+use Prim.Native.Nat.{ℕ}
+use native.Mathlib.Omega.{arith}
+use mathlib.Core.Path.{_≡_, ap, _∙_}
+use mathlib.Core.List.{List, _++_}
+use lib.ListN.{length}
+use Rattle.reading.specs.Readings.{windowDays, fitting}
+use Rattle.reading.specs.Search.{searchAt, saidFound}
+use Rattle.fields.specs.Fields.{each}
+use Rattle.fields.proofs.Putting.{put-kept, wide, then, put-as}
+use Rattle.answers.specs.Answers.{dayLine, foundLine, searchText}
+use Rattle.answers.proofs.Telling.{tells}
+use Rattle.answers.proofs.Finding.{room-enough, found-days, found-few, found-inside, found-in-range}
+use borrow.Author.Needs.{needs}
+use Rattle.answers.proofs.answer_search.Statement.{statement}
+use Rattle.answers.proofs.answer_search.Tie as tie
+use Rattle.answers.proofs.answer_search.Reads as reads
+use Rattle.answers.proofs.answer_search.Lts as lts
+
+search-requires : tie.Need-search-requires
+search-requires c κs = search needs
+
+enum-known-n : tie.Need-enum-known-n
+enum-known-n c = search needs
+
+put-found-requires : tie.Need-put-found-requires
+put-found-requires c κs = search needs
+
+cast-put-days : tie.Need-cast-put-days
+cast-put-days c = search needs
+
+put-days-requires : tie.Need-put-days-requires
+put-days-requires c κs =
+    let p = c .before .before .before .before in
+    let q = p .before .before .before in
+    let x = q .before .before .before .before in
+    let s = x .search .ensures in
+    let e = q .n .given .1 in
+    (found-inside s e, found-in-range s e, omega (arith, found-few s e, put-kept (p .put-found .ensures), p .put-found .ensures .few, x .before .before .before .before .pre .1))
+
+enum-told : tie.Need-enum-told
+enum-told c = search needs
+
+put-refusal-requires : tie.Need-put-refusal-requires
+put-refusal-requires c κs = search needs
+
+enum-known-why : tie.Need-enum-known-why
+enum-known-why c = search needs
+
+put-refusal-requires-2 : tie.Need-put-refusal-requires-2
+put-refusal-requires-2 c κs = search needs
+
+-- the text of so many found days
+abbrev lines-of : tie.Start → ℕ → List ℕ
+lines-of s n = foundLine n ++ each dayLine (fitting (s .args .r) (s .args .first) (windowDays (s .args .first) (s .args .last)))
+
+-- what the search promised, of a list with so many places as there are
+promised : (x : tie.After-search) →
+    saidFound (x .search .result) ≡ searchAt (x .before .before .before .before .args .r) (x .before .before .before .before .args .first) (x .before .before .before .before .args .last) 27759
+promised x =
+    let s = x .before .before .before .before in
+    x .search .ensures .answered ∙ room-enough (s .args .r) (s .args .first) (s .args .last) (length (s .args .days .now)) (s .pre .0)
+
+same-length : tie.Need-same-length
+same-length c = search needs
+
+same-length-2 : tie.Need-same-length-2
+same-length-2 c = search needs
+
+returns : tie.Need-returns
+unfolding searchText
+returns c =
+    let p2 = c .before .before in
+    let p1 = p2 .before .before .before .before .before in
+    let q = p1 .before .before .before in
+    let x = q .before .before .before .before in
+    let s = x .search .ensures in
+    let e = q .n .given .1 in
+    tells (lines-of (x .before .before .before .before)) saidFound (promised x) e
+    (wide (omega (arith, found-few s e)) (put-as (ap (λ (l : List ℕ). foundLine (q .n .given .0 .0) ++ each dayLine l) (found-days s e)) (then (p1 .put-found .ensures) (p2 .put-days .ensures))))
+
+same-length-3 : tie.Need-same-length-3
+same-length-3 c = search needs
+
+same-length-4 : tie.Need-same-length-4
+same-length-4 c = search needs
+
+returns-2 : tie.Need-returns-2
+unfolding searchText
+returns-2 c =
+    let p = c .before .before in
+    let q = p .before .before in
+    let x = q .before .before .before .before in
+    tells (lines-of (x .before .before .before .before)) saidFound (promised x) (q .enum-told .given .1) (wide (omega arith) (p .put-refusal .ensures))
+
+same-length-5 : tie.Need-same-length-5
+same-length-5 c = search needs
+
+same-length-6 : tie.Need-same-length-6
+same-length-6 c = search needs
+
+returns-3 : tie.Need-returns-3
+unfolding searchText
+returns-3 c =
+    let p = c .before .before in
+    let q = p .before .before .before in
+    let x = q .before .before .before .before in
+    tells (lines-of (x .before .before .before .before)) saidFound (promised x) (q .why .given .1) (wide (omega arith) (p .put-refusal2 .ensures))
+
+pub answer-search-spec : {M : Type 1} → statement M
+answer-search-spec =
+    tie.close
+    (tie.spec
+    search-requires
+    enum-known-n
+    put-found-requires
+    cast-put-days
+    put-days-requires
+    enum-told
+    put-refusal-requires
+    enum-known-why
+    put-refusal-requires-2
+    same-length
+    same-length-2
+    returns
+    same-length-3
+    same-length-4
+    returns-2
+    same-length-5
+    same-length-6
+    returns-3)
