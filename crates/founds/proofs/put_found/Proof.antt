@@ -1,12 +1,12 @@
--- `answers::put_found` meets its contract. Assumes nothing.
+-- `founds::put_found` meets its contract. Assumes nothing.
 use Rattle.fields.specs.Fields.{followed}
 use Rattle.fields.proofs.Putting.{then}
 use Rattle.answers.specs.Answers.{foundLine}
 use borrow.Author.Needs.{needs}
-use Rattle.answers.proofs.put_found.Statement.{statement}
-use Rattle.answers.proofs.put_found.Tie as tie
-use Rattle.answers.proofs.put_found.Reads as reads
-use Rattle.answers.proofs.put_found.Lts as lts
+use Rattle.founds.proofs.put_found.Statement.{statement}
+use Rattle.founds.proofs.put_found.Tie as tie
+use Rattle.founds.proofs.put_found.Reads as reads
+use Rattle.founds.proofs.put_found.Lts as lts
 use Rattle.fields.proofs.put_byte.Reads as put-byte-reads
 use Rattle.fields.proofs.put_bytes.Reads as put-bytes-reads
 use Rattle.fields.proofs.put_next.Reads as put-next-reads

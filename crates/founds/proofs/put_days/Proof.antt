@@ -1,16 +1,16 @@
--- `answers::put_days` meets its contract. The invariant: the lines of the first i days are put. Assumes nothing.
+-- `founds::put_days` meets its contract. The invariant: the lines of the first i days are put. Assumes nothing.
 use Prim.Native.Nat.{ℕ, _-_, _*_, _≤_}
 use native.Mathlib.Omega.{arith}
 use mathlib.Core.Path.{_≡_, ap}
 use lib.ListN.{take}
 use Rattle.fields.specs.Fields.{each, Put}
 use Rattle.fields.proofs.Putting.{put-kept, wide, put-none, put-as, each-next, turn}
 use Rattle.answers.specs.Answers.{dayLine}
-use Rattle.answers.proofs.put_days.Statement.{statement}
-use Rattle.answers.proofs.put_days.Tie as tie
-use Rattle.answers.proofs.put_days.Reads as reads
-use Rattle.answers.proofs.put_days.Lts as lts
-use Rattle.answers.proofs.put_day_of.Reads as put-day-of-reads
+use Rattle.founds.proofs.put_days.Statement.{statement}
+use Rattle.founds.proofs.put_days.Tie as tie
+use Rattle.founds.proofs.put_days.Reads as reads
+use Rattle.founds.proofs.put_days.Lts as lts
+use Rattle.founds.proofs.put_day_of.Reads as put-day-of-reads
 
 abbrev Inv-loop : tie.InvT-loop
 Inv-loop n days out₀ at to₀ i₀ out to i = (i ≤ n) × Put (83 * i) out₀ at (each dayLine (take i days)) out to

@@ -1,16 +1,16 @@
--- `answers::answer_day` meets its contract: what `dates::date_of_day` says, told. Assumes nothing.
+-- `founds::answer_day` meets its contract: what `dates::date_of_day` says, told. Assumes nothing.
 use native.Mathlib.Omega.{arith}
 use Rattle.fields.proofs.Putting.{wide}
 use Rattle.dates.specs.Promises.{saidDate}
 use Rattle.answers.specs.Answers.{dayLineOf, dayText}
 use Rattle.answers.proofs.Telling.{tells}
 use borrow.Author.Needs.{needs}
-use Rattle.answers.proofs.answer_day.Statement.{statement}
-use Rattle.answers.proofs.answer_day.Tie as tie
-use Rattle.answers.proofs.answer_day.Reads as reads
-use Rattle.answers.proofs.answer_day.Lts as lts
-use Rattle.answers.proofs.put_day_line.Reads as put-day-line-reads
+use Rattle.founds.proofs.answer_day.Statement.{statement}
+use Rattle.founds.proofs.answer_day.Tie as tie
+use Rattle.founds.proofs.answer_day.Reads as reads
+use Rattle.founds.proofs.answer_day.Lts as lts
+use Rattle.founds.proofs.put_day_line.Reads as put-day-line-reads
 use Rattle.answers.proofs.put_refusal.Reads as put-refusal-reads
 use Rattle.dates.proofs.date_of_day.Reads as date-of-day-reads
 
 date-of-day-requires : tie.Need-date-of-day-requires

@@ -1,4 +1,4 @@
--- `answers::answer_search` meets its contract: what `reading::search` says, told, and the lines of the days. Assumes nothing.
+-- `founds::answer_search` meets its contract: what `reading::search` says, told, and the lines of the days. Assumes nothing.
 use Prim.Native.Nat.{ℕ}
 use native.Mathlib.Omega.{arith}
 use mathlib.Core.Path.{_≡_, ap, _∙_}
@@ -8,14 +8,14 @@ use Rattle.reading.specs.Readings.{windowDays, fitting}
 use Rattle.reading.specs.Search.{searchAt, saidFound}
 use Rattle.fields.specs.Fields.{each}
 use Rattle.fields.proofs.Putting.{put-kept, wide, then, put-as}
 use Rattle.answers.specs.Answers.{dayLine, foundLine, searchText}
 use Rattle.answers.proofs.Telling.{tells}
 use Rattle.answers.proofs.Finding.{room-enough, found-days, found-few, found-inside, found-in-range}
 use borrow.Author.Needs.{needs}
-use Rattle.answers.proofs.answer_search.Statement.{statement}
-use Rattle.answers.proofs.answer_search.Tie as tie
-use Rattle.answers.proofs.answer_search.Reads as reads
-use Rattle.answers.proofs.answer_search.Lts as lts
+use Rattle.founds.proofs.answer_search.Statement.{statement}
+use Rattle.founds.proofs.answer_search.Tie as tie
+use Rattle.founds.proofs.answer_search.Reads as reads
+use Rattle.founds.proofs.answer_search.Lts as lts
 
 search-requires : tie.Need-search-requires
 search-requires c κs = search needs

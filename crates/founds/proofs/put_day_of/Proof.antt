@@ -1,13 +1,13 @@
--- `answers::put_day_of` meets its contract: the line of its date. Assumes nothing.
+-- `founds::put_day_of` meets its contract: the line of its date. Assumes nothing.
 use Rattle.answers.specs.Answers.{dayLineOf, dayLine}
 use Rattle.fields.proofs.Putting.{put-as}
 use mathlib.Core.Path.{ap}
 use borrow.Author.Needs.{needs}
-use Rattle.answers.proofs.put_day_of.Statement.{statement}
-use Rattle.answers.proofs.put_day_of.Tie as tie
-use Rattle.answers.proofs.put_day_of.Reads as reads
-use Rattle.answers.proofs.put_day_of.Lts as lts
-use Rattle.answers.proofs.put_day_line.Reads as put-day-line-reads
+use Rattle.founds.proofs.put_day_of.Statement.{statement}
+use Rattle.founds.proofs.put_day_of.Tie as tie
+use Rattle.founds.proofs.put_day_of.Reads as reads
+use Rattle.founds.proofs.put_day_of.Lts as lts
+use Rattle.founds.proofs.put_day_line.Reads as put-day-line-reads
 use Rattle.dates.proofs.date_at.Reads as date-at-reads
 
 date-at-requires : tie.Need-date-at-requires

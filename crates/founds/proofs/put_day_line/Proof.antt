@@ -1,16 +1,16 @@
--- `answers::put_day_line` meets its contract. Assumes nothing.
+-- `founds::put_day_line` meets its contract. Assumes nothing.
 use native.Mathlib.Omega.{arith}
 use Rattle.fields.specs.Fields.{decimal, followed}
 use mathlib.Core.List.{[], _∷_}
 use Rattle.lines.specs.Lines.{fieldsOfDay}
 use Rattle.fields.proofs.Putting.{then}
 use Rattle.answers.specs.Answers.{dayLineOf}
 use Rattle.answers.proofs.Telling.{more-fields}
 use borrow.Author.Needs.{needs}
-use Rattle.answers.proofs.put_day_line.Statement.{statement}
-use Rattle.answers.proofs.put_day_line.Tie as tie
-use Rattle.answers.proofs.put_day_line.Reads as reads
-use Rattle.answers.proofs.put_day_line.Lts as lts
+use Rattle.founds.proofs.put_day_line.Statement.{statement}
+use Rattle.founds.proofs.put_day_line.Tie as tie
+use Rattle.founds.proofs.put_day_line.Reads as reads
+use Rattle.founds.proofs.put_day_line.Lts as lts
 use Rattle.fields.proofs.put_byte.Reads as put-byte-reads
 use Rattle.fields.proofs.put_next.Reads as put-next-reads
 use Rattle.lines.proofs.put_day_fields.Reads as put-day-fields-reads

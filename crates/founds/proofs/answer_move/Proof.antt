@@ -1,4 +1,4 @@
--- `answers::answer_move` meets its contract: what `moves::move_date` says, told. Assumes nothing.
+-- `founds::answer_move` meets its contract: what `moves::move_date` says, told. Assumes nothing.
 use native.Mathlib.Omega.{arith}
 use Rattle.fields.proofs.Putting.{wide}
 use mathlib.Core.Path.{_≡_, ap, _∙_}
@@ -6,15 +6,15 @@ use mir.Syntax.{w64}
 use mir.ValLaws.{toZ-ofZ}
 use Rattle.moves.specs.Moves.{moved}
 use Rattle.dates.specs.Promises.{saidDate}
 use Rattle.answers.specs.Answers.{textOfDate, moveText}
 use Rattle.answers.proofs.Telling.{tells}
 use borrow.Author.Needs.{needs}
-use Rattle.answers.proofs.answer_move.Statement.{statement}
-use Rattle.answers.proofs.answer_move.Tie as tie
-use Rattle.answers.proofs.answer_move.Reads as reads
-use Rattle.answers.proofs.answer_move.Lts as lts
-use Rattle.answers.proofs.answer_of_date.Reads as answer-of-date-reads
+use Rattle.founds.proofs.answer_move.Statement.{statement}
+use Rattle.founds.proofs.answer_move.Tie as tie
+use Rattle.founds.proofs.answer_move.Reads as reads
+use Rattle.founds.proofs.answer_move.Lts as lts
+use Rattle.founds.proofs.answer_of_date.Reads as answer-of-date-reads
 use Rattle.answers.proofs.put_refusal.Reads as put-refusal-reads
 use Rattle.moves.proofs.move_date.Reads as move-date-reads
 
 move-date-requires : tie.Need-move-date-requires

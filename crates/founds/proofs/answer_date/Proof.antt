@@ -1,18 +1,18 @@
--- `answers::answer_date` meets its contract: what `dates::day_of_date` says, told. Assumes nothing.
+-- `founds::answer_date` meets its contract: what `dates::day_of_date` says, told. Assumes nothing.
 use Rattle.dates.proofs.Paper.{back-and-there}
 use mathlib.Core.Path.{ap, sym, _∙_}
 use native.Mathlib.Omega.{arith}
 use Rattle.fields.proofs.Putting.{wide}
 use Rattle.dates.specs.Promises.{saidDay}
 use Rattle.answers.specs.Answers.{dayLine, dateText}
 use Rattle.answers.proofs.Telling.{tells}
 use borrow.Author.Needs.{needs}
-use Rattle.answers.proofs.answer_date.Statement.{statement}
-use Rattle.answers.proofs.answer_date.Tie as tie
-use Rattle.answers.proofs.answer_date.Reads as reads
-use Rattle.answers.proofs.answer_date.Lts as lts
-use Rattle.answers.proofs.put_day_of.Reads as put-day-of-reads
+use Rattle.founds.proofs.answer_date.Statement.{statement}
+use Rattle.founds.proofs.answer_date.Tie as tie
+use Rattle.founds.proofs.answer_date.Reads as reads
+use Rattle.founds.proofs.answer_date.Lts as lts
+use Rattle.founds.proofs.put_day_of.Reads as put-day-of-reads
 use Rattle.answers.proofs.put_refusal.Reads as put-refusal-reads
 use Rattle.dates.proofs.day_of_date.Reads as day-of-date-reads
 
 day-of-date-requires : tie.Need-day-of-date-requires

@@ -1,15 +1,15 @@
--- `answers::answer_of_date` meets its contract: the date by its own four things. Assumes nothing.
+-- `founds::answer_of_date` meets its contract: the date by its own four things. Assumes nothing.
 use Rattle.answers.specs.Answers.{dateText}
 use Rattle.fields.proofs.Putting.{put-as}
 use mathlib.Core.Bool.{Bool}
 use mathlib.Core.Path.{ap₂}
 use Prim.Native.Nat.{ℕ}
 use borrow.Author.Needs.{needs}
-use Rattle.answers.proofs.answer_of_date.Statement.{statement}
-use Rattle.answers.proofs.answer_of_date.Tie as tie
-use Rattle.answers.proofs.answer_of_date.Reads as reads
-use Rattle.answers.proofs.answer_of_date.Lts as lts
-use Rattle.answers.proofs.answer_date.Reads as answer-date-reads
+use Rattle.founds.proofs.answer_of_date.Statement.{statement}
+use Rattle.founds.proofs.answer_of_date.Tie as tie
+use Rattle.founds.proofs.answer_of_date.Reads as reads
+use Rattle.founds.proofs.answer_of_date.Lts as lts
+use Rattle.founds.proofs.answer_date.Reads as answer-date-reads
 use Rattle.rule.proofs.leap_mark.Reads as leap-mark-reads
 use Rattle.rule.proofs.number_of.Reads as number-of-reads
 
