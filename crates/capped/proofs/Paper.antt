@@ -1,5 +1,5 @@
 -- The statements of specs/Paper, proved, each under its own name. Assumes nothing.
-use Prim.Native.Nat.{ℕ, suc, _+_, _≤_, _<_, min}
+use Prim.Native.Nat.{ℕ, suc, _+_, _-_, _≤_, _<_, min}
 use native.Mathlib.Omega.{arith}
 use native.Mathlib.Decide.{decLe}
 use mathlib.Core.Path.{_≡_, refl, ap, ap₂, sym, _∙_}
@@ -92,13 +92,15 @@ far-lands d (pos n) h = go (decLe n 4294967295)
         ap (λ (i : ℕ). landed (pos (d + i))) (cut n (omega (arith, g)))
         ∙ lands-out (d + 4294967295) (omega arith)
         ∙ sym (lands-out (d + n) (omega (arith, g)))
-far-lands d (negsuc n) h = go (decLe n 4294967295)
+far-lands d (negsuc n) h = go (decLe (suc n) 4294967295)
   where
-    go : Dec (n ≤ 4294967295) → landed (pos d +ℤ negsuc (capped n)) ≡ landed (pos d +ℤ negsuc n)
-    go (yes s) = ap (λ (i : ℕ). landed (pos d +ℤ negsuc i)) (uncut n s)
+    go : Dec (suc n ≤ 4294967295) → landed (pos d +ℤ negsuc (capped (suc n) - 1)) ≡ landed (pos d +ℤ negsuc n)
+    go (yes s) =
+        ap (λ (i : ℕ). landed (pos d +ℤ negsuc (i - 1))) (uncut (suc n) s)
+        ∙ ap (λ (i : ℕ). landed (pos d +ℤ negsuc i)) {x = suc n - 1} {y = n} (omega arith)
     go (no g) =
-        ap (λ (i : ℕ). landed (pos d +ℤ negsuc i)) (cut n (omega (arith, g)))
-        ∙ back-out d 4294967295 (omega arith)
+        ap (λ (i : ℕ). landed (pos d +ℤ negsuc (i - 1))) (cut (suc n) (omega (arith, g)))
+        ∙ back-out d 4294967294 (omega arith)
         ∙ sym (back-out d n (omega (arith, g)))
 
 far-capped : (y k : ℕ) (l : Bool) (m : ℕ) (n : ℤ) → moved y k l m (cappedMove n) ≡ moved y k l m n

@@ -1,5 +1,5 @@
 -- "A number too large for its type is out of range": a number, a move and a reading cut down to 32 bits. Assumes nothing.
-use Prim.Native.Nat.{ℕ, min}
+use Prim.Native.Nat.{ℕ, suc, _-_, min}
 use lib.IntN.{ℤ, pos, negsuc}
 use Rattle.reading.specs.declared.Field.{Field}
 use Rattle.reading.specs.declared.Field.the-variants.{Known, Unread}
@@ -9,10 +9,10 @@ use Rattle.reading.specs.declared.Reading.{Reading}
 abbrev pub capped : ℕ → ℕ
 capped n = min n 4294967295
 
--- a move, so far at most on or back
+-- a move, so many days at most on or back
 abbrev pub cappedMove : ℤ → ℤ
 cappedMove (pos n) = pos (capped n)
-cappedMove (negsuc n) = negsuc (capped n)
+cappedMove (negsuc n) = negsuc (capped (suc n) - 1)
 
 abbrev pub cappedField : Field → Field
 cappedField (Known n) = Known (capped n)
