@@ -1,0 +1,62 @@
+//! Lent memory with canary values: a list between two guards, so that a place changed in or beside the list is seen.
+
+use crate::random::Random;
+use std::fmt;
+
+/// How many places stand guard on each side of a lent list.
+const GUARD: usize = 8;
+
+/// A list to lend.
+#[derive(Clone, PartialEq)]
+pub struct Lent<T>(Vec<T>);
+
+impl<T: Canary> Lent<T> {
+    /// A list of so many places, each with a canary value, as are its guards.
+    pub fn new(places: usize, random: &mut Random) -> Lent<T> {
+        let start = random.next();
+        let canary = |place: usize| T::canary(start.wrapping_add(place as u64 * 0x9E37_79B1));
+        Lent((0..places + 2 * GUARD).map(canary).collect())
+    }
+
+    /// The list without its guards.
+    pub fn lend(&mut self) -> &mut [T] {
+        let end = self.0.len() - GUARD;
+        &mut self.0[GUARD..end]
+    }
+}
+
+impl<T: fmt::Debug> fmt::Debug for Lent<T> {
+    fn fmt(&self, f: &mut fmt::Formatter<'_>) -> fmt::Result {
+        let shown = &self.0[..self.0.len().min(40)];
+        write!(
+            f,
+            "{} places lent, guards and front {shown:?}",
+            self.0.len() - 2 * GUARD
+        )
+    }
+}
+
+/// A kind of number that lent lists hold.
+pub trait Canary: Copy {
+    /// A canary value out of a number.
+    fn canary(number: u64) -> Self;
+}
+
+impl Canary for u8 {
+    fn canary(number: u64) -> u8 {
+        // Bytes above 127 stand in no printed line.
+        (number >> 5) as u8 | 0x80
+    }
+}
+
+impl Canary for u16 {
+    fn canary(number: u64) -> u16 {
+        (number >> 3) as u16
+    }
+}
+
+impl Canary for u32 {
+    fn canary(number: u64) -> u32 {
+        number as u32
+    }
+}

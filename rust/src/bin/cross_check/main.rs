@@ -1,0 +1,158 @@
+//! The cross-check: asks capi and the independent implementation the same, and compares whole answers and whole lent memory.
+//! It prints a table and ends with a non-zero status at any difference.
+
+mod dates;
+mod facts;
+mod lent;
+mod lines;
+mod random;
+mod searches;
+mod sheets;
+mod tally;
+
+use std::panic::{catch_unwind, AssertUnwindSafe};
+use std::process::ExitCode;
+use std::sync::atomic::{AtomicUsize, Ordering};
+use std::sync::Mutex;
+use std::thread;
+use std::time::Instant;
+use tally::{Row, Tally};
+
+/// Years, months and days in range.
+const YEARS: u64 = 41_040;
+const MONTHS: u64 = 507_600;
+const DAYS: u64 = 14_989_860;
+
+/// What all random numbers are drawn from; each row adds its own number.
+const SEED: u64 = 0x0085_0E57_E240_0000;
+
+fn main() -> ExitCode {
+    println!("Cross-check of capi with the independent implementation; seed {SEED:#x}");
+    let start = Instant::now();
+    let rows = all_rows();
+    let tallies = run(&rows);
+    let total = print_table(&rows, &tallies);
+    println!("{:.1} s", start.elapsed().as_secs_f64());
+    verdict(&rows, &tallies, &total)
+}
+
+/// The rows of the table.
+fn all_rows() -> Vec<Row> {
+    let mut rows = dates::rows(SEED + 10);
+    rows.extend(facts::rows(SEED + 20));
+    rows.extend(searches::rows(SEED + 30));
+    rows.extend(sheets::rows(SEED + 40));
+    rows.extend(lines::rows(SEED + 50));
+    rows
+}
+
+/// Runs every piece of every row, on as many threads as the machine has cores; gives the rows' tallies.
+fn run(rows: &[Row]) -> Vec<Tally> {
+    let pieces: Vec<(usize, usize)> = rows
+        .iter()
+        .enumerate()
+        .flat_map(|(row, r)| (0..r.pieces.len()).map(move |piece| (row, piece)))
+        .collect();
+    let next = AtomicUsize::new(0);
+    let done = Mutex::new(Vec::new());
+    let work = || {
+        while let Some(&(row, piece)) = pieces.get(next.fetch_add(1, Ordering::Relaxed)) {
+            let tally = run_piece(&rows[row], piece);
+            done.lock()
+                .expect("no thread stops while it holds the list")
+                .push((row, piece, tally));
+        }
+    };
+    let threads = thread::available_parallelism().map_or(1, usize::from);
+    thread::scope(|scope| (0..threads).for_each(|_| drop(scope.spawn(work))));
+    gather(
+        rows.len(),
+        done.into_inner().expect("every thread has ended"),
+    )
+}
+
+/// Runs one piece; a panic in it counts as a difference.
+fn run_piece(row: &Row, piece: usize) -> Tally {
+    let mut tally = Tally::default();
+    let outcome = catch_unwind(AssertUnwindSafe(|| row.pieces[piece](&mut tally)));
+    if outcome.is_err() {
+        tally.stopped();
+    }
+    tally
+}
+
+/// Adds up the pieces of each row, in their order, so that every run prints the same.
+fn gather(rows: usize, mut done: Vec<(usize, usize, Tally)>) -> Vec<Tally> {
+    done.sort_by_key(|&(row, piece, _)| (row, piece));
+    let mut tallies: Vec<Tally> = (0..rows).map(|_| Tally::default()).collect();
+    for (row, _, tally) in done {
+        tallies[row].add(tally);
+    }
+    tallies
+}
+
+/// Prints the table, how often each reason was met, and the total; gives the total.
+fn print_table(rows: &[Row], tallies: &[Tally]) -> Tally {
+    let mut total = Tally::default();
+    println!(
+        "{:<52}{:>12}{:>12}{:>12}{:>12}",
+        "what", "compared", "equal", "answered", "refused"
+    );
+    for (row, tally) in rows.iter().zip(tallies) {
+        print_row(row.what, tally);
+        total.compared += tally.compared;
+        total.equal += tally.equal;
+        total
+            .met
+            .iter_mut()
+            .zip(tally.met)
+            .for_each(|(here, there)| *here += there);
+    }
+    print_row("total", &total);
+    let met = (1..=15).map(|reason| format!("{reason}: {}", total.met[reason]));
+    println!("reasons met  {}", met.collect::<Vec<_>>().join("  "));
+    total
+}
+
+fn print_row(what: &str, tally: &Tally) {
+    let Tally {
+        compared,
+        equal,
+        met,
+        ..
+    } = tally;
+    println!(
+        "{what:<52}{compared:>12}{equal:>12}{:>12}{:>12}",
+        met[0],
+        met[1..].iter().sum::<u64>()
+    );
+}
+
+/// Prints the first differences of each row and the last line; a reason that was never met is a fault of the cross-check.
+fn verdict(rows: &[Row], tallies: &[Tally], total: &Tally) -> ExitCode {
+    for (row, tally) in rows
+        .iter()
+        .zip(tallies)
+        .filter(|(_, tally)| tally.different() > 0)
+    {
+        println!("\n{}: {} differ; the first:", row.what, tally.different());
+        tally
+            .first
+            .iter()
+            .for_each(|difference| println!("    {difference}"));
+    }
+    if let Some(never) = (1..=15).find(|&reason| total.met[reason] == 0) {
+        println!("\nFAILED: reason {never} was never met");
+        return ExitCode::FAILURE;
+    }
+    if total.different() > 0 {
+        println!(
+            "\nFAILED: {} of {} differ",
+            total.different(),
+            total.compared
+        );
+        return ExitCode::FAILURE;
+    }
+    println!("TOTAL: {} compared, all equal", total.compared);
+    ExitCode::SUCCESS
+}

@@ -1,0 +1,537 @@
+//! An independent implementation of the same calls, written from the paper alone and not from the proved code: the cross-check's
+//! other side and the benchmark's. It is plain Rust with floor divisions; it calls nothing of capi.
+
+use crate::types::*;
+
+/// Years in range, one origin-and-eclipse cycle.
+const YEARS: u64 = 41_040;
+
+/// Months in range.
+const MONTHS: u64 = 507_600;
+
+/// Days in range.
+const DAYS: u64 = 14_989_860;
+
+/// The longest window of a search, in days.
+const WINDOW: u64 = 27_759;
+
+/// The most items that a section of a sheet may have.
+const ITEMS: usize = 1_000;
+
+// The rule, over counts that are in range.
+
+/// The name of a day, 1 to 60; day 0 has name 1.
+fn day_name(day: u64) -> u32 {
+    (day % 60 + 1) as u32
+}
+
+/// The name of a year, 1 to 60; year 1 has name 17.
+fn year_name(year: u64) -> u32 {
+    ((year - 1 + 16) % 60 + 1) as u32
+}
+
+/// The day on which month n starts.
+fn month_start(n: u64) -> u64 {
+    27_759 * n / 940
+}
+
+/// How many days month n has.
+fn month_length(n: u64) -> u64 {
+    month_start(n + 1) - month_start(n)
+}
+
+/// The month that a day lies in: the last n with 27,759 × n / 940 below day + 1.
+fn month_of_day(day: u64) -> u64 {
+    (940 * (day + 1) - 1) / 27_759
+}
+
+/// The day of a term, counted from the origin.
+fn term_day(term: u64) -> u64 {
+    487 * term / 32
+}
+
+/// The month count that a year begins with.
+fn first_month(year: u64) -> u64 {
+    235 * (year - 1) / 19
+}
+
+/// The leap remainder of a year.
+fn leap_remainder(year: u64) -> u64 {
+    235 * (year - 1) % 19
+}
+
+/// How many months a year has.
+fn months_of_year(year: u64) -> u64 {
+    if leap_remainder(year) >= 12 {
+        13
+    } else {
+        12
+    }
+}
+
+/// The year that a month lies in: the last with 235 × (year − 1) / 19 below n + 1.
+fn year_of_month(n: u64) -> u64 {
+    (19 * (n + 1) - 1) / 235 + 1
+}
+
+/// The mid-term that falls on a day of month n, if any, counted from the origin in mid-terms. Mid-term m is term 2m, and the
+/// first on or after a day is the least m with 487 × 2m / 32 at or above it.
+fn mid_term_of_month(n: u64) -> Option<u64> {
+    let m = (16 * month_start(n)).div_ceil(487);
+    (term_day(2 * m) < month_start(n + 1)).then_some(m)
+}
+
+/// The number of the month that holds mid-term m: 11, 12, 1 to 10.
+fn number_of_mid_term(m: u64) -> u32 {
+    ((m + 10) % 12 + 1) as u32
+}
+
+/// The place of a month number in its year, month 11 having place 0: the inverse of the above.
+fn place_of_number(number: u64) -> u64 {
+    (number + 1) % 12
+}
+
+/// Month n's number; a leap month bears that of the month before it.
+fn month_number(n: u64) -> u32 {
+    match mid_term_of_month(n) {
+        Some(m) => number_of_mid_term(m),
+        None => month_number(n - 1),
+    }
+}
+
+/// Whether month n is leap: no mid-term falls on any of its days.
+fn is_leap(n: u64) -> bool {
+    mid_term_of_month(n).is_none()
+}
+
+/// Month n as a date holds it.
+fn month_held(n: u64) -> Month {
+    Month::new(month_number(n), is_leap(n))
+}
+
+/// Whether month n is an eclipse month.
+fn is_eclipse(n: u64) -> bool {
+    23 * (n + 1) % 135 < 23
+}
+
+// The ranges.
+
+/// Refuses for a reason where a condition does not hold.
+fn ensure(holds: bool, reason: Reason) -> Result<(), Reason> {
+    if holds {
+        Ok(())
+    } else {
+        Err(reason)
+    }
+}
+
+/// Reason 1.
+fn check_year(year: u64) -> Result<(), Reason> {
+    ensure((1..=YEARS).contains(&year), Reason::Year)
+}
+
+/// Reason 7.
+fn check_month(n: u64) -> Result<(), Reason> {
+    ensure(n < MONTHS, Reason::MonthCount)
+}
+
+/// Reason 6.
+fn check_day(day: u64) -> Result<(), Reason> {
+    ensure(day < DAYS, Reason::DayCount)
+}
+
+// Dates and moves.
+
+/// The date of a day that is in range.
+fn date_at(day: u64) -> Date {
+    let n = month_of_day(day);
+    let year = year_of_month(n);
+    Date {
+        year: year as u32,
+        month: month_held(n),
+        day_of_month: (day - month_start(n) + 1) as u32,
+        month_length: month_length(n) as u32,
+        day_name: day_name(day),
+        year_name: year_name(year),
+    }
+}
+
+/// As [`crate::date_of_day`].
+pub fn date_of_day(day: u64) -> Result<Date, Reason> {
+    check_day(day)?;
+    Ok(date_at(day))
+}
+
+/// The month of a year by number: the one that holds the number's mid-term, or the leap month after it.
+fn month_of_number(year: u64, number: u64, leap: bool) -> Result<u64, Reason> {
+    let m = 12 * (year - 1) + place_of_number(number);
+    let ordinary = month_of_day(term_day(2 * m));
+    if !leap {
+        return Ok(ordinary);
+    }
+    ensure(is_leap(ordinary + 1), Reason::NoSuchLeap)?;
+    Ok(ordinary + 1)
+}
+
+/// As [`crate::day_of_date`].
+pub fn day_of_date(asked: Asked) -> Result<u32, Reason> {
+    check_year(asked.year)?;
+    ensure((1..=12).contains(&asked.number), Reason::MonthNumber)?;
+    ensure((1..=30).contains(&asked.day_of_month), Reason::DayOfMonth)?;
+    let n = month_of_number(asked.year, asked.number, asked.leap)?;
+    ensure(asked.day_of_month <= month_length(n), Reason::NoDayThirty)?;
+    Ok((month_start(n) + asked.day_of_month - 1) as u32)
+}
+
+/// As [`crate::move_date`].
+pub fn move_date(asked: Asked, days: i64) -> Result<Date, Reason> {
+    let day = day_of_date(asked)?;
+    let ends = i128::from(day) + i128::from(days);
+    match u64::try_from(ends) {
+        Ok(end) if end < DAYS => Ok(date_at(end)),
+        _ => Err(Reason::MoveEnds),
+    }
+}
+
+// Years, months, quarters and terms.
+
+/// As [`crate::solstice_year`].
+pub fn solstice_year(year: u64) -> Result<SolsticeYear, Reason> {
+    check_year(year)?;
+    let elapsed = year - 1;
+    let head_year = elapsed - elapsed % 76 + 1;
+    Ok(SolsticeYear {
+        ji: (elapsed % 4_560 / 1_520 + 1) as u32,
+        bu: (elapsed % 1_520 / 76 + 1) as u32,
+        year_in_bu: (elapsed % 76 + 1) as u32,
+        head_name: day_name(month_start(first_month(head_year))),
+        first_month: first_month(year) as u32,
+        leap_remainder: leap_remainder(year) as u32,
+        months: months_of_year(year) as u32,
+    })
+}
+
+/// As [`crate::year_facts`].
+pub fn year_facts(year: u64) -> Result<YearFacts, Reason> {
+    check_year(year)?;
+    let first = first_month(year);
+    let months = months_of_year(year);
+    let leap = (first..first + months).find(|&n| is_leap(n));
+    Ok(YearFacts {
+        name: year_name(year),
+        first_month: first as u32,
+        months: months as u32,
+        leap: leap.map(|n| LeapMonth {
+            number: month_number(n),
+            month: n as u32,
+        }),
+    })
+}
+
+/// As [`crate::month_facts`].
+pub fn month_facts(month: u64) -> Result<MonthFacts, Reason> {
+    check_month(month)?;
+    Ok(MonthFacts {
+        month: month_held(month),
+        first_day: month_start(month) as u32,
+        small_remainder: (27_759 * month % 940) as u32,
+        month_length: month_length(month) as u32,
+        first_name: day_name(month_start(month)),
+        eclipse: is_eclipse(month),
+    })
+}
+
+/// As [`crate::quarter`].
+pub fn quarter(month: u64, quarter: u64) -> Result<Quarter, Reason> {
+    check_month(month)?;
+    ensure(quarter <= 3, Reason::TermOrQuarter)?;
+    let parts = 27_759 * (4 * month + quarter);
+    Ok(Quarter {
+        day: (parts / 3_760) as u32,
+        parts: (parts % 3_760) as u32,
+    })
+}
+
+/// As [`crate::term`].
+pub fn term(year: u64, term: u64) -> Result<u32, Reason> {
+    check_year(year)?;
+    ensure(term <= 23, Reason::TermOrQuarter)?;
+    Ok(term_day(24 * (year - 1) + term) as u32)
+}
+
+// Searches.
+
+/// Whether an unread field, or one that has this value.
+fn fits(field: Option<u64>, value: u32) -> bool {
+    field.is_none_or(|known| known == u64::from(value))
+}
+
+/// Whether a leap mark is unread or says what the month is.
+fn mark_fits(mark: Option<u64>, month: Month) -> bool {
+    mark.is_none_or(|known| (known == LEAP) == month.is_leap())
+}
+
+/// Whether a day fits a reading whose known fields are in their ranges.
+fn day_fits(reading: &Reading, day: u64) -> bool {
+    let date = date_at(day);
+    let first_day = day - u64::from(date.day_of_month - 1);
+    fits(reading.year_name, date.year_name)
+        && fits(reading.month_number, date.month.number())
+        && mark_fits(reading.leap_mark, date.month)
+        && fits(reading.day_of_month, date.day_of_month)
+        && fits(reading.day_name, date.day_name)
+        && fits(reading.first_name, day_name(first_day))
+}
+
+/// Reason 14, field by field.
+fn check_reading(reading: &Reading) -> Result<(), Reason> {
+    let fields = [
+        (reading.year_name, 60),
+        (reading.month_number, 12),
+        (reading.leap_mark, 2),
+        (reading.day_of_month, 30),
+        (reading.day_name, 60),
+        (reading.first_name, 60),
+    ];
+    for (field, greatest) in fields {
+        ensure(
+            field.is_none_or(|known| (1..=greatest).contains(&known)),
+            Reason::Field,
+        )?;
+    }
+    Ok(())
+}
+
+/// A search's reasons before 12, in their order.
+fn check_search(reading: &Reading, first: u64, last: u64) -> Result<(), Reason> {
+    check_day(first)?;
+    check_day(last)?;
+    ensure(first <= last && last - first < WINDOW, Reason::Window)?;
+    check_reading(reading)
+}
+
+/// Hands the days that were found to a lent list, or refuses with 12 and their number.
+fn hand_days(found: &[u32], out: &mut [u32]) -> Result<u32, SearchRefused> {
+    let total = found.len() as u32;
+    match out.get_mut(..found.len()) {
+        Some(front) => {
+            front.copy_from_slice(found);
+            Ok(total)
+        }
+        None => Err(SearchRefused {
+            reason: Reason::LentTooShort,
+            total: Some(total),
+        }),
+    }
+}
+
+/// As [`crate::search`]: the paper's words, a day at a time.
+pub fn search(
+    reading: &Reading,
+    first: u64,
+    last: u64,
+    out: &mut [u32],
+) -> Result<u32, SearchRefused> {
+    check_search(reading, first, last).map_err(|reason| SearchRefused {
+        reason,
+        total: None,
+    })?;
+    let found: Vec<u32> = (first..=last)
+        .filter(|&day| day_fits(reading, day))
+        .map(|day| day as u32)
+        .collect();
+    hand_days(&found, out)
+}
+
+/// As [`search`], but what belongs to a month is worked out once a month: what one writes where the time counts.
+pub fn search_by_months(
+    reading: &Reading,
+    first: u64,
+    last: u64,
+    out: &mut [u32],
+) -> Result<u32, SearchRefused> {
+    check_search(reading, first, last).map_err(|reason| SearchRefused {
+        reason,
+        total: None,
+    })?;
+    let mut found = Vec::new();
+    for n in month_of_day(first)..=month_of_day(last) {
+        if month_fits(reading, n) {
+            let start = month_start(n);
+            let days = first.max(start)..=last.min(month_start(n + 1) - 1);
+            let fitting = days.filter(|&day| {
+                fits(reading.day_of_month, (day - start + 1) as u32)
+                    && fits(reading.day_name, day_name(day))
+            });
+            found.extend(fitting.map(|day| day as u32));
+        }
+    }
+    hand_days(&found, out)
+}
+
+/// Whether month n fits those fields of a reading that are its own.
+fn month_fits(reading: &Reading, n: u64) -> bool {
+    let month = month_held(n);
+    fits(reading.year_name, year_name(year_of_month(n)))
+        && fits(reading.month_number, month.number())
+        && mark_fits(reading.leap_mark, month)
+        && fits(reading.first_name, day_name(month_start(n)))
+}
+
+// Sheets.
+
+/// Takes a number of so many bytes, least byte first, from the front of what is left of a sheet. Reason 9.
+fn take_number(rest: &mut &[u8], bytes: usize) -> Result<u32, Reason> {
+    let (number, after) = rest.split_at_checked(bytes).ok_or(Reason::SheetEnds)?;
+    *rest = after;
+    Ok(number
+        .iter()
+        .rev()
+        .fold(0, |high, &byte| high << 8 | u32::from(byte)))
+}
+
+/// Takes a section: its count and its items of so many bytes each, each checked.
+fn take_section(
+    rest: &mut &[u8],
+    bytes: usize,
+    check: fn(u64) -> Result<(), Reason>,
+) -> Result<Vec<u32>, Reason> {
+    let count = take_number(rest, 2)? as usize;
+    ensure(count <= ITEMS, Reason::CountAbove)?;
+    let mut items = Vec::with_capacity(count);
+    for _ in 0..count {
+        let item = take_number(rest, bytes)?;
+        check(item.into())?;
+        items.push(item);
+    }
+    Ok(items)
+}
+
+/// As [`crate::read_sheet`].
+pub fn read_sheet(
+    bytes: &[u8],
+    years: &mut [u16],
+    months: &mut [u32],
+    days: &mut [u32],
+) -> Result<SheetCounts, Reason> {
+    let mut rest = bytes;
+    let year_items = take_section(&mut rest, 2, check_year)?;
+    let month_items = take_section(&mut rest, 4, check_month)?;
+    let day_items = take_section(&mut rest, 4, check_day)?;
+    ensure(rest.is_empty(), Reason::BytesAfter)?;
+    let room = year_items.len() <= years.len()
+        && month_items.len() <= months.len()
+        && day_items.len() <= days.len();
+    ensure(room, Reason::LentTooShort)?;
+    for (place, &year) in years.iter_mut().zip(&year_items) {
+        *place = year as u16;
+    }
+    months[..month_items.len()].copy_from_slice(&month_items);
+    days[..day_items.len()].copy_from_slice(&day_items);
+    Ok(SheetCounts {
+        years: year_items.len(),
+        months: month_items.len(),
+        days: day_items.len(),
+    })
+}
+
+/// Reason 10 of a section, then its items' own reason.
+fn check_section(
+    items: impl ExactSizeIterator<Item = u64>,
+    check: fn(u64) -> Result<(), Reason>,
+) -> Result<(), Reason> {
+    ensure(items.len() <= ITEMS, Reason::CountAbove)?;
+    for item in items {
+        check(item)?;
+    }
+    Ok(())
+}
+
+/// As [`crate::write_sheet`].
+pub fn write_sheet(
+    years: &[u16],
+    months: &[u32],
+    days: &[u32],
+    out: &mut [u8],
+) -> Result<usize, Reason> {
+    check_section(years.iter().map(|&year| year.into()), check_year)?;
+    check_section(months.iter().map(|&month| month.into()), check_month)?;
+    check_section(days.iter().map(|&day| day.into()), check_day)?;
+    let mut sheet = Vec::with_capacity(6 + 2 * years.len() + 4 * (months.len() + days.len()));
+    sheet.extend((years.len() as u16).to_le_bytes());
+    sheet.extend(years.iter().flat_map(|year| year.to_le_bytes()));
+    sheet.extend((months.len() as u16).to_le_bytes());
+    sheet.extend(months.iter().flat_map(|month| month.to_le_bytes()));
+    sheet.extend((days.len() as u16).to_le_bytes());
+    sheet.extend(days.iter().flat_map(|day| day.to_le_bytes()));
+    hand_bytes(&sheet, out)
+}
+
+// Printed lines. 01 gives their form; that a year's block ends after its last month's line, and that a month's line alone is a
+// call, is docs/CALLS.md's.
+
+/// Hands bytes to a lent buffer, or refuses with 12.
+fn hand_bytes(bytes: &[u8], out: &mut [u8]) -> Result<usize, Reason> {
+    let front = out.get_mut(..bytes.len()).ok_or(Reason::LentTooShort)?;
+    front.copy_from_slice(bytes);
+    Ok(bytes.len())
+}
+
+/// A letter where its mark is there, else `-`.
+fn mark(letter: char, there: bool) -> char {
+    if there {
+        letter
+    } else {
+        '-'
+    }
+}
+
+/// The line of a month that is in range.
+fn month_line(n: u64) -> String {
+    format!(
+        "{n} {} {} {} {} {}\n",
+        month_number(n),
+        mark('L', is_leap(n)),
+        day_name(month_start(n)),
+        month_length(n),
+        mark('E', is_eclipse(n))
+    )
+}
+
+/// As [`crate::print_year`].
+pub fn print_year(year: u64, out: &mut [u8]) -> Result<usize, Reason> {
+    check_year(year)?;
+    let (first, months) = (first_month(year), months_of_year(year));
+    let mut text = format!("YEAR {year} NAME {} MONTHS {months}\n", year_name(year));
+    for n in first..first + months {
+        text.push_str(&month_line(n));
+    }
+    hand_bytes(text.as_bytes(), out)
+}
+
+/// As [`crate::print_month_line`].
+pub fn print_month_line(month: u64, out: &mut [u8]) -> Result<usize, Reason> {
+    check_month(month)?;
+    hand_bytes(month_line(month).as_bytes(), out)
+}
+
+/// As [`crate::print_month`].
+pub fn print_month(month: u64, out: &mut [u8]) -> Result<usize, Reason> {
+    check_month(month)?;
+    hand_bytes(format!("MONTH {}", month_line(month)).as_bytes(), out)
+}
+
+/// As [`crate::print_day`].
+pub fn print_day(day: u64, out: &mut [u8]) -> Result<usize, Reason> {
+    check_day(day)?;
+    let date = date_at(day);
+    let line = format!(
+        "DAY {day} {} {} {} {} {}\n",
+        date.year,
+        date.month.number(),
+        mark('L', date.month.is_leap()),
+        date.day_of_month,
+        date.day_name
+    );
+    hand_bytes(line.as_bytes(), out)
+}

@@ -1,0 +1,229 @@
+//! Dates under the Quarter-Remainder calendar of the Later Han: a safe wrapper over `capi`, the proved static library.
+//!
+//! Every call ends for every input. A refused call gives the paper's [`Reason`] and changes nothing in the memory lent to it.
+//! Counts start at the upper origin; names are numbers 1 to 60.
+//!
+//! ```
+//! use oesterwrok::{day_of_date, date_of_day, Asked, Month, Reason};
+//! let date = date_of_day(29).unwrap();
+//! assert_eq!((date.year, date.month, date.day_of_month), (1, Month::Ordinary(12), 1));
+//! let leap_nine = Asked { year: 11, number: 9, leap: true, day_of_month: 30 };
+//! assert_eq!(day_of_date(leap_nine), Err(Reason::NoDayThirty));
+//! ```
+#![deny(unsafe_code)]
+#![warn(missing_docs)]
+
+mod ffi;
+pub mod independent;
+mod types;
+
+use ffi::Told;
+pub use types::*;
+
+/// The date of a day. Reason 6.
+#[inline]
+pub fn date_of_day(day: u64) -> Result<Date, Reason> {
+    ffi::oes_date_of_day(day).told().map(date)
+}
+
+/// The day of a date. Reasons 1, 2, 3, 4, 5.
+#[inline]
+pub fn day_of_date(asked: Asked) -> Result<u32, Reason> {
+    let Asked {
+        year,
+        number,
+        leap,
+        day_of_month,
+    } = asked;
+    let answer = ffi::oes_day_of_date(year, number, leap, day_of_month);
+    Ok(answer.told()?.day)
+}
+
+/// The date so many days later, or earlier where `days` is negative. Reasons 1, 2, 3, 4, 5, 8.
+#[inline]
+pub fn move_date(asked: Asked, days: i64) -> Result<Date, Reason> {
+    let Asked {
+        year,
+        number,
+        leap,
+        day_of_month,
+    } = asked;
+    let answer = ffi::oes_move_date(year, number, leap, day_of_month, days);
+    answer.told().map(date)
+}
+
+/// A year's place in ji and bu, its first month, its leap remainder and how many months it has. Reason 1.
+#[inline]
+pub fn solstice_year(year: u64) -> Result<SolsticeYear, Reason> {
+    let c = ffi::oes_solstice_year(year).told()?;
+    Ok(SolsticeYear {
+        ji: c.ji,
+        bu: c.bu,
+        year_in_bu: c.year_in_bu,
+        head_name: c.head_name,
+        first_month: c.first_month,
+        leap_remainder: c.leap_remainder,
+        months: c.months,
+    })
+}
+
+/// A year's name, its months and its leap month. Reason 1.
+#[inline]
+pub fn year_facts(year: u64) -> Result<YearFacts, Reason> {
+    let c = ffi::oes_year_facts(year).told()?;
+    let leap = LeapMonth {
+        number: c.leap_number,
+        month: c.leap_month,
+    };
+    assert!(
+        c.has_leap
+            || leap
+                == LeapMonth {
+                    number: 0,
+                    month: 0
+                },
+        "capi gave a year with no leap month {leap:?}"
+    );
+    Ok(YearFacts {
+        name: c.name,
+        first_month: c.first_month,
+        months: c.months,
+        leap: c.has_leap.then_some(leap),
+    })
+}
+
+/// The facts of a month by its count. Reason 7.
+#[inline]
+pub fn month_facts(month: u64) -> Result<MonthFacts, Reason> {
+    let c = ffi::oes_month_facts(month).told()?;
+    Ok(MonthFacts {
+        month: Month::new(c.number, c.leap),
+        first_day: c.first_day,
+        small_remainder: c.small_remainder,
+        month_length: c.month_length,
+        first_name: c.first_name,
+        eclipse: c.eclipse,
+    })
+}
+
+/// A quarter of a month: 0 new, 1 first, 2 full, 3 last. Reasons 7, 15.
+#[inline]
+pub fn quarter(month: u64, quarter: u64) -> Result<Quarter, Reason> {
+    let c = ffi::oes_quarter(month, quarter).told()?;
+    Ok(Quarter {
+        day: c.day,
+        parts: c.parts,
+    })
+}
+
+/// The day of a year's term, 0 (the solstice) to 23. Reasons 1, 15.
+#[inline]
+pub fn term(year: u64, term: u64) -> Result<u32, Reason> {
+    Ok(ffi::oes_term(year, term).told()?.day)
+}
+
+/// Every day from `first` to `last` that fits the reading, in rising order at the front of `out`, and how many there are; the
+/// rest of `out` is untouched. Reasons 6, 13, 14, 12; with 12 comes the true total.
+#[inline]
+pub fn search(
+    reading: &Reading,
+    first: u64,
+    last: u64,
+    out: &mut [u32],
+) -> Result<u32, SearchRefused> {
+    let found = ffi::search(c_reading(reading), first, last, out);
+    if found.reason == Reason::LentTooShort.number() {
+        return Err(SearchRefused {
+            reason: Reason::LentTooShort,
+            total: Some(found.total),
+        });
+    }
+    let told = found.told().map_err(|reason| SearchRefused {
+        reason,
+        total: None,
+    });
+    Ok(told?.total)
+}
+
+/// Reads a sheet into three lent lists; places beyond what it fills are untouched. Reasons 9, 10, 1, 7, 6, 11, 12.
+#[inline]
+pub fn read_sheet(
+    bytes: &[u8],
+    years: &mut [u16],
+    months: &mut [u32],
+    days: &mut [u32],
+) -> Result<SheetCounts, Reason> {
+    let c = ffi::read_sheet(bytes, years, months, days).told()?;
+    Ok(SheetCounts {
+        years: c.years,
+        months: c.months,
+        days: c.days,
+    })
+}
+
+/// Writes the sheet of three whole lists to the front of `out` and gives its number of bytes. Reasons 10, 1, 7, 6, 12.
+#[inline]
+pub fn write_sheet(
+    years: &[u16],
+    months: &[u32],
+    days: &[u32],
+    out: &mut [u8],
+) -> Result<usize, Reason> {
+    Ok(ffi::write_sheet(years, months, days, out).told()?.length)
+}
+
+/// Prints a year's header and its months' lines to the front of `out` and gives the number of bytes. Reasons 1, 12.
+#[inline]
+pub fn print_year(year: u64, out: &mut [u8]) -> Result<usize, Reason> {
+    Ok(ffi::print_year(year, out).told()?.length)
+}
+
+/// Prints a month's line, as it stands under its year's header. Reasons 7, 12.
+#[inline]
+pub fn print_month_line(month: u64, out: &mut [u8]) -> Result<usize, Reason> {
+    Ok(ffi::print_month_line(month, out).told()?.length)
+}
+
+/// Prints `MONTH` and a month's line. Reasons 7, 12.
+#[inline]
+pub fn print_month(month: u64, out: &mut [u8]) -> Result<usize, Reason> {
+    Ok(ffi::print_month(month, out).told()?.length)
+}
+
+/// Prints a day's `DAY` line. Reasons 6, 12.
+#[inline]
+pub fn print_day(day: u64, out: &mut [u8]) -> Result<usize, Reason> {
+    Ok(ffi::print_day(day, out).told()?.length)
+}
+
+/// The date in an answer of capi.
+#[inline]
+fn date(c: ffi::CDate) -> Date {
+    Date {
+        year: c.year,
+        month: Month::new(c.number, c.leap),
+        day_of_month: c.day_of_month,
+        month_length: c.month_length,
+        day_name: c.day_name,
+        year_name: c.year_name,
+    }
+}
+
+/// A reading as capi takes it; an unread field passes 0.
+#[inline]
+fn c_reading(reading: &Reading) -> ffi::CReading {
+    ffi::CReading {
+        year_name: reading.year_name.unwrap_or(0),
+        month_number: reading.month_number.unwrap_or(0),
+        leap_mark: reading.leap_mark.unwrap_or(0),
+        day_of_month: reading.day_of_month.unwrap_or(0),
+        day_name: reading.day_name.unwrap_or(0),
+        first_name: reading.first_name.unwrap_or(0),
+        year_name_known: reading.year_name.is_some(),
+        month_number_known: reading.month_number.is_some(),
+        leap_mark_known: reading.leap_mark.is_some(),
+        day_of_month_known: reading.day_of_month.is_some(),
+        day_name_known: reading.day_name.is_some(),
+        first_name_known: reading.first_name.is_some(),
+    }
+}

@@ -1,0 +1,274 @@
+//! What is asked and answered: plain values, shared by the wrapper and by the independent implementation.
+
+use std::fmt;
+
+/// Why a query comes back: the paper's fifteen reasons under their numbers.
+#[derive(Clone, Copy, Debug, PartialEq, Eq, Hash)]
+#[repr(u32)]
+pub enum Reason {
+    /// 1: year outside 1 to 41,040.
+    Year = 1,
+    /// 2: month number outside 1 to 12.
+    MonthNumber = 2,
+    /// 3: day of month outside 1 to 30.
+    DayOfMonth = 3,
+    /// 4: leap month asked and that year has none of that number.
+    NoSuchLeap = 4,
+    /// 5: day 30 of a 29-day month.
+    NoDayThirty = 5,
+    /// 6: day count outside the range.
+    DayCount = 6,
+    /// 7: month count outside the range.
+    MonthCount = 7,
+    /// 8: a move ends outside the range.
+    MoveEnds = 8,
+    /// 9: sheet ends before a count or an item is whole.
+    SheetEnds = 9,
+    /// 10: a count above 1,000.
+    CountAbove = 10,
+    /// 11: bytes after the last section.
+    BytesAfter = 11,
+    /// 12: a lent list or buffer too short for the whole answer.
+    LentTooShort = 12,
+    /// 13: window's last day before its first, or more than 27,759 days.
+    Window = 13,
+    /// 14: a known field of a reading outside its range.
+    Field = 14,
+    /// 15: term above 23 or quarter above 3.
+    TermOrQuarter = 15,
+}
+
+/// The reasons in the order of their numbers.
+const REASONS: [Reason; 15] = [
+    Reason::Year,
+    Reason::MonthNumber,
+    Reason::DayOfMonth,
+    Reason::NoSuchLeap,
+    Reason::NoDayThirty,
+    Reason::DayCount,
+    Reason::MonthCount,
+    Reason::MoveEnds,
+    Reason::SheetEnds,
+    Reason::CountAbove,
+    Reason::BytesAfter,
+    Reason::LentTooShort,
+    Reason::Window,
+    Reason::Field,
+    Reason::TermOrQuarter,
+];
+
+impl Reason {
+    /// The paper's number, 1 to 15.
+    pub fn number(self) -> u32 {
+        self as u32
+    }
+
+    /// The reason of a number, where there is one.
+    pub fn from_number(number: u32) -> Option<Reason> {
+        let place = (number as usize).checked_sub(1)?;
+        REASONS.get(place).copied()
+    }
+}
+
+impl fmt::Display for Reason {
+    fn fmt(&self, f: &mut fmt::Formatter<'_>) -> fmt::Result {
+        write!(f, "reason {}", self.number())
+    }
+}
+
+impl std::error::Error for Reason {}
+
+/// A date as it is asked for, by the paper's four things. Any numbers may be asked.
+#[derive(Clone, Copy, Debug, PartialEq, Eq)]
+pub struct Asked {
+    /// The year, counted from 1.
+    pub year: u64,
+    /// The month's number, 1 to 12.
+    pub number: u64,
+    /// Whether the leap month of that number is asked for.
+    pub leap: bool,
+    /// The day of the month, from 1.
+    pub day_of_month: u64,
+}
+
+/// A month as a date holds it: ordinary or leap, with its number.
+#[derive(Clone, Copy, Debug, PartialEq, Eq)]
+pub enum Month {
+    /// An ordinary month of this number.
+    Ordinary(u32),
+    /// The leap month of this number.
+    Leap(u32),
+}
+
+impl Month {
+    /// A month of a number, leap or not.
+    pub fn new(number: u32, leap: bool) -> Month {
+        if leap {
+            Month::Leap(number)
+        } else {
+            Month::Ordinary(number)
+        }
+    }
+
+    /// The month's number, 1 to 12.
+    pub fn number(self) -> u32 {
+        match self {
+            Month::Ordinary(number) | Month::Leap(number) => number,
+        }
+    }
+
+    /// Whether it is a leap month.
+    pub fn is_leap(self) -> bool {
+        matches!(self, Month::Leap(_))
+    }
+}
+
+/// A date of the calendar.
+#[derive(Clone, Copy, Debug, PartialEq, Eq)]
+pub struct Date {
+    /// The year, 1 to 41,040.
+    pub year: u32,
+    /// The month, ordinary or leap.
+    pub month: Month,
+    /// The day of the month, 1 to 30.
+    pub day_of_month: u32,
+    /// How many days its month has, 29 or 30.
+    pub month_length: u32,
+    /// The day's name, 1 to 60.
+    pub day_name: u32,
+    /// The year's name, 1 to 60.
+    pub year_name: u32,
+}
+
+impl Date {
+    /// The four things by which this date is asked for.
+    pub fn asked(&self) -> Asked {
+        Asked {
+            year: self.year.into(),
+            number: self.month.number().into(),
+            leap: self.month.is_leap(),
+            day_of_month: self.day_of_month.into(),
+        }
+    }
+}
+
+/// A solstice year: its place, its bu's head name and its months.
+#[derive(Clone, Copy, Debug, PartialEq, Eq)]
+pub struct SolsticeYear {
+    /// The ji of its yuan, 1 to 3.
+    pub ji: u32,
+    /// The bu of its ji, 1 to 20.
+    pub bu: u32,
+    /// The year in its bu, 1 to 76.
+    pub year_in_bu: u32,
+    /// The name of its bu's first day.
+    pub head_name: u32,
+    /// The month count that it begins with.
+    pub first_month: u32,
+    /// Its leap remainder, in nineteenths of a month.
+    pub leap_remainder: u32,
+    /// How many months it has, 12 or 13.
+    pub months: u32,
+}
+
+/// A year's own facts.
+#[derive(Clone, Copy, Debug, PartialEq, Eq)]
+pub struct YearFacts {
+    /// The year's name, 1 to 60.
+    pub name: u32,
+    /// The month count that it begins with.
+    pub first_month: u32,
+    /// How many months it has, 12 or 13.
+    pub months: u32,
+    /// Its leap month, where it has one.
+    pub leap: Option<LeapMonth>,
+}
+
+/// The leap month of a year.
+#[derive(Clone, Copy, Debug, PartialEq, Eq)]
+pub struct LeapMonth {
+    /// The number that it bears.
+    pub number: u32,
+    /// Its month count.
+    pub month: u32,
+}
+
+/// The facts of a month.
+#[derive(Clone, Copy, Debug, PartialEq, Eq)]
+pub struct MonthFacts {
+    /// Ordinary or leap, with its number.
+    pub month: Month,
+    /// The day on which it starts.
+    pub first_day: u32,
+    /// Its small remainder, in parts of 940.
+    pub small_remainder: u32,
+    /// How many days it has, 29 or 30.
+    pub month_length: u32,
+    /// The name of its first day.
+    pub first_name: u32,
+    /// Whether it is an eclipse month.
+    pub eclipse: bool,
+}
+
+/// A quarter of a month.
+#[derive(Clone, Copy, Debug, PartialEq, Eq)]
+pub struct Quarter {
+    /// The day on which it falls.
+    pub day: u32,
+    /// The rest, in parts of 3,760.
+    pub parts: u32,
+}
+
+/// The leap mark of a reading that says "ordinary".
+pub const ORDINARY: u64 = 1;
+
+/// The leap mark of a reading that says "leap".
+pub const LEAP: u64 = 2;
+
+/// A reading of a slip: each field is a number, or unread (`None`).
+#[derive(Clone, Copy, Debug, Default, PartialEq, Eq)]
+pub struct Reading {
+    /// The year's name, 1 to 60.
+    pub year_name: Option<u64>,
+    /// The month's number, 1 to 12.
+    pub month_number: Option<u64>,
+    /// [`ORDINARY`] or [`LEAP`].
+    pub leap_mark: Option<u64>,
+    /// The day of the month, 1 to 30.
+    pub day_of_month: Option<u64>,
+    /// The day's name, 1 to 60.
+    pub day_name: Option<u64>,
+    /// The name of the month's first day, 1 to 60.
+    pub first_name: Option<u64>,
+}
+
+/// Why a search came back.
+#[derive(Clone, Copy, Debug, PartialEq, Eq)]
+pub struct SearchRefused {
+    /// The reason.
+    pub reason: Reason,
+    /// How many days fit, told with reason 12 alone.
+    pub total: Option<u32>,
+}
+
+impl fmt::Display for SearchRefused {
+    fn fmt(&self, f: &mut fmt::Formatter<'_>) -> fmt::Result {
+        match self.total {
+            Some(total) => write!(f, "{}: {total} days fit", self.reason),
+            None => self.reason.fmt(f),
+        }
+    }
+}
+
+impl std::error::Error for SearchRefused {}
+
+/// How many items each of a sheet's lists has.
+#[derive(Clone, Copy, Debug, PartialEq, Eq)]
+pub struct SheetCounts {
+    /// Years.
+    pub years: usize,
+    /// Months.
+    pub months: usize,
+    /// Days.
+    pub days: usize,
+}
