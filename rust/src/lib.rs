@@ -227,3 +227,37 @@ fn c_reading(reading: &Reading) -> ffi::CReading {
         first_name_known: reading.first_name.is_some(),
     }
 }
+
+#[cfg(test)]
+mod tests {
+    use super::*;
+
+    /// Known flags alone say which fields were read: what an unread field holds is not looked at.
+    #[test]
+    fn unread_fields_may_hold_anything() {
+        let asked = Reading {
+            month_number: Some(12),
+            day_of_month: Some(1),
+            ..Reading::default()
+        };
+        for anything in [0, 1, 7, 61, 1 << 32, u64::MAX] {
+            let reading = ffi::CReading {
+                year_name: anything,
+                leap_mark: anything,
+                day_name: anything,
+                first_name: anything,
+                ..c_reading(&asked)
+            };
+            let mut out = [0; 2];
+            let found = ffi::search(reading, 0, 100, &mut out);
+            assert_eq!((found.reason, found.total, out), (0, 1, [29, 0]));
+        }
+    }
+
+    /// A refusal of capi that held something else would be seen.
+    #[test]
+    #[should_panic(expected = "a refusal of capi holds something else")]
+    fn a_refusal_is_bare() {
+        let _ = ffi::CDay { reason: 6, day: 1 }.told();
+    }
+}

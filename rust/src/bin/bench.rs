@@ -6,8 +6,9 @@ use std::hint::black_box;
 use std::process::ExitCode;
 use std::time::{Duration, Instant};
 
-/// How often each side is run; the best time counts.
-const RUNS: usize = 21;
+/// Each side is run in turn at least so often, and on until so much time has passed; the best time counts.
+const RUNS: usize = 7;
+const TIME: Duration = Duration::from_millis(1_500);
 
 /// The days of a yuan of 4,560 years.
 const YUAN_DAYS: u64 = 1_665_540;
@@ -16,10 +17,9 @@ const YUAN_DAYS: u64 = 1_665_540;
 const FIRST: u64 = 3_420_558;
 const WINDOW: u64 = 27_759;
 
-/// How many searches, and how many sheets, are timed as one run.
-const SEARCHES: u64 = 200;
-const SLOW_SEARCHES: u64 = 10;
-const SHEETS: u64 = 500;
+/// How many searches, and how many sheets, are timed as one run: short, so that some runs are disturbed by nothing.
+const SEARCHES: u64 = 20;
+const SHEETS: u64 = 100;
 
 /// The items of a full section of a sheet.
 const ITEMS: usize = 1_000;
@@ -28,15 +28,17 @@ const ITEMS: usize = 1_000;
 const BAR: f64 = 3.0;
 
 fn main() -> ExitCode {
-    println!("Times of one call, best of {RUNS} runs; a ratio above 1 means that capi is slower.");
+    println!("Times of one call, the best of {RUNS} runs or more; a ratio above 1 means that capi is slower.");
     println!(
-        "{:<58}{:>12}{:>14}{:>9}",
+        "{:<62}{:>12}{:>14}{:>8}",
         "what", "capi", "independent", "ratio"
     );
     let mut bench = Bench { agreed: true };
     bench.dates();
-    bench.searches();
+    let ratio = bench.searches();
     bench.sheets();
+    let met = if ratio <= BAR { "met" } else { "NOT MET" };
+    println!("The search's bar, all six known beside the loop over months: {ratio:.2}, at most {BAR:.0}: {met}");
     if !bench.agreed {
         println!("FAILED: the two sides gave different sums");
         return ExitCode::FAILURE;
@@ -60,16 +62,19 @@ impl Bench {
         mut own: impl FnMut() -> u64,
     ) -> f64 {
         let (mut capi_best, mut own_best) = (Duration::MAX, Duration::MAX);
-        for _ in 0..RUNS {
+        let start = Instant::now();
+        let mut runs = 0;
+        while runs < RUNS || start.elapsed() < TIME {
             let (capi_time, capi_sum) = timed(&mut capi);
             let (own_time, own_sum) = timed(&mut own);
             capi_best = capi_best.min(capi_time);
             own_best = own_best.min(own_time);
             self.agreed &= capi_sum == own_sum;
+            runs += 1;
         }
         let ratio = capi_best.as_secs_f64() / own_best.as_secs_f64();
         let (capi_call, own_call) = (per_call(capi_best, calls), per_call(own_best, calls));
-        println!("{what:<58}{capi_call:>12}{own_call:>14}{ratio:>9.2}");
+        println!("{what:<62}{capi_call:>12}{own_call:>14}{ratio:>8.2}");
         ratio
     }
 
@@ -109,8 +114,8 @@ impl Bench {
         );
     }
 
-    /// Searches of a full window, and the bar.
-    fn searches(&mut self) {
+    /// Searches of a full window; gives the ratio that the bar is about.
+    fn searches(&mut self) -> f64 {
         let known = all_known(FIRST + WINDOW / 2);
         let few = Reading {
             month_number: known.month_number,
@@ -119,57 +124,32 @@ impl Bench {
         };
         self.search("all six unread", &Reading::default());
         self.search("month number and day name known", &few);
-        let ratio = self.search("all six known", &known);
-        let met = if ratio <= BAR { "met" } else { "NOT MET" };
-        println!("The search's bar: all six known, {ratio:.2} times the loop over months, at most {BAR:.0}: {met}");
+        self.search("all six known", &known)
     }
 
     /// A search of a full window beside both ways of the independent one; gives the ratio to the loop over months.
     fn search(&mut self, which: &str, reading: &Reading) -> f64 {
+        self.search_beside(
+            &format!("search, {which}; loop over days"),
+            own::search,
+            reading,
+        );
+        self.search_beside(
+            &format!("search, {which}; loop over months"),
+            own::search_by_months,
+            reading,
+        )
+    }
+
+    /// A search of a full window beside one way of the independent one.
+    fn search_beside(&mut self, what: &str, own_search: Search, reading: &Reading) -> f64 {
         let mut out = vec![0; WINDOW as usize];
         let mut own_out = out.clone();
-        let last = FIRST + WINDOW - 1;
-        let what = format!("search of a full window, {which}, day by day");
         self.compare(
-            &what,
-            SLOW_SEARCHES,
-            || {
-                repeat(SLOW_SEARCHES, || {
-                    found(
-                        capi::search(black_box(reading), FIRST, last, &mut out),
-                        &out,
-                    )
-                })
-            },
-            || {
-                repeat(SLOW_SEARCHES, || {
-                    found(
-                        own::search(black_box(reading), FIRST, last, &mut own_out),
-                        &own_out,
-                    )
-                })
-            },
-        );
-        let what = format!("search of a full window, {which}, loop over months");
-        self.compare(
-            &what,
+            what,
             SEARCHES,
-            || {
-                repeat(SEARCHES, || {
-                    found(
-                        capi::search(black_box(reading), FIRST, last, &mut out),
-                        &out,
-                    )
-                })
-            },
-            || {
-                repeat(SEARCHES, || {
-                    found(
-                        own::search_by_months(black_box(reading), FIRST, last, &mut own_out),
-                        &own_out,
-                    )
-                })
-            },
+            || repeat(SEARCHES, || found(capi::search, reading, &mut out)),
+            || repeat(SEARCHES, || found(own_search, reading, &mut own_out)),
         )
     }
 
@@ -180,33 +160,20 @@ impl Bench {
         let days: Vec<u32> = (0..ITEMS).map(|i| (i * 14_989) as u32).collect();
         let mut sheet = vec![0; 10_006];
         let mut own_sheet = sheet.clone();
+        let lists = (&years[..], &months[..], &days[..]);
         self.compare(
             "writing a sheet of 3 x 1,000 items",
             SHEETS,
-            || {
-                repeat(SHEETS, || {
-                    written(
-                        capi::write_sheet(black_box(&years), &months, &days, &mut sheet),
-                        &sheet,
-                    )
-                })
-            },
-            || {
-                repeat(SHEETS, || {
-                    written(
-                        own::write_sheet(black_box(&years), &months, &days, &mut own_sheet),
-                        &own_sheet,
-                    )
-                })
-            },
+            || repeat(SHEETS, || written(capi::write_sheet, lists, &mut sheet)),
+            || repeat(SHEETS, || written(own::write_sheet, lists, &mut own_sheet)),
         );
-        let mut lists = (vec![0; ITEMS], vec![0; ITEMS], vec![0; ITEMS]);
-        let mut own_lists = lists.clone();
+        let mut lent = (vec![0; ITEMS], vec![0; ITEMS], vec![0; ITEMS]);
+        let mut own_lent = lent.clone();
         self.compare(
             "reading a sheet of 3 x 1,000 items",
             SHEETS,
-            || repeat(SHEETS, || read(capi::read_sheet, &sheet, &mut lists)),
-            || repeat(SHEETS, || read(own::read_sheet, &sheet, &mut own_lists)),
+            || repeat(SHEETS, || read(capi::read_sheet, &sheet, &mut lent)),
+            || repeat(SHEETS, || read(own::read_sheet, &sheet, &mut own_lent)),
         );
     }
 }
@@ -246,17 +213,25 @@ fn sum_of_date(date: Date) -> u64 {
     )
 }
 
-/// One number out of a search: the total, and the first and last day that it listed.
-fn found(answer: Result<u32, capi::SearchRefused>, out: &[u32]) -> u64 {
-    match answer {
+/// A search, of either side.
+type Search = fn(&Reading, u64, u64, &mut [u32]) -> Result<u32, capi::SearchRefused>;
+
+/// Searches a full window; one number out of the total and the first and last day that were listed.
+fn found(search: Search, reading: &Reading, out: &mut [u32]) -> u64 {
+    match search(black_box(reading), FIRST, FIRST + WINDOW - 1, out) {
         Ok(0) | Err(_) => 0,
         Ok(total) => u64::from(total) + u64::from(out[0]) + u64::from(out[total as usize - 1]),
     }
 }
 
-/// One number out of a written sheet: its length and its last byte.
-fn written(answer: Result<usize, capi::Reason>, out: &[u8]) -> u64 {
-    answer.map_or(0, |length| length as u64 + u64::from(out[length - 1]))
+/// A writing of sheets, of either side.
+type WriteSheet = fn(&[u16], &[u32], &[u32], &mut [u8]) -> Result<usize, capi::Reason>;
+
+/// Writes a sheet; one number out of its length and its last item's first byte.
+fn written(write_sheet: WriteSheet, lists: (&[u16], &[u32], &[u32]), out: &mut [u8]) -> u64 {
+    let (years, months, days) = black_box(lists);
+    write_sheet(years, months, days, out)
+        .map_or(0, |length| length as u64 + u64::from(out[length - 4]))
 }
 
 /// A reading of sheets, of either side.

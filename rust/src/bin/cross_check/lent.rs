@@ -1,7 +1,8 @@
 //! Lent memory with canary values: a list between two guards, so that a place changed in or beside the list is seen.
 
 use crate::random::Random;
-use std::fmt;
+use crate::tally::Memory;
+use std::fmt::Debug;
 
 /// How many places stand guard on each side of a lent list.
 const GUARD: usize = 8;
@@ -25,19 +26,26 @@ impl<T: Canary> Lent<T> {
     }
 }
 
-impl<T: fmt::Debug> fmt::Debug for Lent<T> {
-    fn fmt(&self, f: &mut fmt::Formatter<'_>) -> fmt::Result {
-        let shown = &self.0[..self.0.len().min(40)];
-        write!(
-            f,
-            "{} places lent, guards and front {shown:?}",
-            self.0.len() - 2 * GUARD
-        )
+impl<T: Canary> Memory for Lent<T> {
+    fn first_difference(&self, own: &Self) -> Option<String> {
+        let (lent, place) = (
+            self.0.len() - 2 * GUARD,
+            self.0.iter().zip(&own.0).position(|(a, b)| a != b)?,
+        );
+        let values = format!(
+            "capi left {:?}, the independent one {:?}",
+            self.0[place], own.0[place]
+        );
+        // Counted from the list's own first place; the guards are before 0 and from `lent` on.
+        let place = place as i64 - GUARD as i64;
+        Some(format!(
+            "memory differs first at place {place} of {lent} lent: {values}"
+        ))
     }
 }
 
 /// A kind of number that lent lists hold.
-pub trait Canary: Copy {
+pub trait Canary: Copy + Debug + PartialEq {
     /// A canary value out of a number.
     fn canary(number: u64) -> Self;
 }

@@ -141,16 +141,16 @@ fn verdict(rows: &[Row], tallies: &[Tally], total: &Tally) -> ExitCode {
             .iter()
             .for_each(|difference| println!("    {difference}"));
     }
-    if let Some(never) = (1..=15).find(|&reason| total.met[reason] == 0) {
-        println!("\nFAILED: reason {never} was never met");
-        return ExitCode::FAILURE;
-    }
     if total.different() > 0 {
         println!(
             "\nFAILED: {} of {} differ",
             total.different(),
             total.compared
         );
+        return ExitCode::FAILURE;
+    }
+    if let Some(never) = (1..=15).find(|&reason| total.met[reason] == 0) {
+        println!("\nFAILED: reason {never} was never met");
         return ExitCode::FAILURE;
     }
     println!("TOTAL: {} compared, all equal", total.compared);

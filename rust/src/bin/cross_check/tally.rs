@@ -8,9 +8,6 @@ use std::ops::Range;
 /// How many differences of a row are kept to be printed.
 const SHOWN: usize = 3;
 
-/// The longest that an answer is printed, in bytes.
-const LONGEST: usize = 400;
-
 /// Into how many pieces a row is cut, for the threads to share.
 const PIECES: u64 = 16;
 
@@ -34,7 +31,7 @@ impl Tally {
     }
 
     /// Compares two answers and what lent memory holds after them.
-    pub fn compare_lent<A: Answer, M: PartialEq + Debug>(
+    pub fn compare_lent<A: Answer, M: Memory>(
         &mut self,
         capi: (A, M),
         own: (A, M),
@@ -74,13 +71,36 @@ impl Tally {
 }
 
 /// A difference in words.
-fn difference(input: &str, capi: &impl Debug, own: &impl Debug) -> String {
-    let cut = |text: String| text.chars().take(LONGEST).collect::<String>();
-    format!(
-        "{input}\n      capi:        {}\n      independent: {}",
-        cut(format!("{capi:?}")),
-        cut(format!("{own:?}"))
-    )
+fn difference<A: Answer, M: Memory>(input: &str, capi: &(A, M), own: &(A, M)) -> String {
+    let answers = format!(
+        "{input}\n      capi:        {:?}\n      independent: {:?}",
+        capi.0, own.0
+    );
+    match capi.1.first_difference(&own.1) {
+        Some(memory) => format!("{answers}\n      {memory}"),
+        None => answers,
+    }
+}
+
+/// What is lent to a call; nothing is lent where it is `()`.
+pub trait Memory: PartialEq {
+    /// Where it first differs from the independent one's, in words.
+    fn first_difference(&self, own: &Self) -> Option<String>;
+}
+
+impl Memory for () {
+    fn first_difference(&self, _: &()) -> Option<String> {
+        None
+    }
+}
+
+impl<A: Memory, B: Memory, C: Memory> Memory for (A, B, C) {
+    fn first_difference(&self, own: &Self) -> Option<String> {
+        let first = self.0.first_difference(&own.0);
+        let second = || self.1.first_difference(&own.1);
+        let third = || self.2.first_difference(&own.2);
+        first.or_else(second).or_else(third)
+    }
 }
 
 /// What both sides give: an answer or a reason.
