@@ -103,6 +103,27 @@ module _ (f : List ℕ) (fs gs : List (List ℕ)) (e : fs ≡ f ∷ gs) (q : Fie
   unfolding valuesOf allCapped
   values-put = rw (e) (ap₂ (λ (k j : ℕ). sets (set vs n k) j (allCapped (valuesOf gs))) (ap (λ (p : Field). p .value) h) (add-one n))
 
+-- how many there are
+pub fields-few : (s : List ℕ) → length (fieldsIn s) ≤ length s + 1
+unfolding fieldsIn
+fields-few [] = omega arith
+fields-few (b ∷ s) = go (eqb b 32) (fieldsIn s) (fields-few s)
+  where
+    go : (t : Bool) (fs : List (List ℕ)) → length fs ≤ length s + 1 → length (inFrontOf t b fs) ≤ suc (length s) + 1
+    go true fs h = omega (arith, h)
+    go false [] h = omega arith
+    go false (f ∷ fs) h = omega (arith, h)
+
+pub kinds-many : (fs : List (List ℕ)) → length (kindsOf fs) ≡ length fs
+unfolding kindsOf
+kinds-many [] = refl
+kinds-many (f ∷ fs) = ap suc (kinds-many fs)
+
+pub values-many : (fs : List (List ℕ)) → length (allCapped (valuesOf fs)) ≡ length fs
+unfolding valuesOf allCapped
+values-many [] = refl
+values-many (f ∷ fs) = ap suc (values-many fs)
+
 -- a list keeps its length
 pub kept : (l : List ℕ) (n a j : ℕ) (xs : List ℕ) → length (sets (set l n a) j xs) ≡ length l
 kept l n a j xs = length-sets (set l n a) j xs ∙ length-set l n a
