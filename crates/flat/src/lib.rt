@@ -1,0 +1,475 @@
+// Answers laid flat for C: one struct each, with the reason in front. Numbers are widened, nothing is decided here.
+ghost use mathlib.Core.Path.{_≡_};
+ghost use Rattle.dates.specs.Promises.{saidDate, saidDay};
+ghost use Rattle.facts.specs.Promises.{saidSolsticeYear, saidYear, saidMonth, saidQuarter, saidTerm};
+ghost use Rattle.reading.specs.Search.{saidFound};
+ghost use Rattle.sheet.specs.Promises.{saidCounts, saidHowMany};
+ghost use Rattle.flat.specs.Flat.{
+  givenDate,
+  noDate,
+  flatDate,
+  givenDay,
+  noDay,
+  flatDay,
+  givenSolstice,
+  noSolstice,
+  flatSolstice,
+  hasLeap,
+  leapNumber,
+  leapCount,
+  givenYear,
+  noYear,
+  flatYear,
+  givenMonth,
+  noMonth,
+  flatMonth,
+  givenQuarter,
+  noQuarter,
+  flatQuarter,
+  flatFound,
+  givenCounts,
+  noCounts,
+  flatCounts,
+  givenLength,
+  noLength,
+  flatLength,
+};
+use dates::Date;
+use dates::Dated;
+use dates::DayFound;
+use facts::LeapMonth;
+use facts::MonthFacts;
+use facts::MonthTold;
+use facts::QuarterTold;
+use facts::SolsticeYear;
+use facts::SolsticeYearTold;
+use facts::TermTold;
+use facts::YearFacts;
+use facts::YearTold;
+use reading::Found;
+use rule::Quarter;
+use sheet::Counted;
+use sheet::HowMany;
+use sheet::SheetCounts;
+
+// A date. `number` is the month's, `leap` whether it is the leap month of that number.
+#[repr(C)]
+pub struct CDate {
+    pub reason: u32,
+    pub year: u32,
+    pub number: u32,
+    pub leap: bool,
+    pub day_of_month: u32,
+    pub month_length: u32,
+    pub day_name: u32,
+    pub year_name: u32,
+}
+
+// A day.
+#[repr(C)]
+pub struct CDay {
+    pub reason: u32,
+    pub day: u32,
+}
+
+// A solstice year: its place, its bu's head name, its months.
+#[repr(C)]
+pub struct CSolstice {
+    pub reason: u32,
+    pub ji: u32,
+    pub bu: u32,
+    pub year_in_bu: u32,
+    pub head_name: u32,
+    pub first_month: u32,
+    pub leap_remainder: u32,
+    pub months: u32,
+}
+
+// A year's own; without a leap month, `has_leap` is false and the two numbers after it are 0.
+#[repr(C)]
+pub struct CYear {
+    pub reason: u32,
+    pub name: u32,
+    pub first_month: u32,
+    pub months: u32,
+    pub has_leap: bool,
+    pub leap_number: u32,
+    pub leap_month: u32,
+}
+
+// A month by its count.
+#[repr(C)]
+pub struct CMonth {
+    pub reason: u32,
+    pub number: u32,
+    pub leap: bool,
+    pub first_day: u32,
+    pub small_remainder: u32,
+    pub month_length: u32,
+    pub first_name: u32,
+    pub eclipse: bool,
+}
+
+// A quarter of a month: its day and the parts that are left.
+#[repr(C)]
+pub struct CQuarter {
+    pub reason: u32,
+    pub day: u32,
+    pub parts: u32,
+}
+
+// How many days a search found; where the lent list was too short, how many there are.
+#[repr(C)]
+pub struct CFound {
+    pub reason: u32,
+    pub total: u32,
+}
+
+// How many items each of a sheet's lists has.
+#[repr(C)]
+pub struct CSheetCounts {
+    pub reason: u32,
+    pub years: usize,
+    pub months: usize,
+    pub days: usize,
+}
+
+// How many bytes were written.
+#[repr(C)]
+pub struct CLength {
+    pub reason: u32,
+    pub length: usize,
+}
+
+// A date laid flat, a refusal of one, and an answer.
+fn given_date(d: Date) -> CDate
+    ensures { λ r. ⌜ r ≡ givenDate d ⌝ }
+{
+    let m = d.month;
+    CDate {
+        reason: 0,
+        year: d.year as u32,
+        number: rule::number_of(m) as u32,
+        leap: rule::leap_mark(m),
+        day_of_month: d.day_of_month as u32,
+        month_length: d.month_length as u32,
+        day_name: d.day_name as u32,
+        year_name: d.year_name as u32,
+    }
+}
+
+fn no_date(reason: u8) -> CDate
+    ensures { λ r. ⌜ r ≡ noDate reason ⌝ }
+{
+    CDate {
+        reason: reason as u32,
+        year: 0,
+        number: 0,
+        leap: false,
+        day_of_month: 0,
+        month_length: 0,
+        day_name: 0,
+        year_name: 0,
+    }
+}
+
+pub fn flat_date(a: Dated) -> CDate
+    ensures { λ r. ⌜ r ≡ flatDate (saidDate a) ⌝ }
+{
+    match a {
+        Dated::Is(d) => given_date(d),
+        Dated::Refused(why) => no_date(rule::reason_number(why)),
+    }
+}
+
+// The same of a day: of a date's, and of a term's.
+fn given_day(d: u32) -> CDay
+    ensures { λ r. ⌜ r ≡ givenDay d ⌝ }
+{
+    CDay { reason: 0, day: d }
+}
+
+fn no_day(reason: u8) -> CDay
+    ensures { λ r. ⌜ r ≡ noDay reason ⌝ }
+{
+    CDay {
+        reason: reason as u32,
+        day: 0,
+    }
+}
+
+pub fn flat_day(a: DayFound) -> CDay
+    ensures { λ r. ⌜ r ≡ flatDay (saidDay a) ⌝ }
+{
+    match a {
+        DayFound::Is(d) => given_day(d),
+        DayFound::Refused(why) => no_day(rule::reason_number(why)),
+    }
+}
+
+pub fn flat_term(a: TermTold) -> CDay
+    ensures { λ r. ⌜ r ≡ flatDay (saidTerm a) ⌝ }
+{
+    match a {
+        TermTold::Is(d) => given_day(d),
+        TermTold::Refused(why) => no_day(rule::reason_number(why)),
+    }
+}
+
+// The same of a solstice year.
+fn given_solstice(s: SolsticeYear) -> CSolstice
+    ensures { λ r. ⌜ r ≡ givenSolstice s ⌝ }
+{
+    CSolstice {
+        reason: 0,
+        ji: s.ji as u32,
+        bu: s.bu as u32,
+        year_in_bu: s.year_in_bu as u32,
+        head_name: s.head_name as u32,
+        first_month: s.first_month,
+        leap_remainder: s.leap_remainder as u32,
+        months: s.months as u32,
+    }
+}
+
+fn no_solstice(reason: u8) -> CSolstice
+    ensures { λ r. ⌜ r ≡ noSolstice reason ⌝ }
+{
+    CSolstice {
+        reason: reason as u32,
+        ji: 0,
+        bu: 0,
+        year_in_bu: 0,
+        head_name: 0,
+        first_month: 0,
+        leap_remainder: 0,
+        months: 0,
+    }
+}
+
+pub fn flat_solstice(a: SolsticeYearTold) -> CSolstice
+    ensures { λ r. ⌜ r ≡ flatSolstice (saidSolsticeYear a) ⌝ }
+{
+    match a {
+        SolsticeYearTold::Is(s) => given_solstice(s),
+        SolsticeYearTold::Refused(why) => no_solstice(rule::reason_number(why)),
+    }
+}
+
+// A leap month, if there is one: whether, its number, its count.
+fn has_leap(l: LeapMonth) -> bool
+    ensures { λ r. ⌜ r ≡ hasLeap l ⌝ }
+{
+    match l {
+        LeapMonth::Without => false,
+        LeapMonth::With(_, _) => true,
+    }
+}
+
+fn leap_number(l: LeapMonth) -> u32
+    ensures { λ r. ⌜ r ≡ leapNumber l ⌝ }
+{
+    match l {
+        LeapMonth::Without => 0,
+        LeapMonth::With(k, _) => k as u32,
+    }
+}
+
+fn leap_count(l: LeapMonth) -> u32
+    ensures { λ r. ⌜ r ≡ leapCount l ⌝ }
+{
+    match l {
+        LeapMonth::Without => 0,
+        LeapMonth::With(_, n) => n,
+    }
+}
+
+// The same of a year's own.
+fn given_year(y: YearFacts) -> CYear
+    ensures { λ r. ⌜ r ≡ givenYear y ⌝ }
+{
+    let l = y.leap_month;
+    CYear {
+        reason: 0,
+        name: y.name as u32,
+        first_month: y.first_month,
+        months: y.months as u32,
+        has_leap: has_leap(l),
+        leap_number: leap_number(l),
+        leap_month: leap_count(l),
+    }
+}
+
+fn no_year(reason: u8) -> CYear
+    ensures { λ r. ⌜ r ≡ noYear reason ⌝ }
+{
+    CYear {
+        reason: reason as u32,
+        name: 0,
+        first_month: 0,
+        months: 0,
+        has_leap: false,
+        leap_number: 0,
+        leap_month: 0,
+    }
+}
+
+pub fn flat_year(a: YearTold) -> CYear
+    ensures { λ r. ⌜ r ≡ flatYear (saidYear a) ⌝ }
+{
+    match a {
+        YearTold::Is(y) => given_year(y),
+        YearTold::Refused(why) => no_year(rule::reason_number(why)),
+    }
+}
+
+// The same of a month.
+fn given_month(f: MonthFacts) -> CMonth
+    ensures { λ r. ⌜ r ≡ givenMonth f ⌝ }
+{
+    let m = f.month;
+    CMonth {
+        reason: 0,
+        number: rule::number_of(m) as u32,
+        leap: rule::leap_mark(m),
+        first_day: f.first_day,
+        small_remainder: f.small_remainder as u32,
+        month_length: f.month_length as u32,
+        first_name: f.first_name as u32,
+        eclipse: f.eclipse,
+    }
+}
+
+fn no_month(reason: u8) -> CMonth
+    ensures { λ r. ⌜ r ≡ noMonth reason ⌝ }
+{
+    CMonth {
+        reason: reason as u32,
+        number: 0,
+        leap: false,
+        first_day: 0,
+        small_remainder: 0,
+        month_length: 0,
+        first_name: 0,
+        eclipse: false,
+    }
+}
+
+pub fn flat_month(a: MonthTold) -> CMonth
+    ensures { λ r. ⌜ r ≡ flatMonth (saidMonth a) ⌝ }
+{
+    match a {
+        MonthTold::Is(f) => given_month(f),
+        MonthTold::Refused(why) => no_month(rule::reason_number(why)),
+    }
+}
+
+// The same of a quarter.
+fn given_quarter(q: Quarter) -> CQuarter
+    ensures { λ r. ⌜ r ≡ givenQuarter q ⌝ }
+{
+    CQuarter {
+        reason: 0,
+        day: q.day,
+        parts: q.parts as u32,
+    }
+}
+
+fn no_quarter(reason: u8) -> CQuarter
+    ensures { λ r. ⌜ r ≡ noQuarter reason ⌝ }
+{
+    CQuarter {
+        reason: reason as u32,
+        day: 0,
+        parts: 0,
+    }
+}
+
+pub fn flat_quarter(a: QuarterTold) -> CQuarter
+    ensures { λ r. ⌜ r ≡ flatQuarter (saidQuarter a) ⌝ }
+{
+    match a {
+        QuarterTold::Is(q) => given_quarter(q),
+        QuarterTold::Refused(why) => no_quarter(rule::reason_number(why)),
+    }
+}
+
+// What a search found: only here does a refusal say one number more, the true total with reason 12.
+pub fn flat_found(a: Found) -> CFound
+    ensures { λ r. ⌜ r ≡ flatFound (saidFound a) ⌝ }
+{
+    match a {
+        Found::Is(n) => CFound {
+            reason: 0,
+            total: n,
+        },
+        Found::TooShort(n) => CFound {
+            reason: 12,
+            total: n,
+        },
+        Found::Refused(why) => CFound {
+            reason: rule::reason_number(why) as u32,
+            total: 0,
+        },
+    }
+}
+
+// The same of a sheet's counts.
+fn given_counts(c: Counted) -> CSheetCounts
+    ensures { λ r. ⌜ r ≡ givenCounts c ⌝ }
+{
+    CSheetCounts {
+        reason: 0,
+        years: c.years,
+        months: c.months,
+        days: c.days,
+    }
+}
+
+fn no_counts(reason: u8) -> CSheetCounts
+    ensures { λ r. ⌜ r ≡ noCounts reason ⌝ }
+{
+    CSheetCounts {
+        reason: reason as u32,
+        years: 0,
+        months: 0,
+        days: 0,
+    }
+}
+
+pub fn flat_counts(a: SheetCounts) -> CSheetCounts
+    ensures { λ r. ⌜ r ≡ flatCounts (saidCounts a) ⌝ }
+{
+    match a {
+        SheetCounts::Is(c) => given_counts(c),
+        SheetCounts::Refused(why) => no_counts(rule::reason_number(why)),
+    }
+}
+
+// The same of a length.
+fn given_length(n: usize) -> CLength
+    ensures { λ r. ⌜ r ≡ givenLength n ⌝ }
+{
+    CLength {
+        reason: 0,
+        length: n,
+    }
+}
+
+fn no_length(reason: u8) -> CLength
+    ensures { λ r. ⌜ r ≡ noLength reason ⌝ }
+{
+    CLength {
+        reason: reason as u32,
+        length: 0,
+    }
+}
+
+pub fn flat_length(a: HowMany) -> CLength
+    ensures { λ r. ⌜ r ≡ flatLength (saidHowMany a) ⌝ }
+{
+    match a {
+        HowMany::Is(n) => given_length(n),
+        HowMany::Refused(why) => no_length(rule::reason_number(why)),
+    }
+}
