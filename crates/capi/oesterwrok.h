@@ -1,0 +1,140 @@
+/* The calls of Oesterwrok for C: days, dates, facts, searches, sheets and printed lines of the Quarter-Remainder rule.
+ *
+ * Every call ends for every input. `reason` is 0 where there is an answer; else it is the paper's number, every other field
+ * is 0 (but the total of a search that is refused with 12, which is the true one), and nothing lent was changed.
+ * Numbers are wide enough that no wrong one is taken for another: a negative one is refused like any that is too large.
+ * A name is 1 to 60. Lent memory: docs/C.md. */
+#ifndef OESTERWROK_H
+#define OESTERWROK_H
+
+#include <stdbool.h>
+#include <stddef.h>
+#include <stdint.h>
+
+#ifdef __cplusplus
+extern "C" {
+#endif
+
+/* A date. `number` is the month's, `leap` whether it is the leap month of that number. */
+typedef struct oes_date {
+    uint32_t reason;
+    uint32_t year;
+    uint32_t number;
+    bool leap;
+    uint32_t day_of_month;
+    uint32_t month_length;
+    uint32_t day_name;
+    uint32_t year_name;
+} oes_date;
+
+/* A day. */
+typedef struct oes_day {
+    uint32_t reason;
+    uint32_t day;
+} oes_day;
+
+/* A solstice year: its place, its bu's head name, its months. */
+typedef struct oes_solstice {
+    uint32_t reason;
+    uint32_t ji;
+    uint32_t bu;
+    uint32_t year_in_bu;
+    uint32_t head_name;
+    uint32_t first_month;
+    uint32_t leap_remainder;
+    uint32_t months;
+} oes_solstice;
+
+/* A year's own. Where it has no leap month, `has_leap` is false and the two numbers after it are 0. */
+typedef struct oes_year {
+    uint32_t reason;
+    uint32_t name;
+    uint32_t first_month;
+    uint32_t months;
+    bool has_leap;
+    uint32_t leap_number;
+    uint32_t leap_month;
+} oes_year;
+
+/* A month by its count. */
+typedef struct oes_month {
+    uint32_t reason;
+    uint32_t number;
+    bool leap;
+    uint32_t first_day;
+    uint32_t small_remainder;
+    uint32_t month_length;
+    uint32_t first_name;
+    bool eclipse;
+} oes_month;
+
+/* A quarter of a month: its day and the parts that are left. */
+typedef struct oes_quarter_told {
+    uint32_t reason;
+    uint32_t day;
+    uint32_t parts;
+} oes_quarter_told;
+
+/* A reading of a slip: six values, and whether each was read. A leap mark is 1 for ordinary and 2 for leap. */
+typedef struct oes_reading {
+    uint64_t year_name;
+    uint64_t month_number;
+    uint64_t leap_mark;
+    uint64_t day_of_month;
+    uint64_t day_name;
+    uint64_t first_name;
+    bool year_name_known;
+    bool month_number_known;
+    bool leap_mark_known;
+    bool day_of_month_known;
+    bool day_name_known;
+    bool first_name_known;
+} oes_reading;
+
+/* How many days a search found. */
+typedef struct oes_found {
+    uint32_t reason;
+    uint32_t total;
+} oes_found;
+
+/* How many items each of a sheet's lists has. */
+typedef struct oes_sheet_counts {
+    uint32_t reason;
+    size_t years;
+    size_t months;
+    size_t days;
+} oes_sheet_counts;
+
+/* How many bytes were written. */
+typedef struct oes_length {
+    uint32_t reason;
+    size_t length;
+} oes_length;
+
+oes_date oes_date_of_day(uint64_t day);
+oes_day oes_day_of_date(uint64_t year, uint64_t number, bool leap, uint64_t day_of_month);
+oes_date oes_move_date(uint64_t year, uint64_t number, bool leap, uint64_t day_of_month, int64_t days);
+
+oes_solstice oes_solstice_year(uint64_t year);
+oes_year oes_year_facts(uint64_t year);
+oes_month oes_month_facts(uint64_t month);
+oes_quarter_told oes_quarter(uint64_t month, uint64_t quarter);
+oes_day oes_term(uint64_t year, uint64_t term);
+
+oes_found oes_search(oes_reading reading, uint64_t first, uint64_t last, uint32_t *out, size_t out_places);
+
+oes_sheet_counts oes_read_sheet(const uint8_t *bytes, size_t bytes_length, uint16_t *years, size_t years_places,
+                                uint32_t *months, size_t months_places, uint32_t *days, size_t days_places);
+oes_length oes_write_sheet(const uint16_t *years, size_t years_count, const uint32_t *months, size_t months_count,
+                           const uint32_t *days, size_t days_count, uint8_t *out, size_t out_bytes);
+
+oes_length oes_print_year(uint64_t year, uint8_t *out, size_t out_bytes);
+oes_length oes_print_month_line(uint64_t month, uint8_t *out, size_t out_bytes);
+oes_length oes_print_month(uint64_t month, uint8_t *out, size_t out_bytes);
+oes_length oes_print_day(uint64_t day, uint8_t *out, size_t out_bytes);
+
+#ifdef __cplusplus
+}
+#endif
+
+#endif

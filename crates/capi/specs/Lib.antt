@@ -1,0 +1,2 @@
+-- The calls for C: what they promise, and statements of it.
+pub mod Promises
