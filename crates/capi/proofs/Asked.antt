@@ -1,15 +1,32 @@
 -- What a public call says of capped numbers, for the numbers themselves: each call's own, in the words of its contract.
 -- Assumes nothing.
 use Prim.Native.Nat.{ℕ}
-use mathlib.Core.Path.{_≡_, ap, _∙_}
+use native.Mathlib.Omega.{arith}
+use mathlib.Core.Path.{_≡_, ap, sym, _∙_}
 use mathlib.Core.Bool.{Bool}
+use mathlib.Core.List.{List}
 use lib.IntN.{ℤ}
+use lib.ListN.{length}
 use Rattle.rule.specs.Reasons.{Answer}
 use Rattle.dates.specs.Dates.{dateAt, dayOfDate}
 use Rattle.moves.specs.Moves.{moved}
 use Rattle.facts.specs.Facts.{solsticeYearAt, yearFactsAt, monthFactsAt, quarterAt, termAt}
-use Rattle.capped.specs.Capped.{capped}
-use Rattle.capped.proofs.Paper.{capped-alike}
+use Rattle.reading.specs.declared.Reading.{Reading}
+use Rattle.reading.specs.declared.Found.{Found}
+use Rattle.reading.specs.Readings.{windowDays, fitting}
+use Rattle.reading.specs.Search.{searchAt, saidFound, listAfter, Searched}
+use Rattle.sheet.specs.declared.HowMany.{HowMany}
+use Rattle.sheet.specs.Promises.{saidHowMany}
+use Rattle.lines.specs.Lines.{yearBlock, monthLined, monthItem, dayItem}
+use Rattle.lines.specs.Promises.{intoRoom, yearBlockAt, monthLineAt, monthItemAt, dayItemAt, Printed}
+use Rattle.capped.specs.Capped.{capped, cappedReading}
+use Rattle.capped.specs.Paper.{AlikeSearch, whole, both}
+use Rattle.capped.proofs.Paper.{behind-a-test, at-most, from-one, capped-alike, capped-search}
+use Rattle.flat.specs.declared.CFound.{CFound}
+use Rattle.flat.specs.declared.CLength.{CLength}
+use Rattle.flat.specs.Flat.{flatFound, flatLength}
+use Rattle.capi.specs.declared.CReading.{CReading}
+use Rattle.capi.specs.Promises.{readingOf, CSearch, CPrinted}
 
 -- an answer of one number, and of two, that is the same of capped ones
 pub asked-one : {A : Type 0} (f : ℕ → Answer A) → ((n : ℕ) → f (capped n) ≡ f n) → {a n : ℕ} → a ≡ capped n → f a ≡ f n
@@ -27,3 +44,50 @@ module _ (y k : ℕ) (l : Bool) (m : ℕ) {a b c : ℕ} (p : a ≡ capped y) (q 
 
   pub move-asked : (n : ℤ) → moved a b l c n ≡ moved y k l m n
   move-asked n = rw (p, q, r) (capped-alike .move y k l m n)
+
+-- a search: nothing was cut down, or both are refused with the same reason and the list is as it was
+search-alike :
+    (r : Reading) (first last : ℕ) (old new : List ℕ) (f : Found) → AlikeSearch r first last →
+    Searched (cappedReading r) (capped first) (capped last) old f new → Searched r first last old f new
+search-alike r first last old new f (whole e p q) s = rw (e, p, q) at s
+search-alike r first last old new f (both k g h) s =
+    record {
+      answered = s .answered ∙ g (length old) ∙ sym (h (length old));
+      lent =
+          s .lent
+          ∙ ap (λ (a : Answer ℕ). listAfter a (fitting (cappedReading r) (capped first) (windowDays (capped first) (capped last))) old) (g (length old))
+          ∙ sym (ap (λ (a : Answer ℕ). listAfter a (fitting r first (windowDays first last)) old) (h (length old)));
+    }
+
+pub search-asked :
+    (c : CReading) (first last : ℕ) {r : Reading} {a b : ℕ} {old new : List ℕ} {f : Found} {x : CFound} →
+    r ≡ cappedReading (readingOf c) → a ≡ capped first → b ≡ capped last → Searched r a b old f new →
+    x ≡ flatFound (saidFound f) → CSearch c first last old x new
+search-asked c first last {old = old} {new} {f} e p q s t =
+    let g : Searched (readingOf c) first last old f new = search-alike (readingOf c) first last old new f (capped-search (readingOf c) first last) (rw (e, p, q) at s) in
+    record { answer = t ∙ ap flatFound (g .answered); lent = g .lent }
+
+-- printed bytes, said flat
+pub printed-flat :
+    {a b : Answer (List ℕ)} {o o′ : List ℕ} {h : HowMany} {r : CLength} →
+    a ≡ b → Printed a o h o′ → r ≡ flatLength (saidHowMany h) → CPrinted b o r o′
+printed-flat e p t =
+    let q = rw (e) at p in
+    record { answer = t ∙ ap flatLength (q .answer); buffer = q .buffer }
+
+-- what is printed of a capped number
+pub year-printed : (n : ℕ) (y : ℕ) → yearBlockAt (capped y) n ≡ yearBlockAt y n
+unfolding yearBlockAt
+year-printed n y = behind-a-test (List ℕ) _ (from-one 41040 (omega arith)) 1 (λ i. intoRoom n (yearBlock i)) y
+
+pub line-printed : (n : ℕ) (m : ℕ) → monthLineAt (capped m) n ≡ monthLineAt m n
+unfolding monthLineAt
+line-printed n m = behind-a-test (List ℕ) _ (at-most 507599 (omega arith)) 7 (λ i. intoRoom n (monthLined i)) m
+
+pub month-printed : (n : ℕ) (m : ℕ) → monthItemAt (capped m) n ≡ monthItemAt m n
+unfolding monthItemAt
+month-printed n m = behind-a-test (List ℕ) _ (at-most 507599 (omega arith)) 7 (λ i. intoRoom n (monthItem i)) m
+
+pub day-printed : (n : ℕ) (d : ℕ) → dayItemAt (capped d) n ≡ dayItemAt d n
+unfolding dayItemAt
+day-printed n d = behind-a-test (List ℕ) _ (at-most 14989859 (omega arith)) 6 (λ i. intoRoom n (dayItem i)) d

@@ -1,7 +1,10 @@
 // The calls for C, declared in oesterwrok.h: each cuts its numbers down to 32 bits, asks the public call and lays the answer flat.
 // Nothing is decided here.
 ghost use mathlib.Core.Path.{_≡_};
+ghost use Rattle.capped.specs.Capped.{cappedField, cappedReading};
 ghost use Rattle.capi.specs.Promises.{
+  fieldOf,
+  readingOf,
   CDateOfDay,
   CDayOfDate,
   CMoveDate,
@@ -10,13 +13,25 @@ ghost use Rattle.capi.specs.Promises.{
   CMonthFacts,
   CQuarterOf,
   CTerm,
+  CSearch,
+  CReadSheet,
+  CWriteSheet,
+  CPrintYear,
+  CPrintMonthLine,
+  CPrintMonth,
+  CPrintDay,
 };
 use flat::CDate;
 use flat::CDay;
+use flat::CFound;
+use flat::CLength;
 use flat::CMonth;
 use flat::CQuarter;
+use flat::CSheetCounts;
 use flat::CSolstice;
 use flat::CYear;
+use reading::Field;
+use reading::Reading;
 
 // A reading of a slip: six values, and whether each was read. A leap mark is 1 for ordinary and 2 for leap.
 #[repr(C)]
@@ -114,4 +129,100 @@ pub extern "C" fn oes_term(year: u64, term: u64) -> CDay
     ensures { λ r. ⌜ CTerm year term r ⌝ }
 {
     flat::flat_term(facts::term(capped::cap(year), capped::cap(term)))
+}
+
+// One thing that may be read: its value, or unread.
+fn field_of(value: u64, known: bool) -> Field
+    ensures { λ r. ⌜ r ≡ cappedField (fieldOf value known) ⌝ }
+{
+    if !known {
+        return Field::Unread;
+    }
+    Field::Known(capped::cap(value))
+}
+
+// A reading.
+fn reading_of(r: CReading) -> Reading
+    ensures { λ s. ⌜ s ≡ cappedReading (readingOf r) ⌝ }
+{
+    let f1 = field_of(r.year_name, r.year_name_known);
+    let f2 = field_of(r.month_number, r.month_number_known);
+    let f3 = field_of(r.leap_mark, r.leap_mark_known);
+    let f4 = field_of(r.day_of_month, r.day_of_month_known);
+    let f5 = field_of(r.day_name, r.day_name_known);
+    let f6 = field_of(r.first_name, r.first_name_known);
+    Reading {
+        year_name: f1,
+        month_number: f2,
+        leap_mark: f3,
+        day_of_month: f4,
+        day_name: f5,
+        first_name: f6,
+    }
+}
+
+// Every day of a window that fits a reading.
+#[no_mangle]
+pub extern "C" fn oes_search(reading: CReading, first: u64, last: u64, out: &mut [u32]) -> CFound
+    ensures { λ a. ⌜ CSearch reading first last (now (out .entry)) a (now (out .exit)) ⌝ }
+{
+    let r = reading_of(reading);
+    flat::flat_found(reading::search(r, capped::cap(first), capped::cap(last), out))
+}
+
+// A sheet read.
+#[no_mangle]
+pub extern "C" fn oes_read_sheet(
+    bytes: &[u8],
+    years: &mut [u16],
+    months: &mut [u32],
+    days: &mut [u32],
+) -> CSheetCounts
+    ensures { λ r. ⌜ CReadSheet (now (bytes .entry)) (now (years .entry)) (now (months .entry)) (now (days .entry)) r
+        (now (years .exit)) (now (months .exit)) (now (days .exit)) ⌝ }
+{
+    flat::flat_counts(sheet::read_sheet(bytes, years, months, days))
+}
+
+// A sheet written.
+#[no_mangle]
+pub extern "C" fn oes_write_sheet(
+    years: &[u16],
+    months: &[u32],
+    days: &[u32],
+    out: &mut [u8],
+) -> CLength
+    ensures { λ r. ⌜ CWriteSheet (now (years .entry)) (now (months .entry)) (now (days .entry)) (now (out .entry)) r
+        (now (out .exit)) ⌝ }
+{
+    flat::flat_length(sheet::write_sheet(years, months, days, out))
+}
+
+// A year's block, a month's line, a `MONTH` line, a `DAY` line.
+#[no_mangle]
+pub extern "C" fn oes_print_year(year: u64, out: &mut [u8]) -> CLength
+    ensures { λ r. ⌜ CPrintYear year (now (out .entry)) r (now (out .exit)) ⌝ }
+{
+    flat::flat_length(lines::print_year(capped::cap(year), out))
+}
+
+#[no_mangle]
+pub extern "C" fn oes_print_month_line(month: u64, out: &mut [u8]) -> CLength
+    ensures { λ r. ⌜ CPrintMonthLine month (now (out .entry)) r (now (out .exit)) ⌝ }
+{
+    flat::flat_length(lines::print_month_line(capped::cap(month), out))
+}
+
+#[no_mangle]
+pub extern "C" fn oes_print_month(month: u64, out: &mut [u8]) -> CLength
+    ensures { λ r. ⌜ CPrintMonth month (now (out .entry)) r (now (out .exit)) ⌝ }
+{
+    flat::flat_length(lines::print_month(capped::cap(month), out))
+}
+
+#[no_mangle]
+pub extern "C" fn oes_print_day(day: u64, out: &mut [u8]) -> CLength
+    ensures { λ r. ⌜ CPrintDay day (now (out .entry)) r (now (out .exit)) ⌝ }
+{
+    flat::flat_length(lines::print_day(capped::cap(day), out))
 }
