@@ -1,0 +1,193 @@
+-- What holds of the calls for C, as statements. proofs/Paper.antt proves each under the same name in small letters.
+-- Assumes nothing.
+use Prim.Native.Nat.{ℕ, _%_}
+use mathlib.Core.Path.{_≡_}
+use mathlib.Core.Logic.{_↔_, _≢_}
+use mathlib.Core.Bool.{Bool, false}
+use mathlib.Core.List.{List}
+use lib.IntN.{ℤ}
+use lib.ListN.{length}
+use Rattle.rule.specs.Reasons.{Answer, is}
+use Rattle.dates.specs.Dates.{dateAt, dayOfDate}
+use Rattle.moves.specs.Moves.{moved}
+use Rattle.facts.specs.Facts.{solsticeYearAt, yearFactsAt, monthFactsAt, quarterAt, termAt}
+use Rattle.reading.specs.Search.{total, searchAt}
+use Rattle.sheet.specs.Sheet.{readInto, writeInto}
+use Rattle.lines.specs.Promises.{yearBlockAt, monthLineAt, monthItemAt, dayItemAt}
+use Rattle.flat.specs.declared.CDate.{CDate}
+use Rattle.flat.specs.declared.CDay.{CDay}
+use Rattle.flat.specs.declared.CSolstice.{CSolstice}
+use Rattle.flat.specs.declared.CYear.{CYear}
+use Rattle.flat.specs.declared.CMonth.{CMonth}
+use Rattle.flat.specs.declared.CQuarter.{CQuarter}
+use Rattle.flat.specs.declared.CFound.{CFound}
+use Rattle.flat.specs.declared.CSheetCounts.{CSheetCounts}
+use Rattle.flat.specs.declared.CLength.{CLength}
+use Rattle.capi.specs.declared.CReading.{CReading}
+use Rattle.capi.specs.Promises.{
+  readingOf,
+  CDateOfDay,
+  CDayOfDate,
+  CMoveDate,
+  CSolsticeYear,
+  CYearFacts,
+  CMonthFacts,
+  CQuarterOf,
+  CTerm,
+  CSearch,
+  CReadSheet,
+  CPrinted,
+  CWriteSheet,
+  CPrintYear,
+  CPrintMonthLine,
+  CPrintMonth,
+  CPrintDay,
+}
+
+-- each promise leaves one answer, and one state of the lent memory
+abbrev pub OnePrinted : (ℕ → List ℕ → CLength → List ℕ → Type 0) → Type 0
+OnePrinted P = (x : ℕ) (o : List ℕ) (a b : CLength) (o₁ o₂ : List ℕ) → P x o a o₁ → P x o b o₂ → (a ≡ b) × (o₁ ≡ o₂)
+
+pub record Unique-exported : Type 0 where
+  pub date-of-day : (d : ℕ) (a b : CDate) → CDateOfDay d a → CDateOfDay d b → a ≡ b
+  pub day-of-date : (y k : ℕ) (l : Bool) (m : ℕ) (a b : CDay) → CDayOfDate y k l m a → CDayOfDate y k l m b → a ≡ b
+  pub move-date : (y k : ℕ) (l : Bool) (m : ℕ) (n : ℤ) (a b : CDate) → CMoveDate y k l m n a → CMoveDate y k l m n b → a ≡ b
+  pub solstice-year : (y : ℕ) (a b : CSolstice) → CSolsticeYear y a → CSolsticeYear y b → a ≡ b
+  pub year-facts : (y : ℕ) (a b : CYear) → CYearFacts y a → CYearFacts y b → a ≡ b
+  pub month-facts : (n : ℕ) (a b : CMonth) → CMonthFacts n a → CMonthFacts n b → a ≡ b
+  pub quarter : (n q : ℕ) (a b : CQuarter) → CQuarterOf n q a → CQuarterOf n q b → a ≡ b
+  pub term : (y k : ℕ) (a b : CDay) → CTerm y k a → CTerm y k b → a ≡ b
+  pub search :
+      (r : CReading) (first last : ℕ) (old : List ℕ) (a b : CFound) (new other : List ℕ) →
+      CSearch r first last old a new → CSearch r first last old b other → (a ≡ b) × (new ≡ other)
+  pub read-sheet :
+      (s y m d : List ℕ) (a b : CSheetCounts) (y₁ m₁ d₁ y₂ m₂ d₂ : List ℕ) →
+      CReadSheet s y m d a y₁ m₁ d₁ → CReadSheet s y m d b y₂ m₂ d₂ → (a ≡ b) × (y₁ ≡ y₂) × (m₁ ≡ m₂) × (d₁ ≡ d₂)
+  pub write-sheet :
+      (y m d o : List ℕ) (a b : CLength) (o₁ o₂ : List ℕ) →
+      CWriteSheet y m d o a o₁ → CWriteSheet y m d o b o₂ → (a ≡ b) × (o₁ ≡ o₂)
+  pub print-year : OnePrinted CPrintYear
+  pub print-month-line : OnePrinted CPrintMonthLine
+  pub print-month : OnePrinted CPrintMonth
+  pub print-day : OnePrinted CPrintDay
+
+-- every field but the reason is nought, of each struct
+pub record BareDate (r : CDate) : Type 0 where
+  pub year : r .year ≡ 0
+  pub number : r .number ≡ 0
+  pub leap : r .leap ≡ false
+  pub day-of-month : r .«day_of_month» ≡ 0
+  pub month-length : r .«month_length» ≡ 0
+  pub day-name : r .«day_name» ≡ 0
+  pub year-name : r .«year_name» ≡ 0
+
+pub record BareDay (r : CDay) : Type 0 where
+  pub day : r .day ≡ 0
+
+pub record BareSolstice (r : CSolstice) : Type 0 where
+  pub ji : r .ji ≡ 0
+  pub bu : r .bu ≡ 0
+  pub year-in-bu : r .«year_in_bu» ≡ 0
+  pub head-name : r .«head_name» ≡ 0
+  pub first-month : r .«first_month» ≡ 0
+  pub leap-remainder : r .«leap_remainder» ≡ 0
+  pub months : r .months ≡ 0
+
+pub record BareYear (r : CYear) : Type 0 where
+  pub name : r .name ≡ 0
+  pub first-month : r .«first_month» ≡ 0
+  pub months : r .months ≡ 0
+  pub has-leap : r .«has_leap» ≡ false
+  pub leap-number : r .«leap_number» ≡ 0
+  pub leap-month : r .«leap_month» ≡ 0
+
+pub record BareMonth (r : CMonth) : Type 0 where
+  pub number : r .number ≡ 0
+  pub leap : r .leap ≡ false
+  pub first-day : r .«first_day» ≡ 0
+  pub small-remainder : r .«small_remainder» ≡ 0
+  pub month-length : r .«month_length» ≡ 0
+  pub first-name : r .«first_name» ≡ 0
+  pub eclipse : r .eclipse ≡ false
+
+pub record BareQuarter (r : CQuarter) : Type 0 where
+  pub day : r .day ≡ 0
+  pub parts : r .parts ≡ 0
+
+pub record BareCounts (r : CSheetCounts) : Type 0 where
+  pub years : r .years ≡ 0
+  pub months : r .months ≡ 0
+  pub days : r .days ≡ 0
+
+pub record BareLength (r : CLength) : Type 0 where
+  pub length : r .length ≡ 0
+
+-- of a search: but the true total n where it is refused with 12
+pub record BareFound (n : ℕ) (a : CFound) : Type 0 where
+  pub other : a .reason ≢ 12 → a .total ≡ 0
+  pub twelve : a .reason ≡ 12 → a .total ≡ n
+
+-- a refusal says nothing but its reason, and has changed nothing that was lent
+abbrev pub RefusedPrint : (ℕ → List ℕ → CLength → List ℕ → Type 0) → Type 0
+RefusedPrint P = (x : ℕ) (o : List ℕ) (r : CLength) (o′ : List ℕ) → P x o r o′ → r .reason ≢ 0 → BareLength r × (o′ ≡ o)
+
+pub record Refusal-is-bare : Type 0 where
+  pub date-of-day : (d : ℕ) (r : CDate) → CDateOfDay d r → r .reason ≢ 0 → BareDate r
+  pub day-of-date : (y k : ℕ) (l : Bool) (m : ℕ) (r : CDay) → CDayOfDate y k l m r → r .reason ≢ 0 → BareDay r
+  pub move-date : (y k : ℕ) (l : Bool) (m : ℕ) (n : ℤ) (r : CDate) → CMoveDate y k l m n r → r .reason ≢ 0 → BareDate r
+  pub solstice-year : (y : ℕ) (r : CSolstice) → CSolsticeYear y r → r .reason ≢ 0 → BareSolstice r
+  pub year-facts : (y : ℕ) (r : CYear) → CYearFacts y r → r .reason ≢ 0 → BareYear r
+  pub month-facts : (n : ℕ) (r : CMonth) → CMonthFacts n r → r .reason ≢ 0 → BareMonth r
+  pub quarter : (n q : ℕ) (r : CQuarter) → CQuarterOf n q r → r .reason ≢ 0 → BareQuarter r
+  pub term : (y k : ℕ) (r : CDay) → CTerm y k r → r .reason ≢ 0 → BareDay r
+  pub search :
+      (r : CReading) (first last : ℕ) (old : List ℕ) (a : CFound) (new : List ℕ) →
+      CSearch r first last old a new → a .reason ≢ 0 → BareFound (total (readingOf r) first last) a × (new ≡ old)
+  pub read-sheet :
+      (s y m d : List ℕ) (r : CSheetCounts) (y′ m′ d′ : List ℕ) →
+      CReadSheet s y m d r y′ m′ d′ → r .reason ≢ 0 → BareCounts r × (y′ ≡ y) × (m′ ≡ m) × (d′ ≡ d)
+  pub write-sheet :
+      (y m d o : List ℕ) (r : CLength) (o′ : List ℕ) → CWriteSheet y m d o r o′ → r .reason ≢ 0 → BareLength r × (o′ ≡ o)
+  pub print-year : RefusedPrint CPrintYear
+  pub print-month-line : RefusedPrint CPrintMonthLine
+  pub print-month : RefusedPrint CPrintMonth
+  pub print-day : RefusedPrint CPrintDay
+
+-- there is an answer
+abbrev pub Answered : {A : Type 0} → Answer A → Type 0
+Answered {A} a = (x : A) × (a ≡ is x)
+
+-- reason 0 says that there is an answer, and nothing else does: the paper's reasons start at 1
+abbrev pub ZeroPrint : (ℕ → ℕ → Answer (List ℕ)) → Type 0
+ZeroPrint f = (x : ℕ) (o : List ℕ) (r : CLength) (o′ : List ℕ) → CPrinted (f x (length o)) o r o′ → (r .reason ≡ 0) ↔ Answered (f x (length o))
+
+pub record Reason-0-iff-answered : Type 0 where
+  pub date-of-day : (d : ℕ) (r : CDate) → CDateOfDay d r → (r .reason ≡ 0) ↔ Answered (dateAt d)
+  pub day-of-date : (y k : ℕ) (l : Bool) (m : ℕ) (r : CDay) → CDayOfDate y k l m r → (r .reason ≡ 0) ↔ Answered (dayOfDate y k l m)
+  pub move-date : (y k : ℕ) (l : Bool) (m : ℕ) (n : ℤ) (r : CDate) → CMoveDate y k l m n r → (r .reason ≡ 0) ↔ Answered (moved y k l m n)
+  pub solstice-year : (y : ℕ) (r : CSolstice) → CSolsticeYear y r → (r .reason ≡ 0) ↔ Answered (solsticeYearAt y)
+  pub year-facts : (y : ℕ) (r : CYear) → CYearFacts y r → (r .reason ≡ 0) ↔ Answered (yearFactsAt y)
+  pub month-facts : (n : ℕ) (r : CMonth) → CMonthFacts n r → (r .reason ≡ 0) ↔ Answered (monthFactsAt n)
+  pub quarter : (n q : ℕ) (r : CQuarter) → CQuarterOf n q r → (r .reason ≡ 0) ↔ Answered (quarterAt n q)
+  pub term : (y k : ℕ) (r : CDay) → CTerm y k r → (r .reason ≡ 0) ↔ Answered (termAt y k)
+  pub search :
+      (r : CReading) (first last : ℕ) (old : List ℕ) (a : CFound) (new : List ℕ) →
+      CSearch r first last old a new → (a .reason ≡ 0) ↔ Answered (searchAt (readingOf r) first last (length old))
+  pub read-sheet :
+      (s y m d : List ℕ) (r : CSheetCounts) (y′ m′ d′ : List ℕ) →
+      CReadSheet s y m d r y′ m′ d′ → (r .reason ≡ 0) ↔ Answered (readInto s (length y) (length m) (length d))
+  pub write-sheet :
+      (y m d o : List ℕ) (r : CLength) (o′ : List ℕ) →
+      CWriteSheet y m d o r o′ → (r .reason ≡ 0) ↔ Answered (writeInto (record { years = y; months = m; days = d }) (length o))
+  pub print-year : ZeroPrint yearBlockAt
+  pub print-month-line : ZeroPrint monthLineAt
+  pub print-month : ZeroPrint monthItemAt
+  pub print-day : ZeroPrint dayItemAt
+
+-- wrong versions, each shut out at some input: one that refuses all, and one that takes a number by its low 32 bits
+pub record Wrong-exported : Type 0 where
+  pub refusing-days : ((d : ℕ) (r : CDate) → CDateOfDay d r → r .reason ≢ 0) → ⊥
+  pub refusing-dates : ((y k : ℕ) (l : Bool) (m : ℕ) (r : CDay) → CDayOfDate y k l m r → r .reason ≢ 0) → ⊥
+  pub low-bits-of-days : ((d : ℕ) (r : CDate) → CDateOfDay d r → CDateOfDay (d % 4294967296) r) → ⊥
+  pub low-bits-of-months : ((n : ℕ) (r : CMonth) → CMonthFacts n r → CMonthFacts (n % 4294967296) r) → ⊥
+  pub low-bits-of-years : ((y : ℕ) (r : CYear) → CYearFacts y r → CYearFacts (y % 4294967296) r) → ⊥
