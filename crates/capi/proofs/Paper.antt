@@ -58,20 +58,21 @@ use Rattle.flat.specs.Flat.{
   noLength,
   flatLength,
 }
-use Rattle.capi.specs.Promises.{readingOf, CPrinted}
-use Rattle.capi.specs.Paper as Paper
-use Rattle.capi.specs.Paper.{
-  Answered,
+use Rattle.flat.specs.Paper.{
   BareDate,
   BareDay,
   BareSolstice,
   BareYear,
   BareMonth,
   BareQuarter,
+  BareFound,
   BareCounts,
   BareLength,
-  BareFound,
 }
+use Rattle.flat.proofs.Paper.{refusals-flat}
+use Rattle.capi.specs.Promises.{readingOf, CPrinted}
+use Rattle.capi.specs.Paper as Paper
+use Rattle.capi.specs.Paper.{Answered}
 use Rattle.capi.proofs.Sound as Sound
 use Rattle.capi.proofs.Sound.{Sound, given, numbered, numbered-with}
 
@@ -148,7 +149,7 @@ module _ {A B R : Type 0} (reason : R → ℕ) (gives : B → R) (bare : ℕ →
 -- printed bytes
 printed-bare : {a : Answer (List ℕ)} {o : List ℕ} {r : CLength} {o′ : List ℕ} → CPrinted a o r o′ → r .reason ≢ 0 → BareLength r × (o′ ≡ o)
 printed-bare {a} {o} {r} p no-zero = (
-  is-bare (λ (x : CLength). x .reason) givenLength noLength (λ x. refl) BareLength (λ k. record { length = refl }) (andThen a (λ b. is (length b))) r (p .answer) no-zero,
+  is-bare (λ (x : CLength). x .reason) givenLength noLength (λ x. refl) BareLength (λ k. refusals-flat .length k .1) (andThen a (λ b. is (length b))) r (p .answer) no-zero,
   p .buffer ∙ untouched (λ (x : CLength). x .reason) givenLength noLength (λ x. refl) length a (λ b. b) o (λ z. no-zero (ap (λ (x : CLength). x .reason) (p .answer) ∙ z)),
 )
 
@@ -160,7 +161,7 @@ counts-bare :
     (a : Answer Lists) (r : CSheetCounts) → r ≡ flatCounts (andThen a (λ l. is (counted l))) → r .reason ≢ 0 →
     BareCounts r × ((g : Lists → List ℕ) (old : List ℕ) → afterwards a g old ≡ old)
 counts-bare a r e no-zero = (
-  is-bare (λ (x : CSheetCounts). x .reason) givenCounts noCounts (λ x. refl) BareCounts (λ k. record { years = refl; months = refl; days = refl }) (andThen a (λ l. is (counted l))) r e no-zero,
+  is-bare (λ (x : CSheetCounts). x .reason) givenCounts noCounts (λ x. refl) BareCounts (λ k. refusals-flat .counts k .1) (andThen a (λ l. is (counted l))) r e no-zero,
   λ g old. untouched (λ (x : CSheetCounts). x .reason) givenCounts noCounts (λ x. refl) counted a g old (λ z. no-zero (ap (λ (x : CSheetCounts). x .reason) e ∙ z)),
 )
 
@@ -204,37 +205,37 @@ module _ (r : Reading) (first last n : ℕ) where
 
 -- each struct
 date-bare : (a : Answer Date) (r : CDate) → r ≡ flat givenDate noDate a → r .reason ≢ 0 → BareDate r
-date-bare = is-bare (λ (x : CDate). x .reason) givenDate noDate (λ x. refl) BareDate (λ k. record { year = refl; number = refl; leap = refl; day-of-month = refl; month-length = refl; day-name = refl; year-name = refl })
+date-bare = is-bare (λ (x : CDate). x .reason) givenDate noDate (λ x. refl) BareDate (λ k. refusals-flat .date k .1)
 
 date-zero : (a : Answer Date) → Sound a → (r : CDate) → r ≡ flat givenDate noDate a → (r .reason ≡ 0) ↔ Answered a
 date-zero = is-zero (λ (x : CDate). x .reason) givenDate noDate (λ x. refl) (λ k. refl)
 
 day-bare : (a : Answer ℕ) (r : CDay) → r ≡ flat givenDay noDay a → r .reason ≢ 0 → BareDay r
-day-bare = is-bare (λ (x : CDay). x .reason) givenDay noDay (λ x. refl) BareDay (λ k. record { day = refl })
+day-bare = is-bare (λ (x : CDay). x .reason) givenDay noDay (λ x. refl) BareDay (λ k. refusals-flat .day k .1)
 
 day-zero : (a : Answer ℕ) → Sound a → (r : CDay) → r ≡ flat givenDay noDay a → (r .reason ≡ 0) ↔ Answered a
 day-zero = is-zero (λ (x : CDay). x .reason) givenDay noDay (λ x. refl) (λ k. refl)
 
 solstice-bare : (a : Answer SolsticeYear) (r : CSolstice) → r ≡ flat givenSolstice noSolstice a → r .reason ≢ 0 → BareSolstice r
-solstice-bare = is-bare (λ (x : CSolstice). x .reason) givenSolstice noSolstice (λ x. refl) BareSolstice (λ k. record { ji = refl; bu = refl; year-in-bu = refl; head-name = refl; first-month = refl; leap-remainder = refl; months = refl })
+solstice-bare = is-bare (λ (x : CSolstice). x .reason) givenSolstice noSolstice (λ x. refl) BareSolstice (λ k. refusals-flat .solstice k .1)
 
 solstice-zero : (a : Answer SolsticeYear) → Sound a → (r : CSolstice) → r ≡ flat givenSolstice noSolstice a → (r .reason ≡ 0) ↔ Answered a
 solstice-zero = is-zero (λ (x : CSolstice). x .reason) givenSolstice noSolstice (λ x. refl) (λ k. refl)
 
 year-bare : (a : Answer YearFacts) (r : CYear) → r ≡ flat givenYear noYear a → r .reason ≢ 0 → BareYear r
-year-bare = is-bare (λ (x : CYear). x .reason) givenYear noYear (λ x. refl) BareYear (λ k. record { name = refl; first-month = refl; months = refl; has-leap = refl; leap-number = refl; leap-month = refl })
+year-bare = is-bare (λ (x : CYear). x .reason) givenYear noYear (λ x. refl) BareYear (λ k. refusals-flat .year k .1)
 
 year-zero : (a : Answer YearFacts) → Sound a → (r : CYear) → r ≡ flat givenYear noYear a → (r .reason ≡ 0) ↔ Answered a
 year-zero = is-zero (λ (x : CYear). x .reason) givenYear noYear (λ x. refl) (λ k. refl)
 
 month-bare : (a : Answer MonthFacts) (r : CMonth) → r ≡ flat givenMonth noMonth a → r .reason ≢ 0 → BareMonth r
-month-bare = is-bare (λ (x : CMonth). x .reason) givenMonth noMonth (λ x. refl) BareMonth (λ k. record { number = refl; leap = refl; first-day = refl; small-remainder = refl; month-length = refl; first-name = refl; eclipse = refl })
+month-bare = is-bare (λ (x : CMonth). x .reason) givenMonth noMonth (λ x. refl) BareMonth (λ k. refusals-flat .month k .1)
 
 month-zero : (a : Answer MonthFacts) → Sound a → (r : CMonth) → r ≡ flat givenMonth noMonth a → (r .reason ≡ 0) ↔ Answered a
 month-zero = is-zero (λ (x : CMonth). x .reason) givenMonth noMonth (λ x. refl) (λ k. refl)
 
 quarter-bare : (a : Answer Quarter) (r : CQuarter) → r ≡ flat givenQuarter noQuarter a → r .reason ≢ 0 → BareQuarter r
-quarter-bare = is-bare (λ (x : CQuarter). x .reason) givenQuarter noQuarter (λ x. refl) BareQuarter (λ k. record { day = refl; parts = refl })
+quarter-bare = is-bare (λ (x : CQuarter). x .reason) givenQuarter noQuarter (λ x. refl) BareQuarter (λ k. refusals-flat .quarter k .1)
 
 quarter-zero : (a : Answer Quarter) → Sound a → (r : CQuarter) → r ≡ flat givenQuarter noQuarter a → (r .reason ≡ 0) ↔ Answered a
 quarter-zero = is-zero (λ (x : CQuarter). x .reason) givenQuarter noQuarter (λ x. refl) (λ k. refl)

@@ -3,7 +3,7 @@
 use Prim.Native.Nat.{ℕ, _%_}
 use mathlib.Core.Path.{_≡_}
 use mathlib.Core.Logic.{_↔_, _≢_}
-use mathlib.Core.Bool.{Bool, false}
+use mathlib.Core.Bool.{Bool}
 use mathlib.Core.List.{List}
 use lib.IntN.{ℤ}
 use lib.ListN.{length}
@@ -23,6 +23,17 @@ use Rattle.flat.specs.declared.CQuarter.{CQuarter}
 use Rattle.flat.specs.declared.CFound.{CFound}
 use Rattle.flat.specs.declared.CSheetCounts.{CSheetCounts}
 use Rattle.flat.specs.declared.CLength.{CLength}
+use Rattle.flat.specs.Paper.{
+  BareDate,
+  BareDay,
+  BareSolstice,
+  BareYear,
+  BareMonth,
+  BareQuarter,
+  BareFound,
+  BareCounts,
+  BareLength,
+}
 use Rattle.capi.specs.declared.CReading.{CReading}
 use Rattle.capi.specs.Promises.{
   readingOf,
@@ -70,62 +81,6 @@ pub record Unique-exported : Type 0 where
   pub print-month-line : OnePrinted CPrintMonthLine
   pub print-month : OnePrinted CPrintMonth
   pub print-day : OnePrinted CPrintDay
-
--- every field but the reason is nought, of each struct
-pub record BareDate (r : CDate) : Type 0 where
-  pub year : r .year ≡ 0
-  pub number : r .number ≡ 0
-  pub leap : r .leap ≡ false
-  pub day-of-month : r .«day_of_month» ≡ 0
-  pub month-length : r .«month_length» ≡ 0
-  pub day-name : r .«day_name» ≡ 0
-  pub year-name : r .«year_name» ≡ 0
-
-pub record BareDay (r : CDay) : Type 0 where
-  pub day : r .day ≡ 0
-
-pub record BareSolstice (r : CSolstice) : Type 0 where
-  pub ji : r .ji ≡ 0
-  pub bu : r .bu ≡ 0
-  pub year-in-bu : r .«year_in_bu» ≡ 0
-  pub head-name : r .«head_name» ≡ 0
-  pub first-month : r .«first_month» ≡ 0
-  pub leap-remainder : r .«leap_remainder» ≡ 0
-  pub months : r .months ≡ 0
-
-pub record BareYear (r : CYear) : Type 0 where
-  pub name : r .name ≡ 0
-  pub first-month : r .«first_month» ≡ 0
-  pub months : r .months ≡ 0
-  pub has-leap : r .«has_leap» ≡ false
-  pub leap-number : r .«leap_number» ≡ 0
-  pub leap-month : r .«leap_month» ≡ 0
-
-pub record BareMonth (r : CMonth) : Type 0 where
-  pub number : r .number ≡ 0
-  pub leap : r .leap ≡ false
-  pub first-day : r .«first_day» ≡ 0
-  pub small-remainder : r .«small_remainder» ≡ 0
-  pub month-length : r .«month_length» ≡ 0
-  pub first-name : r .«first_name» ≡ 0
-  pub eclipse : r .eclipse ≡ false
-
-pub record BareQuarter (r : CQuarter) : Type 0 where
-  pub day : r .day ≡ 0
-  pub parts : r .parts ≡ 0
-
-pub record BareCounts (r : CSheetCounts) : Type 0 where
-  pub years : r .years ≡ 0
-  pub months : r .months ≡ 0
-  pub days : r .days ≡ 0
-
-pub record BareLength (r : CLength) : Type 0 where
-  pub length : r .length ≡ 0
-
--- of a search: but the true total n where it is refused with 12
-pub record BareFound (n : ℕ) (a : CFound) : Type 0 where
-  pub other : a .reason ≢ 12 → a .total ≡ 0
-  pub twelve : a .reason ≡ 12 → a .total ≡ n
 
 -- a refusal says nothing but its reason, and has changed nothing that was lent
 abbrev pub RefusedPrint : (ℕ → List ℕ → CLength → List ℕ → Type 0) → Type 0

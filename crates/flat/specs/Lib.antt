@@ -1,2 +1,3 @@
--- The calls for C: answers laid flat, promises, and statements.
+-- Answers laid flat: definitions, and statements.
 pub mod Flat
+pub mod Paper

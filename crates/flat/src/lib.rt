@@ -403,9 +403,9 @@ pub fn flat_found(a: Found) -> CFound
             reason: 0,
             total: n,
         },
-        Found::TooShort(n) => CFound {
+        Found::TooShort(total) => CFound {
             reason: 12,
-            total: n,
+            total: total,
         },
         Found::Refused(why) => CFound {
             reason: rule::reason_number(why) as u32,

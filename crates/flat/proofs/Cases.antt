@@ -1,0 +1,133 @@
+-- The paper's known dates laid flat, at which a wrong definition shows at once. Assumes nothing.
+use mathlib.Core.Path.{_≡_, refl}
+use mathlib.Core.Bool.{true, false}
+use Rattle.rule.specs.Counts.{dayName, yearName, ji, bu, yearInBu, headName}
+use Rattle.rule.specs.Lists.{those}
+use Rattle.rule.specs.Rule.{
+  monthStart,
+  smallRemainder,
+  monthLength,
+  monthOfDay,
+  quarterDay,
+  quarterParts,
+  termDay,
+  firstMonth,
+  leapRemainder,
+  monthsInYear,
+  yearOfMonth,
+  midTermsBefore,
+  leap,
+  midTermNumber,
+  monthNumber,
+  monthAt,
+  eclipse,
+}
+use Rattle.rule.specs.Reasons.{refused-with}
+use Rattle.dates.specs.Dates.{dateIn, dateOf, dateAt, namedMonth, dayInMonth, dayOfNamed, dayOfDate}
+use Rattle.facts.specs.Facts.{
+  solsticeYear,
+  solsticeYearAt,
+  leapMonth,
+  yearFacts,
+  yearFactsAt,
+  monthFacts,
+  monthFactsAt,
+  quarterOf,
+  quarterAt,
+  termAt,
+}
+use Rattle.flat.specs.Flat.{flatDate, flatDay, flatSolstice, flatYear, flatMonth, flatQuarter, flatFound}
+
+-- case 3: the last day, leap 10, and the day after it
+pub last-day :
+    flatDate (dateAt 14989859)
+    ≡ record {
+      reason = 0;
+      year = 41040;
+      number = 10;
+      leap = true;
+      «day_of_month» = 30;
+      «month_length» = 30;
+      «day_name» = 60;
+      «year_name» = 16;
+    }
+unfolding dateAt dateOf dateIn yearOfMonth monthOfDay monthAt leap monthNumber midTermNumber midTermsBefore monthStart monthLength dayName yearName
+last-day = refl
+
+pub day-after-the-last :
+    flatDate (dateAt 14989860)
+    ≡ record {
+      reason = 6;
+      year = 0;
+      number = 0;
+      leap = false;
+      «day_of_month» = 0;
+      «month_length» = 0;
+      «day_name» = 0;
+      «year_name» = 0;
+    }
+unfolding dateAt
+day-after-the-last = refl
+
+-- case 9: "Year 11, leap 8, day 1: reason 4"
+pub leap-8-of-11 : flatDay (dayOfDate 11 8 true 1) ≡ record { reason = 4; day = 0 }
+unfolding dayOfDate dayOfNamed namedMonth leap midTermsBefore monthOfDay monthStart termDay
+leap-8-of-11 = refl
+
+-- cases 5 and 6: the place of year 9,366, its full moon and its solstice
+pub place-of-9366 :
+    flatSolstice (solsticeYearAt 9366)
+    ≡ record {
+      reason = 0;
+      ji = 1;
+      bu = 4;
+      «year_in_bu» = 18;
+      «head_name» = 58;
+      «first_month» = 115830;
+      «leap_remainder» = 5;
+      months = 12;
+    }
+unfolding solsticeYearAt solsticeYear ji bu yearInBu headName dayName firstMonth leapRemainder monthsInYear
+place-of-9366 = refl
+
+pub full-moon-of-115830 : flatQuarter (quarterAt 115830 2) ≡ record { reason = 0; day = 3420573; parts = 918 }
+unfolding quarterAt quarterOf quarterDay quarterParts
+full-moon-of-115830 = refl
+
+pub solstice-of-9366 : flatDay (termAt 9366 0) ≡ record { reason = 0; day = 3420566 }
+unfolding termAt termDay
+solstice-of-9366 = refl
+
+-- cases 8 and 10: "Year 11: leap 9, month 134", an eclipse month
+pub year-11 :
+    flatYear (yearFactsAt 11)
+    ≡ record {
+      reason = 0;
+      name = 27;
+      «first_month» = 123;
+      months = 13;
+      «has_leap» = true;
+      «leap_number» = 9;
+      «leap_month» = 134;
+    }
+unfolding yearFactsAt yearFacts leapMonth those yearName firstMonth monthsInYear leap monthNumber midTermNumber midTermsBefore monthStart
+year-11 = refl
+
+pub month-134 :
+    flatMonth (monthFactsAt 134)
+    ≡ record {
+      reason = 0;
+      number = 9;
+      leap = true;
+      «first_day» = 3957;
+      «small_remainder» = 126;
+      «month_length» = 29;
+      «first_name» = 58;
+      eclipse = true;
+    }
+unfolding monthFactsAt monthFacts monthAt leap monthNumber midTermNumber midTermsBefore monthStart smallRemainder monthLength dayName eclipse
+month-134 = refl
+
+-- "a search refused with 12 also returns the true total"
+pub true-total : flatFound (refused-with 12 27759) ≡ record { reason = 12; total = 27759 }
+true-total = refl

@@ -1,0 +1,156 @@
+-- Proofs of the statements about answers laid flat. Assumes nothing.
+use Prim.Native.Nat.{ℕ}
+use mathlib.Core.Path.{_≡_, refl, ap}
+use mathlib.Core.Bool.{Bool, true, false}
+use Rattle.rule.specs.Rule.{marked, numberOf, leapMark}
+use Rattle.rule.specs.declared.Month.{Month}
+use Rattle.rule.specs.declared.Month.the-variants.{Ordinary, Leap}
+use Rattle.rule.specs.declared.Quarter.{Quarter}
+use Rattle.rule.proofs.Answers.{one-to-one}
+use Rattle.dates.specs.declared.Date.{Date}
+use Rattle.facts.specs.declared.SolsticeYear.{SolsticeYear}
+use Rattle.facts.specs.declared.LeapMonth.{LeapMonth}
+use Rattle.facts.specs.declared.LeapMonth.the-variants.{Without, With}
+use Rattle.facts.specs.declared.YearFacts.{YearFacts}
+use Rattle.facts.specs.declared.MonthFacts.{MonthFacts}
+use Rattle.sheet.specs.declared.Counted.{Counted}
+use Rattle.flat.specs.declared.CDate.{CDate}
+use Rattle.flat.specs.declared.CDay.{CDay}
+use Rattle.flat.specs.declared.CSolstice.{CSolstice}
+use Rattle.flat.specs.declared.CYear.{CYear}
+use Rattle.flat.specs.declared.CMonth.{CMonth}
+use Rattle.flat.specs.declared.CQuarter.{CQuarter}
+use Rattle.flat.specs.declared.CSheetCounts.{CSheetCounts}
+use Rattle.flat.specs.declared.CLength.{CLength}
+use Rattle.flat.specs.Flat.{givenDate, givenDay, givenSolstice, hasLeap, leapNumber, leapCount, givenYear, givenMonth, givenQuarter, givenCounts, givenLength}
+use Rattle.flat.specs.Paper as Paper
+
+pub refusals-flat : Paper.Refusals-flat
+refusals-flat =
+    record {
+      date = λ k. (
+        refl,
+        record {
+          year = refl;
+          number = refl;
+          leap = refl;
+          day-of-month = refl;
+          month-length = refl;
+          day-name = refl;
+          year-name = refl;
+        },
+      );
+      day = λ k. (refl, record { day = refl });
+      solstice = λ k. (
+        refl,
+        record {
+          ji = refl;
+          bu = refl;
+          year-in-bu = refl;
+          head-name = refl;
+          first-month = refl;
+          leap-remainder = refl;
+          months = refl;
+        },
+      );
+      year = λ k. (
+        refl,
+        record { name = refl; first-month = refl; months = refl; has-leap = refl; leap-number = refl; leap-month = refl },
+      );
+      month = λ k. (
+        refl,
+        record {
+          number = refl;
+          leap = refl;
+          first-day = refl;
+          small-remainder = refl;
+          month-length = refl;
+          first-name = refl;
+          eclipse = refl;
+        },
+      );
+      quarter = λ k. (refl, record { day = refl; parts = refl });
+      found = λ k. (refl, refl);
+      too-short = λ k n. (refl, refl);
+      counts = λ k. (refl, record { years = refl; months = refl; days = refl });
+      length = λ k. (refl, record { length = refl });
+    }
+
+-- a month, and a leap month, from their parts
+month-back : (m : Month) → marked (leapMark m) (numberOf m) ≡ m
+month-back (Ordinary k) = refl
+month-back (Leap k) = refl
+
+abbrev leapFrom : Bool → ℕ → ℕ → LeapMonth
+leapFrom true k n = With k n
+leapFrom false k n = Without
+
+leap-back : (l : LeapMonth) → leapFrom (hasLeap l) (leapNumber l) (leapCount l) ≡ l
+leap-back Without = refl
+leap-back (With k n) = refl
+
+-- each answer from its struct
+abbrev dateFrom : CDate → Date
+dateFrom r =
+    record {
+      year = r .year;
+      month = marked (r .leap) (r .number);
+      «day_of_month» = r .«day_of_month»;
+      «month_length» = r .«month_length»;
+      «day_name» = r .«day_name»;
+      «year_name» = r .«year_name»;
+    }
+
+abbrev solsticeFrom : CSolstice → SolsticeYear
+solsticeFrom r =
+    record {
+      ji = r .ji;
+      bu = r .bu;
+      «year_in_bu» = r .«year_in_bu»;
+      «head_name» = r .«head_name»;
+      «first_month» = r .«first_month»;
+      «leap_remainder» = r .«leap_remainder»;
+      months = r .months;
+    }
+
+abbrev yearFrom : CYear → YearFacts
+yearFrom r =
+    record {
+      name = r .name;
+      «first_month» = r .«first_month»;
+      months = r .months;
+      «leap_month» = leapFrom (r .«has_leap») (r .«leap_number») (r .«leap_month»);
+    }
+
+abbrev monthFrom : CMonth → MonthFacts
+monthFrom r =
+    record {
+      month = marked (r .leap) (r .number);
+      «first_day» = r .«first_day»;
+      «small_remainder» = r .«small_remainder»;
+      «month_length» = r .«month_length»;
+      «first_name» = r .«first_name»;
+      eclipse = r .eclipse;
+    }
+
+abbrev quarterFrom : CQuarter → Quarter
+quarterFrom r = record { day = r .day; parts = r .parts }
+
+abbrev countsFrom : CSheetCounts → Counted
+countsFrom r = record { years = r .years; months = r .months; days = r .days }
+
+pub nothing-lost : Paper.Nothing-lost
+nothing-lost =
+    record {
+      date = one-to-one givenDate dateFrom
+          (λ d. ap (λ (m : Month). record { year = d .year; month = m; «day_of_month» = d .«day_of_month»; «month_length» = d .«month_length»; «day_name» = d .«day_name»; «year_name» = d .«year_name» }) (month-back (d .month)));
+      day = λ a b e. ap (λ (r : CDay). r .day) e;
+      solstice = one-to-one givenSolstice solsticeFrom (λ s. refl);
+      year = one-to-one givenYear yearFrom
+          (λ y. ap (λ (l : LeapMonth). record { name = y .name; «first_month» = y .«first_month»; months = y .months; «leap_month» = l }) (leap-back (y .«leap_month»)));
+      month = one-to-one givenMonth monthFrom
+          (λ f. ap (λ (m : Month). record { month = m; «first_day» = f .«first_day»; «small_remainder» = f .«small_remainder»; «month_length» = f .«month_length»; «first_name» = f .«first_name»; eclipse = f .eclipse }) (month-back (f .month)));
+      quarter = one-to-one givenQuarter quarterFrom (λ q. refl);
+      counts = one-to-one givenCounts countsFrom (λ c. refl);
+      length = λ a b e. ap (λ (r : CLength). r .length) e;
+    }
