@@ -8,29 +8,21 @@ ghost use Rattle.flat.specs.Flat.{
   givenDate,
   noDate,
   flatDate,
-  givenDay,
   noDay,
   flatDay,
-  givenSolstice,
   noSolstice,
   flatSolstice,
-  hasLeap,
-  leapNumber,
-  leapCount,
   givenYear,
   noYear,
   flatYear,
   givenMonth,
   noMonth,
   flatMonth,
-  givenQuarter,
   noQuarter,
   flatQuarter,
   flatFound,
-  givenCounts,
   noCounts,
   flatCounts,
-  givenLength,
   noLength,
   flatLength,
 };
@@ -41,14 +33,11 @@ use facts::LeapMonth;
 use facts::MonthFacts;
 use facts::MonthTold;
 use facts::QuarterTold;
-use facts::SolsticeYear;
 use facts::SolsticeYearTold;
 use facts::TermTold;
 use facts::YearFacts;
 use facts::YearTold;
 use reading::Found;
-use rule::Quarter;
-use sheet::Counted;
 use sheet::HowMany;
 use sheet::SheetCounts;
 
@@ -141,7 +130,7 @@ pub struct CLength {
     pub length: usize,
 }
 
-// A date laid flat, a refusal of one, and an answer.
+// A date laid flat, the refusal of one, and an answer.
 fn given_date(d: Date) -> CDate
     ensures { λ r. ⌜ r ≡ givenDate d ⌝ }
 {
@@ -183,12 +172,6 @@ pub fn flat_date(a: Dated) -> CDate
 }
 
 // The same of a day: of a date's, and of a term's.
-fn given_day(d: u32) -> CDay
-    ensures { λ r. ⌜ r ≡ givenDay d ⌝ }
-{
-    CDay { reason: 0, day: d }
-}
-
 fn no_day(reason: u8) -> CDay
     ensures { λ r. ⌜ r ≡ noDay reason ⌝ }
 {
@@ -202,7 +185,7 @@ pub fn flat_day(a: DayFound) -> CDay
     ensures { λ r. ⌜ r ≡ flatDay (saidDay a) ⌝ }
 {
     match a {
-        DayFound::Is(d) => given_day(d),
+        DayFound::Is(d) => CDay { reason: 0, day: d },
         DayFound::Refused(why) => no_day(rule::reason_number(why)),
     }
 }
@@ -211,27 +194,12 @@ pub fn flat_term(a: TermTold) -> CDay
     ensures { λ r. ⌜ r ≡ flatDay (saidTerm a) ⌝ }
 {
     match a {
-        TermTold::Is(d) => given_day(d),
+        TermTold::Is(d) => CDay { reason: 0, day: d },
         TermTold::Refused(why) => no_day(rule::reason_number(why)),
     }
 }
 
 // The same of a solstice year.
-fn given_solstice(s: SolsticeYear) -> CSolstice
-    ensures { λ r. ⌜ r ≡ givenSolstice s ⌝ }
-{
-    CSolstice {
-        reason: 0,
-        ji: s.ji as u32,
-        bu: s.bu as u32,
-        year_in_bu: s.year_in_bu as u32,
-        head_name: s.head_name as u32,
-        first_month: s.first_month,
-        leap_remainder: s.leap_remainder as u32,
-        months: s.months as u32,
-    }
-}
-
 fn no_solstice(reason: u8) -> CSolstice
     ensures { λ r. ⌜ r ≡ noSolstice reason ⌝ }
 {
@@ -251,36 +219,17 @@ pub fn flat_solstice(a: SolsticeYearTold) -> CSolstice
     ensures { λ r. ⌜ r ≡ flatSolstice (saidSolsticeYear a) ⌝ }
 {
     match a {
-        SolsticeYearTold::Is(s) => given_solstice(s),
+        SolsticeYearTold::Is(s) => CSolstice {
+            reason: 0,
+            ji: s.ji as u32,
+            bu: s.bu as u32,
+            year_in_bu: s.year_in_bu as u32,
+            head_name: s.head_name as u32,
+            first_month: s.first_month,
+            leap_remainder: s.leap_remainder as u32,
+            months: s.months as u32,
+        },
         SolsticeYearTold::Refused(why) => no_solstice(rule::reason_number(why)),
-    }
-}
-
-// A leap month, if there is one: whether, its number, its count.
-fn has_leap(l: LeapMonth) -> bool
-    ensures { λ r. ⌜ r ≡ hasLeap l ⌝ }
-{
-    match l {
-        LeapMonth::Without => false,
-        LeapMonth::With(_, _) => true,
-    }
-}
-
-fn leap_number(l: LeapMonth) -> u32
-    ensures { λ r. ⌜ r ≡ leapNumber l ⌝ }
-{
-    match l {
-        LeapMonth::Without => 0,
-        LeapMonth::With(k, _) => k as u32,
-    }
-}
-
-fn leap_count(l: LeapMonth) -> u32
-    ensures { λ r. ⌜ r ≡ leapCount l ⌝ }
-{
-    match l {
-        LeapMonth::Without => 0,
-        LeapMonth::With(_, n) => n,
     }
 }
 
@@ -289,14 +238,25 @@ fn given_year(y: YearFacts) -> CYear
     ensures { λ r. ⌜ r ≡ givenYear y ⌝ }
 {
     let l = y.leap_month;
-    CYear {
-        reason: 0,
-        name: y.name as u32,
-        first_month: y.first_month,
-        months: y.months as u32,
-        has_leap: has_leap(l),
-        leap_number: leap_number(l),
-        leap_month: leap_count(l),
+    match l {
+        LeapMonth::Without => CYear {
+            reason: 0,
+            name: y.name as u32,
+            first_month: y.first_month,
+            months: y.months as u32,
+            has_leap: false,
+            leap_number: 0,
+            leap_month: 0,
+        },
+        LeapMonth::With(k, n) => CYear {
+            reason: 0,
+            name: y.name as u32,
+            first_month: y.first_month,
+            months: y.months as u32,
+            has_leap: true,
+            leap_number: k as u32,
+            leap_month: n,
+        },
     }
 }
 
@@ -365,16 +325,6 @@ pub fn flat_month(a: MonthTold) -> CMonth
 }
 
 // The same of a quarter.
-fn given_quarter(q: Quarter) -> CQuarter
-    ensures { λ r. ⌜ r ≡ givenQuarter q ⌝ }
-{
-    CQuarter {
-        reason: 0,
-        day: q.day,
-        parts: q.parts as u32,
-    }
-}
-
 fn no_quarter(reason: u8) -> CQuarter
     ensures { λ r. ⌜ r ≡ noQuarter reason ⌝ }
 {
@@ -389,7 +339,11 @@ pub fn flat_quarter(a: QuarterTold) -> CQuarter
     ensures { λ r. ⌜ r ≡ flatQuarter (saidQuarter a) ⌝ }
 {
     match a {
-        QuarterTold::Is(q) => given_quarter(q),
+        QuarterTold::Is(q) => CQuarter {
+            reason: 0,
+            day: q.day,
+            parts: q.parts as u32,
+        },
         QuarterTold::Refused(why) => no_quarter(rule::reason_number(why)),
     }
 }
@@ -415,17 +369,6 @@ pub fn flat_found(a: Found) -> CFound
 }
 
 // The same of a sheet's counts.
-fn given_counts(c: Counted) -> CSheetCounts
-    ensures { λ r. ⌜ r ≡ givenCounts c ⌝ }
-{
-    CSheetCounts {
-        reason: 0,
-        years: c.years,
-        months: c.months,
-        days: c.days,
-    }
-}
-
 fn no_counts(reason: u8) -> CSheetCounts
     ensures { λ r. ⌜ r ≡ noCounts reason ⌝ }
 {
@@ -441,21 +384,17 @@ pub fn flat_counts(a: SheetCounts) -> CSheetCounts
     ensures { λ r. ⌜ r ≡ flatCounts (saidCounts a) ⌝ }
 {
     match a {
-        SheetCounts::Is(c) => given_counts(c),
+        SheetCounts::Is(c) => CSheetCounts {
+            reason: 0,
+            years: c.years,
+            months: c.months,
+            days: c.days,
+        },
         SheetCounts::Refused(why) => no_counts(rule::reason_number(why)),
     }
 }
 
 // The same of a length.
-fn given_length(n: usize) -> CLength
-    ensures { λ r. ⌜ r ≡ givenLength n ⌝ }
-{
-    CLength {
-        reason: 0,
-        length: n,
-    }
-}
-
 fn no_length(reason: u8) -> CLength
     ensures { λ r. ⌜ r ≡ noLength reason ⌝ }
 {
@@ -469,7 +408,10 @@ pub fn flat_length(a: HowMany) -> CLength
     ensures { λ r. ⌜ r ≡ flatLength (saidHowMany a) ⌝ }
 {
     match a {
-        HowMany::Is(n) => given_length(n),
+        HowMany::Is(n) => CLength {
+            reason: 0,
+            length: n,
+        },
         HowMany::Refused(why) => no_length(rule::reason_number(why)),
     }
 }

@@ -9,9 +9,6 @@ use Rattle.flat.proofs.flat_counts.Tie as tie
 enum-known-a : tie.Need-enum-known-a
 enum-known-a c = search needs
 
-given-counts-requires : tie.Need-given-counts-requires
-given-counts-requires c κs = search needs
-
 enum-known-a-2 : tie.Need-enum-known-a-2
 enum-known-a-2 c = search needs
 
@@ -22,7 +19,7 @@ no-counts-requires : tie.Need-no-counts-requires
 no-counts-requires c κs = search needs
 
 returns : tie.Need-returns
-returns c = c .given-counts .ensures ∙ sym (ap flatCounts (ap saidCounts (c .before .before .a .given .1)))
+returns c = sym (ap flatCounts (ap saidCounts (c .before .a .given .1)))
 
 returns-2 : tie.Need-returns-2
 returns-2 c = c .no-counts .ensures ∙ ap noCounts (c .before .reason-number .ensures) ∙ sym (ap flatCounts (ap saidCounts (c .before .before .before .a2 .given .1)))
@@ -32,7 +29,6 @@ flat-counts-spec =
     tie.close
     (tie.spec
     enum-known-a
-    given-counts-requires
     enum-known-a-2
     reason-number-requires
     no-counts-requires

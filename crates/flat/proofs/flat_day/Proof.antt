@@ -9,9 +9,6 @@ use Rattle.flat.proofs.flat_day.Tie as tie
 enum-known-a : tie.Need-enum-known-a
 enum-known-a c = search needs
 
-given-day-requires : tie.Need-given-day-requires
-given-day-requires c κs = search needs
-
 enum-known-a-2 : tie.Need-enum-known-a-2
 enum-known-a-2 c = search needs
 
@@ -22,7 +19,7 @@ no-day-requires : tie.Need-no-day-requires
 no-day-requires c κs = search needs
 
 returns : tie.Need-returns
-returns c = c .given-day .ensures ∙ sym (ap flatDay (ap saidDay (c .before .before .a .given .1)))
+returns c = sym (ap flatDay (ap saidDay (c .before .a .given .1)))
 
 returns-2 : tie.Need-returns-2
 returns-2 c = c .no-day .ensures ∙ ap noDay (c .before .reason-number .ensures) ∙ sym (ap flatDay (ap saidDay (c .before .before .before .a2 .given .1)))
@@ -30,11 +27,4 @@ returns-2 c = c .no-day .ensures ∙ ap noDay (c .before .reason-number .ensures
 pub flat-day-spec : {M : Type 1} → statement M
 flat-day-spec =
     tie.close
-    (tie.spec
-    enum-known-a
-    given-day-requires
-    enum-known-a-2
-    reason-number-requires
-    no-day-requires
-    returns
-    returns-2)
+    (tie.spec enum-known-a enum-known-a-2 reason-number-requires no-day-requires returns returns-2)

@@ -9,9 +9,6 @@ use Rattle.flat.proofs.flat_length.Tie as tie
 enum-known-a : tie.Need-enum-known-a
 enum-known-a c = search needs
 
-given-length-requires : tie.Need-given-length-requires
-given-length-requires c κs = search needs
-
 enum-known-a-2 : tie.Need-enum-known-a-2
 enum-known-a-2 c = search needs
 
@@ -22,7 +19,7 @@ no-length-requires : tie.Need-no-length-requires
 no-length-requires c κs = search needs
 
 returns : tie.Need-returns
-returns c = c .given-length .ensures ∙ sym (ap flatLength (ap saidHowMany (c .before .before .a .given .1)))
+returns c = sym (ap flatLength (ap saidHowMany (c .before .a .given .1)))
 
 returns-2 : tie.Need-returns-2
 returns-2 c = c .no-length .ensures ∙ ap noLength (c .before .reason-number .ensures) ∙ sym (ap flatLength (ap saidHowMany (c .before .before .before .a2 .given .1)))
@@ -32,7 +29,6 @@ flat-length-spec =
     tie.close
     (tie.spec
     enum-known-a
-    given-length-requires
     enum-known-a-2
     reason-number-requires
     no-length-requires

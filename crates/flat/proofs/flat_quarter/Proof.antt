@@ -9,8 +9,8 @@ use Rattle.flat.proofs.flat_quarter.Tie as tie
 enum-known-a : tie.Need-enum-known-a
 enum-known-a c = search needs
 
-given-quarter-requires : tie.Need-given-quarter-requires
-given-quarter-requires c κs = search needs
+cast-t5 : tie.Need-cast-t5
+cast-t5 c = search needs
 
 enum-known-a-2 : tie.Need-enum-known-a-2
 enum-known-a-2 c = search needs
@@ -22,7 +22,7 @@ no-quarter-requires : tie.Need-no-quarter-requires
 no-quarter-requires c κs = search needs
 
 returns : tie.Need-returns
-returns c = c .given-quarter .ensures ∙ sym (ap flatQuarter (ap saidQuarter (c .before .before .a .given .1)))
+returns c = sym (ap flatQuarter (ap saidQuarter (c .before .before .a .given .1)))
 
 returns-2 : tie.Need-returns-2
 returns-2 c = c .no-quarter .ensures ∙ ap noQuarter (c .before .reason-number .ensures) ∙ sym (ap flatQuarter (ap saidQuarter (c .before .before .before .a2 .given .1)))
@@ -32,7 +32,7 @@ flat-quarter-spec =
     tie.close
     (tie.spec
     enum-known-a
-    given-quarter-requires
+    cast-t5
     enum-known-a-2
     reason-number-requires
     no-quarter-requires

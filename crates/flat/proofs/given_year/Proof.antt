@@ -1,27 +1,37 @@
--- `flat::given_year` meets its contract. Assumes nothing.
+-- `flat::given_year` meets its contract: with a leap month, or without. Assumes nothing.
+use mathlib.Core.Path.{refl}
 use borrow.Author.Needs.{needs}
 use Rattle.flat.proofs.given_year.Statement.{statement}
 use Rattle.flat.proofs.given_year.Tie as tie
 
-cast-t3 : tie.Need-cast-t3
-cast-t3 c = search needs
+enum-told : tie.Need-enum-told
+enum-told c = search needs
 
-cast-t4 : tie.Need-cast-t4
-cast-t4 c = search needs
+cast-t6 : tie.Need-cast-t6
+cast-t6 c = search needs
 
-has-leap-requires : tie.Need-has-leap-requires
-has-leap-requires c κs = search needs
+cast-t7 : tie.Need-cast-t7
+cast-t7 c = search needs
 
-leap-number-requires : tie.Need-leap-number-requires
-leap-number-requires c κs = search needs
+enum-known-l : tie.Need-enum-known-l
+enum-known-l c = search needs
 
-leap-count-requires : tie.Need-leap-count-requires
-leap-count-requires c κs = search needs
+cast-t8 : tie.Need-cast-t8
+cast-t8 c = search needs
+
+cast-t9 : tie.Need-cast-t9
+cast-t9 c = search needs
+
+cast-t10 : tie.Need-cast-t10
+cast-t10 c = search needs
 
 returns : tie.Need-returns
-returns c = cc
+returns c = rw (c .before .before .enum-told .given .1) refl
+
+returns-2 : tie.Need-returns-2
+returns-2 c = rw (c .before .before .before .l .given .1) refl
 
 pub given-year-spec : {M : Type 1} → statement M
 given-year-spec =
     tie.close
-    (tie.spec cast-t3 cast-t4 has-leap-requires leap-number-requires leap-count-requires returns)
+    (tie.spec enum-told cast-t6 cast-t7 enum-known-l cast-t8 cast-t9 cast-t10 returns returns-2)
