@@ -278,9 +278,9 @@ static void sheet(void)
 static void counts(void)
 {
     const uint8_t bytes[14] = {2, 0, 11, 0, 12, 0, 0, 0, 1, 0, 29, 0, 0, 0};
-    uint16_t y[2];
-    uint32_t m[1];
-    uint32_t d[1];
+    uint16_t y[2] = {0};
+    uint32_t m[1] = {0};
+    uint32_t d[1] = {0};
     oes_sheet_counts c = oes_read_sheet(bytes, 14, y, 2, m, 0, d, 1);
     SAME(c.reason, 0);
     SAME(c.years, 2);

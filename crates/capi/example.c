@@ -69,11 +69,11 @@ static void sheet(void)
 {
     const uint16_t years[1] = {11};
     const uint32_t none[1] = {0};
-    uint8_t bytes[8];
-    uint16_t years_read[1];
-    uint32_t months_read[1];
-    uint32_t days_read[1];
-    uint8_t text[674];
+    uint8_t bytes[8] = {0};
+    uint16_t years_read[1] = {0};
+    uint32_t months_read[1] = {0};
+    uint32_t days_read[1] = {0};
+    uint8_t text[674] = {0};
     oes_length written = oes_write_sheet(years, 1, none, 0, none, 0, bytes, sizeof bytes);
     printf("sheet:");
     for (size_t i = 0; i < written.length; i++) {
