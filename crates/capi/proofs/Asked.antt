@@ -8,13 +8,12 @@ use mathlib.Core.List.{List}
 use lib.IntN.{ℤ}
 use lib.ListN.{length}
 use Rattle.rule.specs.Reasons.{Answer}
-use Rattle.dates.specs.Dates.{dateAt, dayOfDate}
+use Rattle.dates.specs.Dates.{dayOfDate}
 use Rattle.moves.specs.Moves.{moved}
-use Rattle.facts.specs.Facts.{solsticeYearAt, yearFactsAt, monthFactsAt, quarterAt, termAt}
 use Rattle.reading.specs.declared.Reading.{Reading}
 use Rattle.reading.specs.declared.Found.{Found}
 use Rattle.reading.specs.Readings.{windowDays, fitting}
-use Rattle.reading.specs.Search.{searchAt, saidFound, listAfter, Searched}
+use Rattle.reading.specs.Search.{saidFound, listAfter, Searched}
 use Rattle.sheet.specs.declared.HowMany.{HowMany}
 use Rattle.sheet.specs.Promises.{saidHowMany}
 use Rattle.lines.specs.Lines.{yearBlock, monthLined, monthItem, dayItem}

@@ -1,5 +1,4 @@
 -- Figures at which a wrong promise shows at once. Assumes nothing.
-use Prim.Native.Nat.{ℕ}
 use mathlib.Core.Path.{_≡_, refl, ap}
 use mathlib.Core.Bool.{true, false}
 use Rattle.dates.specs.Dates.{dateAt}

@@ -1,5 +1,5 @@
 -- Proofs of the statements about the calls for C. Assumes nothing.
-use Prim.Native.Nat.{ℕ, _<_, _%_}
+use Prim.Native.Nat.{ℕ, _<_}
 use native.Mathlib.Omega.{arith}
 use mathlib.Core.Path.{_≡_, refl, ap, sym, _∙_}
 use mathlib.Core.Logic.{_↔_, _≢_, Iff·trans}
@@ -20,9 +20,8 @@ use Rattle.facts.specs.Facts.{solsticeYearAt, yearFactsAt, monthFactsAt, quarte
 use Rattle.reading.specs.declared.Reading.{Reading}
 use Rattle.reading.specs.Readings.{inRanges, windowDays, windowHolds, fitting}
 use Rattle.reading.specs.Search.{total, withRoom, searchAt, listAfter}
-use Rattle.sheet.specs.Sheet.{Lists, readInto, writeInto, afterwards}
+use Rattle.sheet.specs.Sheet.{Lists, readInto, afterwards}
 use Rattle.sheet.specs.Promises.{counted}
-use Rattle.lines.specs.Promises.{yearBlockAt, monthLineAt, monthItemAt, dayItemAt}
 use Rattle.flat.specs.declared.CDate.{CDate}
 use Rattle.flat.specs.declared.CDay.{CDay}
 use Rattle.flat.specs.declared.CSolstice.{CSolstice}
@@ -56,7 +55,6 @@ use Rattle.flat.specs.Flat.{
   flatCounts,
   givenLength,
   noLength,
-  flatLength,
 }
 use Rattle.flat.specs.Paper.{
   BareDate,

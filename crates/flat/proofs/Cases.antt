@@ -23,7 +23,7 @@ use Rattle.rule.specs.Rule.{
   eclipse,
 }
 use Rattle.rule.specs.Reasons.{refused-with}
-use Rattle.dates.specs.Dates.{dateIn, dateOf, dateAt, namedMonth, dayInMonth, dayOfNamed, dayOfDate}
+use Rattle.dates.specs.Dates.{dateIn, dateOf, dateAt, namedMonth, dayOfNamed, dayOfDate}
 use Rattle.facts.specs.Facts.{
   solsticeYear,
   solsticeYearAt,

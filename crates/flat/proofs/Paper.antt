@@ -22,7 +22,7 @@ use Rattle.flat.specs.declared.CMonth.{CMonth}
 use Rattle.flat.specs.declared.CQuarter.{CQuarter}
 use Rattle.flat.specs.declared.CSheetCounts.{CSheetCounts}
 use Rattle.flat.specs.declared.CLength.{CLength}
-use Rattle.flat.specs.Flat.{givenDate, givenDay, givenSolstice, hasLeap, leapNumber, leapCount, givenYear, givenMonth, givenQuarter, givenCounts, givenLength}
+use Rattle.flat.specs.Flat.{givenDate, givenSolstice, hasLeap, leapNumber, leapCount, givenYear, givenMonth, givenQuarter, givenCounts}
 use Rattle.flat.specs.Paper as Paper
 
 pub refusals-flat : Paper.Refusals-flat
