@@ -1,6 +1,202 @@
 -- The statements of specs/Paper, proved, each under its own name. Assumes nothing.
+use Prim.Native.Nat.{ℕ, _+_, _-_}
+use native.Mathlib.Omega.{arith}
+use mathlib.Core.Path.{_≡_, refl, ap, ap₂, sym, _∙_}
+use mathlib.Core.Logic.{_↔_}
+use mathlib.Core.Bool.{Bool, true, false, _&&_}
+use mathlib.Core.List.{List, [], _∷_, _++_}
+use lib.Dec.{leb}
+use lib.IntN.{ℤ, pos, negsuc, _+ℤ_}
+use lib.ListN.{getD}
+use Rattle.rule.specs.Counts.{DayInRange}
+use Rattle.rule.specs.Rule.{monthStart, monthLength, monthOfDay, termDay, yearTerm, numberOf, leapMark}
+use Rattle.rule.specs.Reasons.{Answer, is, refused, refused-with, guard, within, andThen, reasonNumber}
+use Rattle.rule.proofs.Answers.{at-most, holds-all}
+use Rattle.rule.proofs.Leap.{number-at, mark-at}
+use Rattle.dates.specs.declared.Date.{Date}
+use Rattle.dates.specs.Dates.{dateIn, dateOf, dateAt, isThere, monthAsked, dayInMonth, dayOfNamed, dayOfDate}
+use Rattle.dates.proofs.Paper as Dates
+use Rattle.moves.specs.Moves.{landed, moved}
+use Rattle.moves.proofs.Paper as Moves
+use Rattle.facts.specs.declared.LeapMonth.{LeapMonth}
+use Rattle.facts.specs.declared.LeapMonth.the-variants.{Without, With}
+use Rattle.facts.specs.Facts.{
+  solsticeYear,
+  solsticeYearAt,
+  yearFacts,
+  yearFactsAt,
+  monthFacts,
+  monthFactsAt,
+  quarterOf,
+  quarterAt,
+  termAt,
+}
+use Rattle.facts.proofs.Paper as Facts
+use Rattle.reading.specs.declared.Reading.{Reading}
+use Rattle.reading.specs.Readings.{inRanges, windowDays, windowHolds, fitting}
+use Rattle.reading.specs.Search.{total, withRoom, searchAt}
+use Rattle.reading.proofs.Paper as Searches
+use Rattle.fields.specs.Fields.{word, decimal, followed, lined, each}
+use Rattle.lines.specs.Lines.{fieldsOfYear}
+use Rattle.answers.specs.Answers.{
+  refusedText,
+  told,
+  placeLine,
+  placeText,
+  leapNumber,
+  leapCount,
+  yearLine,
+  yearText,
+  monthLineOf,
+  monthText,
+  quarterLine,
+  quarterText,
+  termLine,
+  termText,
+  dayLineOf,
+  dayText,
+  dayLine,
+  dateText,
+  textOfDate,
+  moveText,
+  foundLine,
+  searchText,
+}
 use Rattle.answers.specs.Paper as Paper
-use Rattle.answers.proofs.Telling.{words-back}
+use Rattle.answers.proofs.Telling.{words-back, as-refusal}
+use Rattle.answers.proofs.Refusing.{NeverWith, never-refused, never-guard, never-one, never-two, never-then, tells-refusal}
+use Rattle.answers.proofs.Finding.{searched-few, searched-never-with, searched-not-twelve}
 
 pub words-of-a-number : Paper.Words-of-a-number
 words-of-a-number = words-back
+
+pub refusal-literally : Paper.Refusal-literally
+unfolding followed
+refusal-literally r = sym (as-refusal r refl)
+
+pub place-literally : Paper.Place-literally
+unfolding placeText placeLine solsticeYear followed
+place-literally y h = ap (told placeLine) (Facts.reasons-of-facts .years y .place-given .1 h)
+
+-- a year's line by its leap month
+year-with : (y : ℕ) (l : LeapMonth) → yearFacts y .«leap_month» ≡ l → yearLine y (yearFacts y) ≡ Paper.yearWith y (leapNumber l ++ (32 ∷ leapCount l))
+unfolding yearLine yearFacts followed
+year-with y l e = ap (λ (m : LeapMonth). Paper.yearWith y (leapNumber m ++ (32 ∷ leapCount m))) e
+
+pub year-literally : Paper.Year-literally
+unfolding yearText yearFacts
+year-literally =
+    record {
+      with-leap = λ y n h i e.
+          ap (told (yearLine y)) (Facts.reasons-of-facts .years y .own-given .1 h)
+          ∙ year-with y (With _ n) (Facts.leap-month y (h .0) .with-one _ n .1 (i, e, refl));
+      without = λ y h none.
+          ap (told (yearLine y)) (Facts.reasons-of-facts .years y .own-given .1 h) ∙ year-with y Without (Facts.leap-month y (h .0) .without .1 none);
+    }
+
+pub month-literally : Paper.Month-literally
+unfolding monthText monthLineOf monthFacts followed
+month-literally n h = ap (told (monthLineOf n)) (Facts.reasons-of-facts .months n .given .1 h) ∙ rw (number-at n, mark-at n) refl
+
+pub quarter-literally : Paper.Quarter-literally
+unfolding quarterText quarterLine quarterOf followed
+quarter-literally n q h i = ap (told quarterLine) (Facts.reasons-of-facts .quarters n q .given .1 (h, i))
+
+pub term-literally : Paper.Term-literally
+unfolding termText termLine followed
+term-literally y k h i = ap (told termLine) (Facts.reasons-of-facts .terms y k .given .1 (h, i))
+
+pub day-line-literally : Paper.Day-line-literally
+unfolding dayLine dayLineOf dateOf dateIn followed
+day-line-literally d = rw (number-at (monthOfDay d), mark-at (monthOfDay d)) refl
+
+pub day-literally : Paper.Day-literally
+unfolding dayText dayLine
+day-literally d h = ap (told (dayLineOf d)) (Dates.reasons-of-a-day d .given .1 h)
+
+pub date-literally : Paper.Date-literally
+unfolding dateText
+date-literally y k l m d h = ap (told dayLine) (Dates.day-of-date y k l m d .1 h)
+
+-- the date of a day, looked up by its own four things, has that day's line
+date-of-day-line : (e : ℕ) → DayInRange e → textOfDate (dateOf e) ≡ dayLine e
+unfolding dateText
+date-of-day-line e h = ap (told dayLine) (Dates.there-and-back e h)
+
+pub move-literally : Paper.Move-literally
+unfolding moveText
+move-literally y k l m d n h =
+    let w = Moves.move-of-a-date y k l m d n (Dates.day-of-date y k l m d .1 h) in
+    record {
+      lands = λ e f i.
+          ap (told textOfDate) (w .gives e f i ∙ Dates.reasons-of-a-day e .given .1 i) ∙ date-of-day-line e i;
+      eight = λ out. ap (told textOfDate) (w .eight .1 out);
+    }
+
+pub search-literally : Paper.Search-literally
+unfolding searchText foundLine total followed
+search-literally r first last h i w f =
+    ap (told (λ n. foundLine n ++ each dayLine (fitting r first (windowDays first last))))
+    (Searches.reasons-of-a-search r first last 27759 .given .1 ((h, i), (w, (f, searched-few r first last w))))
+
+-- a `DAY` line starts with `D`
+day-first : (d : ℕ) (r : Date) → getD (dayLineOf d r) 0 0 ≡ 68
+unfolding dayLineOf followed
+day-first d r = refl
+
+-- a move that is answered has the line of a day in range
+moved-line : (y k : ℕ) (l : Bool) (m : ℕ) (n : ℤ) (r : Date) → moved y k l m n ≡ is r → getD (textOfDate r) 0 0 ≡ 68
+unfolding moved dayLine
+moved-line y k l m n r = from (dayOfDate y k l m)
+  where
+    at : (e : ℕ) → guard (leb e 14989859) 8 (is (dateOf e)) ≡ is r → getD (textOfDate r) 0 0 ≡ 68
+    at e h =
+        let w = holds-all (leb e 14989859) 8 (is (dateOf e)) r .0 h in
+        let g : dateOf e ≡ r = let a : _≡_ {A = Answer Date} (is (dateOf e)) (is r) = w .1 in cc in
+        ap (λ (s : Date). getD (textOfDate s) 0 0) (sym g)
+        ∙ ap (λ (s : List ℕ). getD s 0 0) (date-of-day-line e (at-most e 14989859 .0 (w .0)))
+        ∙ day-first e (dateOf e)
+
+    lands : (z : ℤ) → landed z ≡ is r → getD (textOfDate r) 0 0 ≡ 68
+    lands (pos e) h = at e h
+    lands (negsuc e) h = let g : _≡_ {A = Answer Date} (refused 8) (is r) = h in absurd (let o : _≡_ {A = ℕ} 0 1 = cc in omega arith)
+
+    from : (a : Answer ℕ) → andThen a (λ d. landed (pos d +ℤ n)) ≡ is r → getD (textOfDate r) 0 0 ≡ 68
+    from (is d) h = lands (pos d +ℤ n) h
+    from (refused j) h = let g : _≡_ {A = Answer Date} (refused j) (is r) = h in absurd (let o : _≡_ {A = ℕ} 0 1 = cc in omega arith)
+    from (refused-with j i) h = let g : _≡_ {A = Answer Date} (refused-with j i) (is r) = h in absurd (let o : _≡_ {A = ℕ} 0 1 = cc in omega arith)
+
+-- no answer but a search's can be refused with a total
+date-never-with : (y k : ℕ) (l : Bool) (m : ℕ) → NeverWith (dayOfDate y k l m)
+unfolding dayOfDate dayOfNamed dayInMonth
+date-never-with y k l m =
+    never-guard (within 1 41040 y) 1 _
+    (never-guard (within 1 12 k) 2 _ (never-guard (within 1 30 m) 3 _ (never-two (isThere y k l) 4 (leb m (monthLength (monthAsked y k l))) 5 (monthStart (monthAsked y k l) + (m - 1)))))
+
+landed-never-with : (z : ℤ) → NeverWith (landed z)
+landed-never-with (pos d) = never-one (leb d 14989859) 8 (dateOf d)
+landed-never-with (negsuc d) = never-refused 8
+
+moved-never-with : (y k : ℕ) (l : Bool) (m : ℕ) (n : ℤ) → NeverWith (moved y k l m n)
+unfolding moved
+moved-never-with y k l m n = never-then (dayOfDate y k l m) _ (date-never-with y k l m) (λ d. landed-never-with (pos d +ℤ n))
+
+pub refusals-told : Paper.Refusals-told
+unfolding placeText placeLine yearText yearLine monthText monthLineOf quarterText quarterLine termText termLine dayText dayLine dayLineOf dateText moveText foundLine searchText solsticeYearAt yearFactsAt monthFactsAt quarterAt termAt dateAt followed
+refusals-told =
+    record {
+      place = λ y. tells-refusal placeLine 80 (λ e. omega (arith, e)) (solsticeYearAt y) (λ x e. refl) (never-one (within 1 41040 y) 1 (solsticeYear y));
+      year = λ y. tells-refusal (yearLine y) 89 (λ e. omega (arith, e)) (yearFactsAt y) (λ x e. refl) (never-one (within 1 41040 y) 1 (yearFacts y));
+      month = λ n. tells-refusal (monthLineOf n) 77 (λ e. omega (arith, e)) (monthFactsAt n) (λ x e. refl) (never-one (leb n 507599) 7 (monthFacts n));
+      quarter = λ n q. tells-refusal quarterLine 81 (λ e. omega (arith, e)) (quarterAt n q) (λ x e. refl) (never-two (leb n 507599) 7 (leb q 3) 15 (quarterOf n q));
+      term = λ y k. tells-refusal termLine 84 (λ e. omega (arith, e)) (termAt y k) (λ x e. refl) (never-two (within 1 41040 y) 1 (leb k 23) 15 (termDay (yearTerm y k)));
+      day = λ d. tells-refusal (dayLineOf d) 68 (λ e. omega (arith, e)) (dateAt d) (λ x e. refl) (never-one (leb d 14989859) 6 (dateOf d));
+      date = λ y k l m. tells-refusal dayLine 68 (λ e. omega (arith, e)) (dayOfDate y k l m) (λ x e. refl) (date-never-with y k l m);
+      move = λ y k l m n. tells-refusal textOfDate 68 (λ e. omega (arith, e)) (moved y k l m n) (moved-line y k l m n) (moved-never-with y k l m n);
+      search = λ r first last.
+          tells-refusal (λ n. foundLine n ++ each dayLine (fitting r first (windowDays first last))) 70 (λ e. omega (arith, e)) (searchAt r first last 27759)
+          (λ x e. refl) (searched-never-with r first last);
+    }
+
+pub never-twelve : Paper.Never-twelve
+never-twelve r first last e = searched-not-twelve r first last (refusals-told .search r first last 12 .0 e)

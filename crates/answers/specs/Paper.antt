@@ -1,11 +1,173 @@
 -- The desk program's answers, read literally, as statements. proofs/Paper.antt proves each under the same name in small letters.
 -- Assumes nothing.
+use Prim.Native.Nat.{ℕ, _+_, _-_, _≤_}
 use mathlib.Core.Path.{_≡_}
-use Rattle.rule.specs.Reasons.{reasonNumber}
+use mathlib.Core.Logic.{_↔_}
+use mathlib.Core.Bool.{Bool, true, false}
+use mathlib.Core.List.{List, [], _∷_, _++_}
+use lib.IntN.{ℤ, pos, _+ℤ_}
+use lib.ListN.{length}
+use Rattle.rule.specs.Counts.{YearInRange, MonthInRange, DayInRange, dayName, yearName, ji, bu, yearInBu, headName}
+use Rattle.rule.specs.Rule.{
+  monthStart,
+  smallRemainder,
+  monthLength,
+  monthOfDay,
+  quarterDay,
+  quarterParts,
+  termDay,
+  yearTerm,
+  firstMonth,
+  leapRemainder,
+  monthsInYear,
+  InYear,
+  yearOfMonth,
+  leap,
+  monthNumber,
+  eclipse,
+}
+use Rattle.rule.specs.Reasons.{Answer, refused, reasonNumber}
 use Rattle.rule.specs.declared.Reason.{Reason}
-use Rattle.lines.specs.Lines.{wordsOf}
-use Rattle.answers.specs.Answers.{wordsNumbered}
+use Rattle.dates.specs.Dates.{dateAt, dayOfDate}
+use Rattle.dates.specs.Paper.{IsDayOf}
+use Rattle.moves.specs.Moves.{moved}
+use Rattle.facts.specs.Facts.{solsticeYearAt, yearFactsAt, monthFactsAt, quarterAt, termAt}
+use Rattle.reading.specs.declared.Reading.{Reading}
+use Rattle.reading.specs.Readings.{windowDays, fitting}
+use Rattle.reading.specs.Search.{searchAt}
+use Rattle.reading.specs.Paper.{FieldsInRange, IsWindow}
+use Rattle.fields.specs.Fields.{word, decimal, mark, each}
+use Rattle.lines.specs.Lines.{letterL, letterE, wordsOf}
+use Rattle.answers.specs.Answers.{
+  wordsNumbered,
+  refusedText,
+  placeText,
+  yearText,
+  monthText,
+  quarterText,
+  termText,
+  dayText,
+  dayLine,
+  dateText,
+  moveText,
+  searchText,
+}
 
 -- the words of a number are those of the reason that has it
 abbrev pub Words-of-a-number : Type 0
 Words-of-a-number = (r : Reason) → wordsNumbered (reasonNumber r) ≡ wordsOf r
+
+-- "`REFUSED number words`"
+abbrev pub Refusal-literally : Type 0
+Refusal-literally =
+    (r : Reason) →
+    refusedText (reasonNumber r) ≡ (word "REFUSED " ++ (decimal (reasonNumber r) ++ (32 ∷ wordsOf r))) ++ (10 ∷ [])
+
+-- "`PLACE ji bu year-in-bu head-name first-month leap-remainder months`"
+abbrev pub Place-literally : Type 0
+Place-literally =
+    (y : ℕ) → YearInRange y →
+    placeText y
+    ≡ (word "PLACE " ++ (decimal (ji y)
+    ++ (32 ∷ (decimal (bu y)
+    ++ (32 ∷ (decimal (yearInBu y)
+    ++ (32 ∷ (decimal (headName (bu y))
+    ++ (32 ∷ (decimal (firstMonth y)
+    ++ (32 ∷ (decimal (leapRemainder y)
+    ++ (32 ∷ decimal (monthsInYear y))))))))))))))
+    ++ (10 ∷ [])
+
+-- "`YEAR year NAME name MONTHS months FIRST first-month LEAP number month-count` (the last two `-` where there is none)": what
+-- stands after `LEAP` is `last`
+abbrev pub yearWith : ℕ → List ℕ → List ℕ
+yearWith y last =
+    (word "YEAR " ++ (decimal y
+    ++ (word " NAME " ++ (decimal (yearName y)
+    ++ (word " MONTHS " ++ (decimal (monthsInYear y)
+    ++ (word " FIRST " ++ (decimal (firstMonth y)
+    ++ (word " LEAP " ++ last)))))))))
+    ++ (10 ∷ [])
+
+pub record Year-literally : Type 0 where
+  pub with-leap : (y n : ℕ) → YearInRange y → InYear y n → leap n ≡ true → yearText y ≡ yearWith y (decimal (monthNumber n) ++ (32 ∷ decimal n))
+  pub without : (y : ℕ) → YearInRange y → ((n : ℕ) → InYear y n → leap n ≡ false) → yearText y ≡ yearWith y (word "- -")
+
+-- "`MONTH count number mark first-name length eclipse first-day small-remainder` (eclipse `E` or `-`)"
+abbrev pub Month-literally : Type 0
+Month-literally =
+    (n : ℕ) → MonthInRange n →
+    monthText n
+    ≡ (word "MONTH " ++ (decimal n
+    ++ (32 ∷ (decimal (monthNumber n)
+    ++ (32 ∷ mark (leap n) letterL ∷ 32 ∷ (decimal (dayName (monthStart n))
+    ++ (32 ∷ (decimal (monthLength n)
+    ++ (32 ∷ mark (eclipse n) letterE ∷ 32 ∷ (decimal (monthStart n)
+    ++ (32 ∷ decimal (smallRemainder n))))))))))))
+    ++ (10 ∷ [])
+
+-- "`QUARTER day parts`"
+abbrev pub Quarter-literally : Type 0
+Quarter-literally =
+    (n q : ℕ) → MonthInRange n → q ≤ 3 →
+    quarterText n q ≡ (word "QUARTER " ++ (decimal (quarterDay n q) ++ (32 ∷ decimal (quarterParts n q)))) ++ (10 ∷ [])
+
+-- "`TERM day`"
+abbrev pub Term-literally : Type 0
+Term-literally = (y k : ℕ) → YearInRange y → k ≤ 23 → termText y k ≡ word "TERM " ++ (decimal (termDay (yearTerm y k)) ++ (10 ∷ []))
+
+-- "`DAY day year number mark day-of-month day-name month-length year-name`"
+abbrev pub Day-line-literally : Type 0
+Day-line-literally =
+    (d : ℕ) →
+    dayLine d
+    ≡ (word "DAY " ++ (decimal d
+    ++ (32 ∷ (decimal (yearOfMonth (monthOfDay d))
+    ++ (32 ∷ (decimal (monthNumber (monthOfDay d))
+    ++ (32 ∷ mark (leap (monthOfDay d)) letterL ∷ 32 ∷ (decimal (d - monthStart (monthOfDay d) + 1)
+    ++ (32 ∷ (decimal (dayName d)
+    ++ (32 ∷ (decimal (monthLength (monthOfDay d))
+    ++ (32 ∷ decimal (yearName (yearOfMonth (monthOfDay d))))))))))))))))
+    ++ (10 ∷ [])
+
+abbrev pub Day-literally : Type 0
+Day-literally = (d : ℕ) → DayInRange d → dayText d ≡ dayLine d
+
+-- of a date "the same `DAY` line": that of its day
+abbrev pub Date-literally : Type 0
+Date-literally = (y k : ℕ) (l : Bool) (m d : ℕ) → IsDayOf y k l m d → dateText y k l m ≡ dayLine d
+
+-- of a move "the same `DAY` line": that of the day n later, or reason 8 where there is none in range
+pub record MoveLine (y k : ℕ) (l : Bool) (m d : ℕ) (n : ℤ) : Type 0 where
+  pub lands : (e : ℕ) → pos d +ℤ n ≡ pos e → DayInRange e → moveText y k l m n ≡ dayLine e
+  pub eight : (((e : ℕ) × (pos d +ℤ n ≡ pos e) × DayInRange e) → ⊥) → moveText y k l m n ≡ refusedText 8
+
+abbrev pub Move-literally : Type 0
+Move-literally = (y k : ℕ) (l : Bool) (m d : ℕ) (n : ℤ) → IsDayOf y k l m d → MoveLine y k l m d n
+
+-- "`FOUND total`, then the `DAY` lines"; reading's Search-lists says of these days that they are just those that fit
+abbrev pub Search-literally : Type 0
+Search-literally =
+    (r : Reading) (first last : ℕ) → DayInRange first → DayInRange last → IsWindow first last → FieldsInRange r →
+    searchText r first last
+    ≡ (word "FOUND " ++ (decimal (length (fitting r first (windowDays first last))) ++ (10 ∷ [])))
+    ++ each dayLine (fitting r first (windowDays first last))
+
+-- with a place for each day of the longest window, reason 12 never comes of a search
+abbrev pub Never-twelve : Type 0
+Never-twelve = (r : Reading) (first last : ℕ) → searchText r first last ≡ refusedText 12 → ⊥
+
+-- a text is the refusal of number k exactly where the query comes back with k: which that is, the statements Reasons-of-facts,
+-- Reasons-of-a-day, Reasons-of-a-date, Move-of-a-date, Date's-own-reasons and Reasons-of-a-search say
+abbrev pub TellsRefusals : {A : Type 0} → List ℕ → Answer A → Type 0
+TellsRefusals text a = (k : ℕ) → (text ≡ refusedText k) ↔ (a ≡ refused k)
+
+pub record Refusals-told : Type 0 where
+  pub place : (y : ℕ) → TellsRefusals (placeText y) (solsticeYearAt y)
+  pub year : (y : ℕ) → TellsRefusals (yearText y) (yearFactsAt y)
+  pub month : (n : ℕ) → TellsRefusals (monthText n) (monthFactsAt n)
+  pub quarter : (n q : ℕ) → TellsRefusals (quarterText n q) (quarterAt n q)
+  pub term : (y k : ℕ) → TellsRefusals (termText y k) (termAt y k)
+  pub day : (d : ℕ) → TellsRefusals (dayText d) (dateAt d)
+  pub date : (y k : ℕ) (l : Bool) (m : ℕ) → TellsRefusals (dateText y k l m) (dayOfDate y k l m)
+  pub move : (y k : ℕ) (l : Bool) (m : ℕ) (n : ℤ) → TellsRefusals (moveText y k l m n) (moved y k l m n)
+  pub search : (r : Reading) (first last : ℕ) → TellsRefusals (searchText r first last) (searchAt r first last 27759)
