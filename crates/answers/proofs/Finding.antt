@@ -12,6 +12,7 @@ use Rattle.rule.specs.Lists.{placed}
 use Rattle.rule.specs.Reasons.{Answer, is, refused, refused-with, guard}
 use Rattle.rule.proofs.Answers.{fails-later, goes-on, holds-all, holds-with, given-not}
 use Rattle.rule.proofs.Lists.{complement, at-place}
+use Rattle.answers.specs.Answers.{places}
 use Rattle.answers.proofs.Refusing.{NeverWith, never-is}
 use Rattle.sheet.proofs.Paper.{front}
 use Rattle.reading.specs.declared.Reading.{Reading}
@@ -26,11 +27,11 @@ pub total-few : (r : Reading) (first last : ℕ) → total r first last ≤ wind
 unfolding total fitting
 total-few r first last = omega (arith, complement (fits r) first (windowDays first last))
 
-pub searched-few : (r : Reading) (first last : ℕ) → (first ≤ last) × (windowDays first last ≤ 27759) → total r first last ≤ 27759
+pub searched-few : (r : Reading) (first last : ℕ) → (first ≤ last) × (windowDays first last ≤ 27759) → total r first last ≤ places
 searched-few r first last w = omega (arith, w .1, total-few r first last)
 
 -- so many places are enough: more make no difference
-pub room-enough : (r : Reading) (first last room : ℕ) → 27759 ≤ room → searchAt r first last room ≡ searchAt r first last 27759
+pub room-enough : (r : Reading) (first last room : ℕ) → places ≤ room → searchAt r first last room ≡ searchAt r first last places
 unfolding searchAt
 room-enough r first last room h = ap (guard (leb first 14989859 && leb last 14989859) 6) (go (windowHolds first last) refl)
   where
@@ -38,31 +39,31 @@ room-enough r first last room h = ap (guard (leb first 14989859 && leb last 1498
     t = total r first last
 
     go : (b : Bool) → windowHolds first last ≡ b →
-        guard b 13 (guard (inRanges r) 14 (withRoom (leb t room) t)) ≡ guard b 13 (guard (inRanges r) 14 (withRoom (leb t 27759) t))
+        guard b 13 (guard (inRanges r) 14 (withRoom (leb t room) t)) ≡ guard b 13 (guard (inRanges r) 14 (withRoom (leb t places) t))
     go false e = refl
     go true e =
         let w = window-true first last .0 e in
         let f = searched-few r first last w in
-        ap (λ (b : Bool). guard (inRanges r) 14 (withRoom b t)) (le-leb t room (omega arith) ∙ sym (le-leb t 27759 f))
+        ap (λ (b : Bool). guard (inRanges r) 14 (withRoom b t)) (le-leb t room (omega arith) ∙ sym (le-leb t places f))
 
 -- and none is refused for want of a place
-pub searched-never-with : (r : Reading) (first last : ℕ) → NeverWith (searchAt r first last 27759)
+pub searched-never-with : (r : Reading) (first last : ℕ) → NeverWith (searchAt r first last places)
 unfolding searchAt
 searched-never-with r first last j n e =
     let a = holds-with (leb first 14989859 && leb last 14989859) 6 j n _ .0 e in
     let b = holds-with (windowHolds first last) 13 j n _ .0 (a .1) in
     let c = holds-with (inRanges r) 14 j n _ .0 (b .1) in
-    let f = le-leb (total r first last) 27759 (searched-few r first last (window-true first last .0 (b .0))) in
+    let f = le-leb (total r first last) places (searched-few r first last (window-true first last .0 (b .0))) in
     never-is (total r first last) j n (ap (λ (t : Bool). withRoom t (total r first last)) (sym f) ∙ c .1)
 
-pub searched-not-twelve : (r : Reading) (first last : ℕ) → searchAt r first last 27759 ≡ refused 12 → ⊥
+pub searched-not-twelve : (r : Reading) (first last : ℕ) → searchAt r first last places ≡ refused 12 → ⊥
 unfolding searchAt
 searched-not-twelve r first last e =
     let a = fails-later (leb first 14989859 && leb last 14989859) 6 12 _ (omega arith) .0 e in
     let b = goes-on (windowHolds first last) 13 _ (refused 12) (other 13 (λ f. omega (arith, f))) .0 (a .1) in
     let c = goes-on (inRanges r) 14 _ (refused 12) (other 14 (λ f. omega (arith, f))) .0 (b .1) in
-    let f = le-leb (total r first last) 27759 (searched-few r first last (window-true first last .0 (b .0))) in
-    given-not (withRoom (leb (total r first last) 27759) (total r first last)) (total r first last) 12
+    let f = le-leb (total r first last) places (searched-few r first last (window-true first last .0 (b .0))) in
+    given-not (withRoom (leb (total r first last) places) (total r first last)) (total r first last) 12
     (ap (λ (t : Bool). withRoom t (total r first last)) f) (c .1)
   where
     other : (k : ℕ) → (k ≡ 12 → ⊥) → _≡_ {A = Answer ℕ} (refused k) (refused 12) → ⊥
@@ -113,7 +114,7 @@ module _ {r : Reading} {first last : ℕ} {old new : List ℕ} {a : Found} (s : 
   unfolding days
   found-days = front days old n new filled count
 
-  pub found-few : n ≤ 27759
+  pub found-few : n ≤ places
   found-few = omega (arith, known .counted, searched-few r first last (known .window))
 
   pub found-inside : n ≤ length new

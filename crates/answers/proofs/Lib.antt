@@ -1,4 +1,5 @@
 -- Laws of answers, and the proofs of the statements.
+pub mod Cases
 pub mod Telling
 pub mod Refusing
 pub mod Finding

@@ -39,6 +39,7 @@ use Rattle.reading.proofs.Paper as Searches
 use Rattle.fields.specs.Fields.{word, decimal, followed, lined, each}
 use Rattle.lines.specs.Lines.{fieldsOfYear}
 use Rattle.answers.specs.Answers.{
+  places,
   refusedText,
   told,
   placeLine,
@@ -137,7 +138,7 @@ pub search-literally : Paper.Search-literally
 unfolding searchText foundLine total followed
 search-literally r first last h i w f =
     ap (told (λ n. foundLine n ++ each dayLine (fitting r first (windowDays first last))))
-    (Searches.reasons-of-a-search r first last 27759 .given .1 ((h, i), (w, (f, searched-few r first last w))))
+    (Searches.reasons-of-a-search r first last places .given .1 ((h, i), (w, (f, searched-few r first last w))))
 
 -- a `DAY` line starts with `D`
 day-first : (d : ℕ) (r : Date) → getD (dayLineOf d r) 0 0 ≡ 68
@@ -194,7 +195,7 @@ refusals-told =
       date = λ y k l m. tells-refusal dayLine 68 (λ e. omega (arith, e)) (dayOfDate y k l m) (λ x e. refl) (date-never-with y k l m);
       move = λ y k l m n. tells-refusal textOfDate 68 (λ e. omega (arith, e)) (moved y k l m n) (moved-line y k l m n) (moved-never-with y k l m n);
       search = λ r first last.
-          tells-refusal (λ n. foundLine n ++ each dayLine (fitting r first (windowDays first last))) 70 (λ e. omega (arith, e)) (searchAt r first last 27759)
+          tells-refusal (λ n. foundLine n ++ each dayLine (fitting r first (windowDays first last))) 70 (λ e. omega (arith, e)) (searchAt r first last places)
           (λ x e. refl) (searched-never-with r first last);
     }
 

@@ -116,6 +116,9 @@ unfoldable pub foundLine : ℕ → List ℕ
 foundLine n = lined (word "FOUND" ∷ decimal n ∷ [])
 
 -- the lent list has a place for every day of the longest window, so that reason 12 never comes (Paper, Never-twelve)
+abbrev pub places : ℕ
+places = 27759
+
 unfoldable pub searchText : Reading → ℕ → ℕ → List ℕ
 searchText r first last =
-    told (λ n. foundLine n ++ each dayLine (fitting r first (windowDays first last))) (searchAt r first last 27759)
+    told (λ n. foundLine n ++ each dayLine (fitting r first (windowDays first last))) (searchAt r first last places)

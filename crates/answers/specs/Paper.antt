@@ -39,6 +39,7 @@ use Rattle.reading.specs.Paper.{FieldsInRange, IsWindow}
 use Rattle.fields.specs.Fields.{word, decimal, mark, each}
 use Rattle.lines.specs.Lines.{letterL, letterE, wordsOf}
 use Rattle.answers.specs.Answers.{
+  places,
   wordsNumbered,
   refusedText,
   placeText,
@@ -170,4 +171,4 @@ pub record Refusals-told : Type 0 where
   pub day : (d : ℕ) → TellsRefusals (dayText d) (dateAt d)
   pub date : (y k : ℕ) (l : Bool) (m : ℕ) → TellsRefusals (dateText y k l m) (dayOfDate y k l m)
   pub move : (y k : ℕ) (l : Bool) (m : ℕ) (n : ℤ) → TellsRefusals (moveText y k l m n) (moved y k l m n)
-  pub search : (r : Reading) (first last : ℕ) → TellsRefusals (searchText r first last) (searchAt r first last 27759)
+  pub search : (r : Reading) (first last : ℕ) → TellsRefusals (searchText r first last) (searchAt r first last places)

@@ -12,6 +12,7 @@ ghost use Rattle.answers.specs.Answers.{
   textOfDate,
   moveText,
   foundLine,
+  places,
   searchText,
 };
 use dates::Date;
@@ -138,7 +139,7 @@ pub fn answer_search(
     out: &mut [u8],
     at: usize,
 ) -> usize
-    requires { ⌜ (27759 ≤ length (now days)) × (at + 2304014 ≤ length (now out)) ⌝ }
+    requires { ⌜ (places ≤ length (now days)) × (at + 2304014 ≤ length (now out)) ⌝ }
     ensures { λ b. ⌜ Put 2304014 (now (out .entry)) at (searchText r first last) (now (out .exit)) b ⌝ }
 {
     match reading::search(r, first, last, days) {

@@ -8,7 +8,7 @@ use Rattle.reading.specs.Readings.{windowDays, fitting}
 use Rattle.reading.specs.Search.{searchAt, saidFound}
 use Rattle.fields.specs.Fields.{each}
 use Rattle.fields.proofs.Putting.{put-kept, wide, then, put-as}
-use Rattle.answers.specs.Answers.{dayLine, foundLine, searchText}
+use Rattle.answers.specs.Answers.{dayLine, foundLine, places, searchText}
 use Rattle.answers.proofs.Telling.{tells}
 use Rattle.answers.proofs.Finding.{room-enough, found-days, found-few, found-inside, found-in-range}
 use borrow.Author.Needs.{needs}
@@ -56,7 +56,7 @@ lines-of s n = foundLine n ++ each dayLine (fitting (s .args .r) (s .args .first
 
 -- what the search promised, of a list with so many places as there are
 promised : (x : tie.After-search) →
-    saidFound (x .search .result) ≡ searchAt (x .before .before .before .before .args .r) (x .before .before .before .before .args .first) (x .before .before .before .before .args .last) 27759
+    saidFound (x .search .result) ≡ searchAt (x .before .before .before .before .args .r) (x .before .before .before .before .args .first) (x .before .before .before .before .args .last) places
 promised x =
     let s = x .before .before .before .before in
     x .search .ensures .answered ∙ room-enough (s .args .r) (s .args .first) (s .args .last) (length (s .args .days .now)) (s .pre .0)

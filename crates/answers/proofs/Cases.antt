@@ -1,0 +1,176 @@
+-- The answers to queries of the paper's own figures, byte by byte: a field lost or in another's place shows here at once.
+-- Assumes nothing.
+use mathlib.Core.Path.{_≡_, refl}
+use mathlib.Core.Bool.{true, false}
+use mathlib.Core.List.{[], _∷_}
+use lib.IntN.{pos, negsuc}
+use Rattle.rule.specs.Counts.{dayName, yearName, ji, bu, yearInBu, headName}
+use Rattle.rule.specs.Lists.{those}
+use Rattle.rule.specs.Rule.{
+  monthStart,
+  smallRemainder,
+  monthLength,
+  monthOfDay,
+  quarterDay,
+  quarterParts,
+  termDay,
+  firstMonth,
+  leapRemainder,
+  monthsInYear,
+  yearOfMonth,
+  midTermsBefore,
+  leap,
+  midTermNumber,
+  monthNumber,
+  monthAt,
+  eclipse,
+}
+use Rattle.dates.specs.Dates.{dateIn, dateOf, dateAt, namedMonth, dayInMonth, dayOfNamed, dayOfDate}
+use Rattle.moves.specs.Moves.{moved}
+use Rattle.facts.specs.Facts.{
+  solsticeYear,
+  solsticeYearAt,
+  leapMonth,
+  yearFacts,
+  yearFactsAt,
+  monthFacts,
+  monthFactsAt,
+  quarterOf,
+  quarterAt,
+  termAt,
+}
+use Rattle.reading.specs.declared.Field.the-variants.{Known, Unread}
+use Rattle.reading.specs.declared.Reading.{Reading}
+use Rattle.reading.specs.Readings.{monthFits, dayFits, fits, inRanges, fitting}
+use Rattle.reading.specs.Search.{total, searchAt}
+use Rattle.reading.specs.Paper.{allUnread}
+use Rattle.fields.specs.Fields.{word, digits, decimal, followed, each}
+use Rattle.lines.specs.Paper.{inLines}
+use Rattle.answers.specs.Answers.{
+  wordsNumbered,
+  refusedText,
+  placeLine,
+  placeText,
+  yearLine,
+  yearText,
+  monthLineOf,
+  monthText,
+  quarterLine,
+  quarterText,
+  termLine,
+  termText,
+  dayLineOf,
+  dayText,
+  dayLine,
+  dateText,
+  moveText,
+  foundLine,
+  searchText,
+}
+
+-- known date 5: year 9,366 is year 18 of bu 4 of ji 1, leap remainder 5, first month 115,830
+pub place-9366 : placeText 9366 ≡ inLines (word "PLACE 1 4 18 58 115830 5 12" ∷ [])
+unfolding placeText placeLine solsticeYear solsticeYearAt ji bu yearInBu headName dayName firstMonth leapRemainder monthsInYear digits decimal followed inLines
+place-9366 = refl
+
+-- known date 4: year 77 is year 1 of bu 2, whose head name is 40
+pub place-77 : placeText 77 ≡ inLines (word "PLACE 1 2 1 40 940 0 12" ∷ [])
+unfolding placeText placeLine solsticeYear solsticeYearAt ji bu yearInBu headName dayName firstMonth leapRemainder monthsInYear digits decimal followed inLines
+place-77 = refl
+
+pub no-year : placeText 41041 ≡ inLines (word "REFUSED 1 year outside 1 to 41,040" ∷ [])
+unfolding placeText placeLine solsticeYear solsticeYearAt refusedText wordsNumbered digits decimal followed inLines
+no-year = refl
+
+-- the paper's example: the header of year 11, whose months are 123 to 135, month 134 being leap 9
+pub year-11 : yearText 11 ≡ inLines (word "YEAR 11 NAME 27 MONTHS 13 FIRST 123 LEAP 9 134" ∷ [])
+unfolding yearText yearLine yearFactsAt yearFacts leapMonth yearName firstMonth monthsInYear those leap midTermsBefore monthStart monthNumber midTermNumber digits decimal followed inLines
+year-11 = refl
+
+pub year-1 : yearText 1 ≡ inLines (word "YEAR 1 NAME 17 MONTHS 12 FIRST 0 LEAP - -" ∷ [])
+unfolding yearText yearLine yearFactsAt yearFacts leapMonth yearName firstMonth monthsInYear those leap midTermsBefore monthStart monthNumber midTermNumber digits decimal followed inLines
+year-1 = refl
+
+-- lines of the same example, with the first day and the small remainder after them
+pub month-134 : monthText 134 ≡ inLines (word "MONTH 134 9 L 58 29 E 3957 126" ∷ [])
+unfolding monthText monthLineOf monthFactsAt monthFacts monthAt monthStart smallRemainder monthLength dayName eclipse leap midTermsBefore monthNumber midTermNumber digits decimal followed inLines
+month-134 = refl
+
+pub month-135 : monthText 135 ≡ inLines (word "MONTH 135 10 - 27 30 - 3986 625" ∷ [])
+unfolding monthText monthLineOf monthFactsAt monthFacts monthAt monthStart smallRemainder monthLength dayName eclipse leap midTermsBefore monthNumber midTermNumber digits decimal followed inLines
+month-135 = refl
+
+-- month 134 is full on day 3,971: 27,759 × 538 is 3,760 × 3,971 and 3,382 more
+pub full-134 : quarterText 134 2 ≡ inLines (word "QUARTER 3971 3382" ∷ [])
+unfolding quarterText quarterLine quarterAt quarterOf quarterDay quarterParts digits decimal followed inLines
+full-134 = refl
+
+pub no-quarter : quarterText 0 4 ≡ inLines (word "REFUSED 15 term above 23 or quarter above 3" ∷ [])
+unfolding quarterText quarterLine quarterAt quarterOf refusedText wordsNumbered digits decimal followed inLines
+no-quarter = refl
+
+-- the term after the solstice of year 11: 487 × 241 is 32 × 3,667 and 23 more
+pub term-11-1 : termText 11 1 ≡ inLines (word "TERM 3667" ∷ [])
+unfolding termText termLine termAt termDay digits decimal followed inLines
+term-11-1 = refl
+
+-- the last day of year 11's month 134, and a day that is none
+pub last-of-134 : dayText 3985 ≡ inLines (word "DAY 3985 11 9 L 29 26 29 27" ∷ [])
+unfolding dayText dayLineOf dateAt dateOf dateIn monthOfDay monthStart monthLength yearOfMonth monthAt leap midTermsBefore monthNumber midTermNumber dayName yearName digits decimal followed inLines
+last-of-134 = refl
+
+pub no-day : dayText 14989860 ≡ inLines (word "REFUSED 6 day count outside the range" ∷ [])
+unfolding dayText dayLineOf dateAt refusedText wordsNumbered digits decimal followed inLines
+no-day = refl
+
+-- known dates 8 and 9: year 11 has leap 9, of 29 days, and no leap 8
+pub leap-9 : dateText 11 9 true 1 ≡ inLines (word "DAY 3957 11 9 L 1 58 29 27" ∷ [])
+unfolding dateText dayLine dayLineOf dayOfDate dayOfNamed dayInMonth namedMonth termDay dateOf dateIn monthOfDay monthStart monthLength yearOfMonth monthAt leap midTermsBefore monthNumber midTermNumber dayName yearName digits decimal followed inLines
+leap-9 = refl
+
+pub leap-9-day-30 : dateText 11 9 true 30 ≡ inLines (word "REFUSED 5 day 30 of a 29-day month" ∷ [])
+unfolding dateText dayLine dayOfDate dayOfNamed dayInMonth namedMonth termDay monthOfDay monthStart monthLength leap midTermsBefore refusedText wordsNumbered digits decimal followed inLines
+leap-9-day-30 = refl
+
+pub leap-8 : dateText 11 8 true 1 ≡ inLines (word "REFUSED 4 leap month asked and that year has none of that number" ∷ [])
+unfolding dateText dayLine dayOfDate dayOfNamed dayInMonth namedMonth termDay monthOfDay monthStart monthLength leap midTermsBefore refusedText wordsNumbered digits decimal followed inLines
+leap-8 = refl
+
+-- known date 11: day 0 moved by 27,759
+pub seventy-six-on : moveText 1 11 false 1 (pos 27759) ≡ inLines (word "DAY 27759 77 11 - 1 40 29 33" ∷ [])
+unfolding moveText moved dateText dayLine dayLineOf dayOfDate dayOfNamed dayInMonth namedMonth termDay dateOf dateIn monthOfDay monthStart monthLength yearOfMonth monthAt leap midTermsBefore monthNumber midTermNumber dayName yearName digits decimal followed inLines
+seventy-six-on = refl
+
+-- 30 days after day 1 of year 11's ordinary month 9 comes its leap month 9
+pub into-leap-9 : moveText 11 9 false 1 (pos 30) ≡ inLines (word "DAY 3957 11 9 L 1 58 29 27" ∷ [])
+unfolding moveText moved dateText dayLine dayLineOf dayOfDate dayOfNamed dayInMonth namedMonth termDay dateOf dateIn monthOfDay monthStart monthLength yearOfMonth monthAt leap midTermsBefore monthNumber midTermNumber dayName yearName digits decimal followed inLines
+into-leap-9 = refl
+
+-- known date 1: day 0 moved by one back
+pub one-back : moveText 1 11 false 1 (negsuc 0) ≡ inLines (word "REFUSED 8 a move ends outside the range" ∷ [])
+unfolding moveText moved dateText dayLine dayOfDate dayOfNamed dayInMonth namedMonth termDay monthOfDay monthStart monthLength leap midTermsBefore refusedText wordsNumbered digits decimal followed inLines
+one-back = refl
+
+-- known date 2: days 28 and 29, all unread; and of them the one that is day 1 of its month
+pub two-found : searchText allUnread 28 29 ≡ inLines (word "FOUND 2" ∷ word "DAY 28 1 11 - 29 29 29 17" ∷ word "DAY 29 1 12 - 1 30 30 17" ∷ [])
+unfolding searchText searchAt total fitting fits monthFits dayFits inRanges those foundLine dayLine dayLineOf dateOf dateIn monthOfDay monthStart monthLength yearOfMonth monthAt leap midTermsBefore monthNumber midTermNumber dayName yearName digits decimal followed each inLines
+two-found = refl
+
+abbrev firstOfMonth : Reading
+firstOfMonth =
+    record {
+      «year_name» = Unread;
+      «month_number» = Unread;
+      «leap_mark» = Unread;
+      «day_of_month» = Known 1;
+      «day_name» = Unread;
+      «first_name» = Unread;
+    }
+
+pub one-found : searchText firstOfMonth 28 29 ≡ inLines (word "FOUND 1" ∷ word "DAY 29 1 12 - 1 30 30 17" ∷ [])
+unfolding searchText searchAt total fitting fits monthFits dayFits inRanges those foundLine dayLine dayLineOf dateOf dateIn monthOfDay monthStart monthLength yearOfMonth monthAt leap midTermsBefore monthNumber midTermNumber dayName yearName digits decimal followed each inLines
+one-found = refl
+
+pub no-window : searchText allUnread 29 28 ≡ inLines (word "REFUSED 13 window's last day before its first, or more than 27,759 days" ∷ [])
+unfolding searchText searchAt total fitting fits monthFits dayFits inRanges those refusedText wordsNumbered digits decimal followed each inLines
+no-window = refl
