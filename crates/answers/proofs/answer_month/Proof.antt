@@ -1,7 +1,7 @@
 -- `answers::answer_month` meets its contract: what `facts::month_facts` says, told. Assumes nothing.
 use native.Mathlib.Omega.{arith}
-use Rattle.fields.proofs.Putting.{wide}
 use Rattle.facts.specs.Promises.{saidMonth}
+use Rattle.fields.proofs.Putting.{wide}
 use Rattle.answers.specs.Answers.{monthLineOf, monthText}
 use Rattle.answers.proofs.Telling.{tells}
 use borrow.Author.Needs.{needs}

@@ -1,7 +1,7 @@
 -- `answers::answer_place` meets its contract: what `facts::solstice_year` says, told. Assumes nothing.
 use native.Mathlib.Omega.{arith}
-use Rattle.fields.proofs.Putting.{wide}
 use Rattle.facts.specs.Promises.{saidSolsticeYear}
+use Rattle.fields.proofs.Putting.{wide}
 use Rattle.answers.specs.Answers.{placeLine, placeText}
 use Rattle.answers.proofs.Telling.{tells}
 use borrow.Author.Needs.{needs}

@@ -1,7 +1,7 @@
 -- `answers::answer_quarter` meets its contract: what `facts::quarter` says, told. Assumes nothing.
 use native.Mathlib.Omega.{arith}
-use Rattle.fields.proofs.Putting.{wide}
 use Rattle.facts.specs.Promises.{saidQuarter}
+use Rattle.fields.proofs.Putting.{wide}
 use Rattle.answers.specs.Answers.{quarterLine, quarterText}
 use Rattle.answers.proofs.Telling.{tells}
 use borrow.Author.Needs.{needs}

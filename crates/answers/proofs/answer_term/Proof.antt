@@ -1,7 +1,7 @@
 -- `answers::answer_term` meets its contract: what `facts::term` says, told. Assumes nothing.
 use native.Mathlib.Omega.{arith}
-use Rattle.fields.proofs.Putting.{wide}
 use Rattle.facts.specs.Promises.{saidTerm}
+use Rattle.fields.proofs.Putting.{wide}
 use Rattle.answers.specs.Answers.{termLine, termText}
 use Rattle.answers.proofs.Telling.{tells}
 use borrow.Author.Needs.{needs}

@@ -1,10 +1,9 @@
 -- `answers::answer_year` meets its contract: what `facts::year_facts` says, told. Assumes nothing.
-use Rattle.answers.proofs.Telling.{year-there}
 use native.Mathlib.Omega.{arith}
-use Rattle.fields.proofs.Putting.{wide}
 use Rattle.facts.specs.Promises.{saidYear}
+use Rattle.fields.proofs.Putting.{wide}
+use Rattle.answers.proofs.Telling.{year-there, tells}
 use Rattle.answers.specs.Answers.{yearLine, yearText}
-use Rattle.answers.proofs.Telling.{tells}
 use borrow.Author.Needs.{needs}
 use Rattle.answers.proofs.answer_year.Statement.{statement}
 use Rattle.answers.proofs.answer_year.Tie as tie

@@ -1,11 +1,11 @@
 -- `answers::put_leap` meets its contract: two `-`, or number and count. Assumes nothing.
-use Rattle.answers.specs.Answers.{fieldsOfLeap}
-use Rattle.fields.proofs.Putting.{then, wide, put-as}
-use Rattle.fields.specs.Fields.{followed, joined}
-use Rattle.facts.specs.declared.LeapMonth.{LeapMonth}
+use native.Mathlib.Omega.{arith}
 use mathlib.Core.List.{_∷_}
 use mathlib.Core.Path.{ap, sym}
-use native.Mathlib.Omega.{arith}
+use Rattle.facts.specs.declared.LeapMonth.{LeapMonth}
+use Rattle.fields.proofs.Putting.{then, wide, put-as}
+use Rattle.fields.specs.Fields.{followed, joined}
+use Rattle.answers.specs.Answers.{fieldsOfLeap}
 use borrow.Author.Needs.{needs}
 use Rattle.answers.proofs.put_leap.Statement.{statement}
 use Rattle.answers.proofs.put_leap.Tie as tie

@@ -1,9 +1,9 @@
 -- `answers::put_month_line` meets its contract. Assumes nothing.
 use native.Mathlib.Omega.{arith}
-use Rattle.fields.specs.Fields.{decimal, followed}
 use mathlib.Core.List.{[], _∷_}
-use Rattle.lines.specs.Lines.{fieldsOfMonth}
+use Rattle.fields.specs.Fields.{decimal, followed}
 use Rattle.fields.proofs.Putting.{then}
+use Rattle.lines.specs.Lines.{fieldsOfMonth}
 use Rattle.answers.specs.Answers.{monthLineOf}
 use Rattle.answers.proofs.Telling.{more-fields}
 use borrow.Author.Needs.{needs}

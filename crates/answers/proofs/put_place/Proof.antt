@@ -1,7 +1,7 @@
 -- `answers::put_place` meets its contract. Assumes nothing.
 use native.Mathlib.Omega.{arith}
-use Rattle.fields.specs.Fields.{decimal, followed}
 use mathlib.Core.List.{[], _∷_}
+use Rattle.fields.specs.Fields.{decimal, followed}
 use Rattle.fields.proofs.Putting.{then}
 use Rattle.answers.specs.Answers.{placeLine, fieldsOfBu}
 use Rattle.answers.proofs.Telling.{more-fields}

@@ -1,9 +1,9 @@
 -- `answers::put_year_line` meets its contract. Assumes nothing.
 use native.Mathlib.Omega.{arith}
-use Rattle.fields.specs.Fields.{word, decimal, followed}
 use mathlib.Core.List.{[], _∷_}
-use Rattle.lines.specs.Lines.{fieldsOfYear}
+use Rattle.fields.specs.Fields.{word, decimal, followed}
 use Rattle.fields.proofs.Putting.{then}
+use Rattle.lines.specs.Lines.{fieldsOfYear}
 use Rattle.answers.specs.Answers.{fieldsOfLeap, yearLine}
 use Rattle.answers.proofs.Telling.{more-fields}
 use borrow.Author.Needs.{needs}

@@ -1,9 +1,9 @@
 -- `founds::answer_date` meets its contract: what `dates::day_of_date` says, told. Assumes nothing.
-use Rattle.dates.proofs.Paper.{back-and-there}
-use mathlib.Core.Path.{ap, sym, _∙_}
 use native.Mathlib.Omega.{arith}
-use Rattle.fields.proofs.Putting.{wide}
+use mathlib.Core.Path.{ap, sym, _∙_}
+use Rattle.dates.proofs.Paper.{back-and-there}
 use Rattle.dates.specs.Promises.{saidDay}
+use Rattle.fields.proofs.Putting.{wide}
 use Rattle.answers.specs.Answers.{dayLine, dateText}
 use Rattle.answers.proofs.Telling.{tells}
 use borrow.Author.Needs.{needs}

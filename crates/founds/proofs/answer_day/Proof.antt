@@ -1,7 +1,7 @@
 -- `founds::answer_day` meets its contract: what `dates::date_of_day` says, told. Assumes nothing.
 use native.Mathlib.Omega.{arith}
-use Rattle.fields.proofs.Putting.{wide}
 use Rattle.dates.specs.Promises.{saidDate}
+use Rattle.fields.proofs.Putting.{wide}
 use Rattle.answers.specs.Answers.{dayLineOf, dayText}
 use Rattle.answers.proofs.Telling.{tells}
 use borrow.Author.Needs.{needs}

@@ -1,11 +1,16 @@
 -- `founds::answer_move` meets its contract: what `moves::move_date` says, told. Assumes nothing.
+use Prim.Native.Nat.{ℕ}
 use native.Mathlib.Omega.{arith}
-use Rattle.fields.proofs.Putting.{wide}
 use mathlib.Core.Path.{_≡_, ap, _∙_}
+use mathlib.Core.Bool.{Bool}
+use lib.IntN.{ℤ}
 use mir.Syntax.{w64}
 use mir.ValLaws.{toZ-ofZ}
-use Rattle.moves.specs.Moves.{moved}
+use Rattle.rule.specs.Reasons.{Answer}
+use Rattle.dates.specs.declared.Date.{Date}
 use Rattle.dates.specs.Promises.{saidDate}
+use Rattle.moves.specs.Moves.{moved}
+use Rattle.fields.proofs.Putting.{wide}
 use Rattle.answers.specs.Answers.{textOfDate, moveText}
 use Rattle.answers.proofs.Telling.{tells}
 use borrow.Author.Needs.{needs}
@@ -33,12 +38,15 @@ put-refusal-requires : tie.Need-put-refusal-requires
 put-refusal-requires c κs = search needs
 
 -- what the move promised, its number read through its bits
+through : (y k : ℕ) (l : Bool) (m : ℕ) {z n : ℤ} {a : Answer Date} → a ≡ moved y k l m z → z ≡ n → a ≡ moved y k l m n
+through y k l m e f = e ∙ ap (moved y k l m) f
+
 promised : (c : tie.After-move-date) →
     saidDate (c .move-date .result)
     ≡ moved (c .before .before .args .year) (c .before .before .args .number) (c .before .before .args .leap) (c .before .before .args .day-of-month) (c .before .before .args .days)
 promised c =
     let s = c .before .before in
-    c .move-date .ensures ∙ ap (moved (s .args .year) (s .args .number) (s .args .leap) (s .args .day-of-month)) (toZ-ofZ w64 (s .args .days) (s .fits .days))
+    through (s .args .year) (s .args .number) (s .args .leap) (s .args .day-of-month) (c .move-date .ensures) (toZ-ofZ w64 (s .args .days) (s .fits .days))
 
 same-length : tie.Need-same-length
 same-length c = search needs

@@ -1,9 +1,9 @@
 -- `founds::answer_of_date` meets its contract: the date by its own four things. Assumes nothing.
-use Rattle.answers.specs.Answers.{dateText}
-use Rattle.fields.proofs.Putting.{put-as}
+use Prim.Native.Nat.{ℕ}
 use mathlib.Core.Bool.{Bool}
 use mathlib.Core.Path.{ap₂}
-use Prim.Native.Nat.{ℕ}
+use Rattle.fields.proofs.Putting.{put-as}
+use Rattle.answers.specs.Answers.{dateText}
 use borrow.Author.Needs.{needs}
 use Rattle.founds.proofs.answer_of_date.Statement.{statement}
 use Rattle.founds.proofs.answer_of_date.Tie as tie

@@ -1,9 +1,9 @@
 -- `founds::put_day_line` meets its contract. Assumes nothing.
 use native.Mathlib.Omega.{arith}
-use Rattle.fields.specs.Fields.{decimal, followed}
 use mathlib.Core.List.{[], _∷_}
-use Rattle.lines.specs.Lines.{fieldsOfDay}
+use Rattle.fields.specs.Fields.{decimal, followed}
 use Rattle.fields.proofs.Putting.{then}
+use Rattle.lines.specs.Lines.{fieldsOfDay}
 use Rattle.answers.specs.Answers.{dayLineOf}
 use Rattle.answers.proofs.Telling.{more-fields}
 use borrow.Author.Needs.{needs}
