@@ -75,18 +75,18 @@ pub refusal-literally : Paper.Refusal-literally
 unfolding followed
 refusal-literally r = sym (as-refusal r refl)
 
-pub place-literally : Paper.Place-literally
+pub place-line-literally : Paper.Place-line-literally
 unfolding placeText placeLine solsticeYear followed
-place-literally y h = ap (told placeLine) (Facts.reasons-of-facts .years y .place-given .1 h)
+place-line-literally y h = ap (told placeLine) (Facts.reasons-of-facts .years y .place-given .1 h)
 
 -- a year's line by its leap month
 year-with : (y : ℕ) (l : LeapMonth) → yearFacts y .«leap_month» ≡ l → yearLine y (yearFacts y) ≡ Paper.yearWith y (leapNumber l ++ (32 ∷ leapCount l))
 unfolding yearLine yearFacts followed
 year-with y l e = ap (λ (m : LeapMonth). Paper.yearWith y (leapNumber m ++ (32 ∷ leapCount m))) e
 
-pub year-literally : Paper.Year-literally
+pub year-line-literally : Paper.Year-line-literally
 unfolding yearText yearFacts
-year-literally =
+year-line-literally =
     record {
       with-leap = λ y n h i e.
           ap (told (yearLine y)) (Facts.reasons-of-facts .years y .own-given .1 h)
@@ -95,38 +95,38 @@ year-literally =
           ap (told (yearLine y)) (Facts.reasons-of-facts .years y .own-given .1 h) ∙ year-with y Without (Facts.leap-month y (h .0) .without .1 none);
     }
 
-pub month-literally : Paper.Month-literally
+pub month-line-literally : Paper.Month-line-literally
 unfolding monthText monthLineOf monthFacts followed
-month-literally n h = ap (told (monthLineOf n)) (Facts.reasons-of-facts .months n .given .1 h) ∙ rw (number-at n, mark-at n) refl
+month-line-literally n h = ap (told (monthLineOf n)) (Facts.reasons-of-facts .months n .given .1 h) ∙ rw (number-at n, mark-at n) refl
 
-pub quarter-literally : Paper.Quarter-literally
+pub quarter-line-literally : Paper.Quarter-line-literally
 unfolding quarterText quarterLine quarterOf followed
-quarter-literally n q h i = ap (told quarterLine) (Facts.reasons-of-facts .quarters n q .given .1 (h, i))
+quarter-line-literally n q h i = ap (told quarterLine) (Facts.reasons-of-facts .quarters n q .given .1 (h, i))
 
-pub term-literally : Paper.Term-literally
+pub term-line-literally : Paper.Term-line-literally
 unfolding termText termLine followed
-term-literally y k h i = ap (told termLine) (Facts.reasons-of-facts .terms y k .given .1 (h, i))
+term-line-literally y k h i = ap (told termLine) (Facts.reasons-of-facts .terms y k .given .1 (h, i))
 
 pub day-line-literally : Paper.Day-line-literally
 unfolding dayLine dayLineOf dateOf dateIn followed
 day-line-literally d = rw (number-at (monthOfDay d), mark-at (monthOfDay d)) refl
 
-pub day-literally : Paper.Day-literally
+pub line-of-a-day : Paper.Line-of-a-day
 unfolding dayText dayLine
-day-literally d h = ap (told (dayLineOf d)) (Dates.reasons-of-a-day d .given .1 h)
+line-of-a-day d h = ap (told (dayLineOf d)) (Dates.reasons-of-a-day d .given .1 h)
 
-pub date-literally : Paper.Date-literally
+pub date-line-literally : Paper.Date-line-literally
 unfolding dateText
-date-literally y k l m d h = ap (told dayLine) (Dates.day-of-date y k l m d .1 h)
+date-line-literally y k l m d h = ap (told dayLine) (Dates.day-of-date y k l m d .1 h)
 
 -- the date of a day, looked up by its own four things, has that day's line
 date-of-day-line : (e : ℕ) → DayInRange e → textOfDate (dateOf e) ≡ dayLine e
 unfolding dateText
 date-of-day-line e h = ap (told dayLine) (Dates.there-and-back e h)
 
-pub move-literally : Paper.Move-literally
+pub move-line-literally : Paper.Move-line-literally
 unfolding moveText
-move-literally y k l m d n h =
+move-line-literally y k l m d n h =
     let w = Moves.move-of-a-date y k l m d n (Dates.day-of-date y k l m d .1 h) in
     record {
       lands = λ e f i.
@@ -134,9 +134,9 @@ move-literally y k l m d n h =
       eight = λ out. ap (told textOfDate) (w .eight .1 out);
     }
 
-pub search-literally : Paper.Search-literally
+pub search-lines-literally : Paper.Search-lines-literally
 unfolding searchText foundLine total followed
-search-literally r first last h i w f =
+search-lines-literally r first last h i w f =
     ap (told (λ n. foundLine n ++ each dayLine (fitting r first (windowDays first last))))
     (Searches.reasons-of-a-search r first last places .given .1 ((h, i), (w, (f, searched-few r first last w))))
 

@@ -107,7 +107,7 @@ dateText y k l m = told dayLine (dayOfDate y k l m)
 abbrev pub textOfDate : Date → List ℕ
 textOfDate r = dateText (r .year) (numberOf (r .month)) (leapMark (r .month)) (r .«day_of_month»)
 
--- `MOVE year number mark day-of-month n`: "the same `DAY` line", of the date to which the move leads (Paper, Move-literally)
+-- `MOVE year number mark day-of-month n`: "the same `DAY` line", of the date to which the move leads (Paper, Move-line-literally)
 unfoldable pub moveText : ℕ → ℕ → Bool → ℕ → ℤ → List ℕ
 moveText y k l m n = told textOfDate (moved y k l m n)
 

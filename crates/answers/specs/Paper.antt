@@ -65,8 +65,8 @@ Refusal-literally =
     refusedText (reasonNumber r) ≡ (word "REFUSED " ++ (decimal (reasonNumber r) ++ (32 ∷ wordsOf r))) ++ (10 ∷ [])
 
 -- "`PLACE ji bu year-in-bu head-name first-month leap-remainder months`"
-abbrev pub Place-literally : Type 0
-Place-literally =
+abbrev pub Place-line-literally : Type 0
+Place-line-literally =
     (y : ℕ) → YearInRange y →
     placeText y
     ≡ (word "PLACE " ++ (decimal (ji y)
@@ -89,13 +89,13 @@ yearWith y last =
     ++ (word " LEAP " ++ last)))))))))
     ++ (10 ∷ [])
 
-pub record Year-literally : Type 0 where
+pub record Year-line-literally : Type 0 where
   pub with-leap : (y n : ℕ) → YearInRange y → InYear y n → leap n ≡ true → yearText y ≡ yearWith y (decimal (monthNumber n) ++ (32 ∷ decimal n))
   pub without : (y : ℕ) → YearInRange y → ((n : ℕ) → InYear y n → leap n ≡ false) → yearText y ≡ yearWith y (word "- -")
 
 -- "`MONTH count number mark first-name length eclipse first-day small-remainder` (eclipse `E` or `-`)"
-abbrev pub Month-literally : Type 0
-Month-literally =
+abbrev pub Month-line-literally : Type 0
+Month-line-literally =
     (n : ℕ) → MonthInRange n →
     monthText n
     ≡ (word "MONTH " ++ (decimal n
@@ -107,14 +107,14 @@ Month-literally =
     ++ (10 ∷ [])
 
 -- "`QUARTER day parts`"
-abbrev pub Quarter-literally : Type 0
-Quarter-literally =
+abbrev pub Quarter-line-literally : Type 0
+Quarter-line-literally =
     (n q : ℕ) → MonthInRange n → q ≤ 3 →
     quarterText n q ≡ (word "QUARTER " ++ (decimal (quarterDay n q) ++ (32 ∷ decimal (quarterParts n q)))) ++ (10 ∷ [])
 
 -- "`TERM day`"
-abbrev pub Term-literally : Type 0
-Term-literally = (y k : ℕ) → YearInRange y → k ≤ 23 → termText y k ≡ word "TERM " ++ (decimal (termDay (yearTerm y k)) ++ (10 ∷ []))
+abbrev pub Term-line-literally : Type 0
+Term-line-literally = (y k : ℕ) → YearInRange y → k ≤ 23 → termText y k ≡ word "TERM " ++ (decimal (termDay (yearTerm y k)) ++ (10 ∷ []))
 
 -- "`DAY day year number mark day-of-month day-name month-length year-name`"
 abbrev pub Day-line-literally : Type 0
@@ -130,24 +130,24 @@ Day-line-literally =
     ++ (32 ∷ decimal (yearName (yearOfMonth (monthOfDay d))))))))))))))))
     ++ (10 ∷ [])
 
-abbrev pub Day-literally : Type 0
-Day-literally = (d : ℕ) → DayInRange d → dayText d ≡ dayLine d
+abbrev pub Line-of-a-day : Type 0
+Line-of-a-day = (d : ℕ) → DayInRange d → dayText d ≡ dayLine d
 
 -- of a date "the same `DAY` line": that of its day
-abbrev pub Date-literally : Type 0
-Date-literally = (y k : ℕ) (l : Bool) (m d : ℕ) → IsDayOf y k l m d → dateText y k l m ≡ dayLine d
+abbrev pub Date-line-literally : Type 0
+Date-line-literally = (y k : ℕ) (l : Bool) (m d : ℕ) → IsDayOf y k l m d → dateText y k l m ≡ dayLine d
 
 -- of a move "the same `DAY` line": that of the day n later, or reason 8 where there is none in range
 pub record MoveLine (y k : ℕ) (l : Bool) (m d : ℕ) (n : ℤ) : Type 0 where
   pub lands : (e : ℕ) → pos d +ℤ n ≡ pos e → DayInRange e → moveText y k l m n ≡ dayLine e
   pub eight : (((e : ℕ) × (pos d +ℤ n ≡ pos e) × DayInRange e) → ⊥) → moveText y k l m n ≡ refusedText 8
 
-abbrev pub Move-literally : Type 0
-Move-literally = (y k : ℕ) (l : Bool) (m d : ℕ) (n : ℤ) → IsDayOf y k l m d → MoveLine y k l m d n
+abbrev pub Move-line-literally : Type 0
+Move-line-literally = (y k : ℕ) (l : Bool) (m d : ℕ) (n : ℤ) → IsDayOf y k l m d → MoveLine y k l m d n
 
 -- "`FOUND total`, then the `DAY` lines"; reading's Search-lists says of these days that they are just those that fit
-abbrev pub Search-literally : Type 0
-Search-literally =
+abbrev pub Search-lines-literally : Type 0
+Search-lines-literally =
     (r : Reading) (first last : ℕ) → DayInRange first → DayInRange last → IsWindow first last → FieldsInRange r →
     searchText r first last
     ≡ (word "FOUND " ++ (decimal (length (fitting r first (windowDays first last))) ++ (10 ∷ [])))
