@@ -1,0 +1,274 @@
+#!/usr/bin/env python3
+"""Worked queries for the program `desk`, and what it must write: by regular expressions and by the calendar of tools/expected.py,
+which walks the months from the origin. It shares nothing with the library.
+
+The first lines are worked by hand from the issue's and the paper's own figures, edges and wrong lines; the rest are drawn by a
+generator with a fixed seed, sound and damaged, enough to pass the 65,536 bytes that the program reads at a time.
+
+usage: tools/desk.py            write crates/desk/stdin and crates/desk/stdout
+       tools/desk.py --check    say whether what stands is what it computes (exit status 1 if not)
+       tools/desk.py --answer   answer the lines of standard input
+"""
+import random
+import re
+import sys
+
+sys.dont_write_bytecode = True
+
+from expected import DAYS, MONTHS, ROOT, WORDS, YEARS, Desk, hold, mark, name
+
+N = rb"(0|[1-9][0-9]*)"
+M = rb"([-L])"
+S = rb"(0|-?[1-9][0-9]*)"
+F = rb"(0|[1-9][0-9]*|\?)"
+G = rb"([-L?])"
+FORMS = {
+    "PLACE": [N],
+    "YEAR": [N],
+    "MONTH": [N],
+    "QUARTER": [N, N],
+    "TERM": [N, N],
+    "DAY": [N],
+    "DATE": [N, N, M, N],
+    "MOVE": [N, N, M, N, S],
+    "SEARCH": [F, F, G, F, F, F, N, N],
+}
+FORMS = {word: re.compile(b" ".join([word.encode(), *fields])) for word, fields in FORMS.items()}
+MARKS = {b"-": 1, b"L": 2, b"?": None}
+
+
+def refused(k):
+    return [f"REFUSED {k} {WORDS[k]}"]
+
+
+class Answers(Desk):
+    def day(self, d):
+        if not 0 <= d < DAYS:
+            return refused(6)
+        y, k, l, m, length, dn, yn = self.date_fields(d)
+        return [f"DAY {d} {y} {k} {mark(l)} {m} {dn} {length} {yn}"]
+
+    def date(self, y, k, l, m, n=0):
+        found = self.find(y, k, l, m)
+        if found < 0:
+            return refused(-found)
+        return self.day(found + n) if 0 <= found + n < DAYS else refused(8)
+
+    def place(self, y):
+        if not 1 <= y <= YEARS:
+            return refused(1)
+        return [self.year_lines(y)[0].replace(f" {y}:", "")]
+
+    def year_of(self, y):
+        if not 1 <= y <= YEARS:
+            return refused(1)
+        months = self.c.months_of[y]
+        leaps = [f"{self.c.number[n]} {n}" for n in months if self.c.leap[n]]
+        return [f"YEAR {y} NAME {name(y - 1, 17)} MONTHS {len(months)} FIRST {months[0]} LEAP {(leaps + ['- -'])[0]}"]
+
+    def month(self, n):
+        if not 0 <= n < MONTHS:
+            return refused(7)
+        first = self.c.starts[n]
+        eclipse = "E" if 23 * (n + 1) % 135 < 23 else "-"
+        return [f"MONTH {n} {self.c.number[n]} {mark(self.c.leap[n])} {name(first, 1)} {self.c.length(n)} {eclipse} {first} {27759 * n - 940 * first}"]
+
+    def quarter(self, n, q):
+        if not 0 <= n < MONTHS:
+            return refused(7)
+        return refused(15) if q > 3 else ["QUARTER %d %d" % divmod(27759 * (4 * n + q), 3760)]
+
+    def term(self, y, k):
+        if not 1 <= y <= YEARS:
+            return refused(1)
+        return refused(15) if k > 23 else [f"TERM {487 * (24 * (y - 1) + k) // 32}"]
+
+    def search(self, reading, first, last):
+        if not (first < DAYS and last < DAYS):
+            return refused(6)
+        if last < first or last - first + 1 > 27759:
+            return refused(13)
+        if any(f is not None and not 1 <= f <= most for f, most in zip(reading, (60, 12, 2, 30, 60, 60))):
+            return refused(14)
+        days = [d for d in range(first, last + 1) if all(f is None or f == v for f, v in zip(reading, self.six(d)))]
+        return [f"FOUND {len(days)}"] + [line for d in days for line in self.day(d)]
+
+    def answer(self, line):
+        """The lines that answer a line, which is bytes without its newline."""
+        for word, form in FORMS.items():
+            found = form.fullmatch(line)
+            if found and len(line) <= 200:
+                return self.asked(word, found.groups())
+        return ["UNREADABLE"]
+
+    def asked(self, word, fields):
+        if word == "SEARCH":
+            reading = [MARKS[f] if i == 2 else None if f == b"?" else int(f) for i, f in enumerate(fields[:6])]
+            return self.search(reading, int(fields[6]), int(fields[7]))
+        numbers = [f == b"L" if f in (b"-", b"L") else int(f) for f in fields]
+        calls = {"PLACE": self.place, "YEAR": self.year_of, "MONTH": self.month, "QUARTER": self.quarter, "TERM": self.term,
+                 "DAY": self.day, "DATE": self.date, "MOVE": self.date}
+        return calls[word](*numbers)
+
+
+WORKED = """PLACE 11
+PLACE 9366
+PLACE 1
+PLACE 41040
+PLACE 0
+PLACE 41041
+PLACE 4294967297
+YEAR 11
+YEAR 12
+YEAR 9366
+YEAR 1
+YEAR 41040
+YEAR 0
+YEAR 99999999999
+MONTH 134
+MONTH 123
+MONTH 0
+MONTH 507599
+MONTH 507600
+MONTH 4294967296
+QUARTER 115830 2
+QUARTER 0 0
+QUARTER 507599 3
+QUARTER 507599 4
+QUARTER 507600 4
+QUARTER 0 4294967296
+TERM 9366 0
+TERM 1 23
+TERM 41040 23
+TERM 5 24
+TERM 5 300
+TERM 0 300
+TERM 41041 0
+DAY 0
+DAY 3420558
+DAY 14989859
+DAY 14989860
+DAY 99999999999
+DATE 9366 11 - 1
+DATE 11 9 L 29
+DATE 11 9 L 30
+DATE 11 9 - 30
+DATE 11 8 L 1
+DATE 1 11 - 1
+DATE 41040 10 - 30
+DATE 0 13 L 31
+DATE 5 300 - 1
+DATE 5 0 - 31
+DATE 5 1 - 31
+DATE 5 1 - 0
+DATE 5 1 L 4294967297
+MOVE 1 11 - 1 0
+MOVE 1 11 - 1 27759
+MOVE 1 11 - 1 -1
+MOVE 1 11 - 1 14989859
+MOVE 1 11 - 1 14989860
+MOVE 11 9 L 29 -5
+MOVE 11 9 L 29 -3985
+MOVE 11 9 L 29 -3986
+MOVE 11 9 L 30 5
+MOVE 11 9 L 29 9223372036854775807
+MOVE 11 9 L 29 -9223372036854775808
+MOVE 11 9 L 29 18446744073709551616
+MOVE 11 9 L 29 -18446744073709551617
+MOVE 0 9 L 29 99999999999999999999999
+SEARCH 27 9 L 1 ? 58 0 27758
+SEARCH ? ? ? ? ? ? 3800 3803
+SEARCH ? 5 - 30 ? ? 3600 4400
+SEARCH ? ? ? ? ? 999 0 5
+SEARCH ? ? ? ? ? 0 0 5
+SEARCH 61 13 - 31 61 61 0 5
+SEARCH 4294967297 ? ? ? ? ? 0 5
+SEARCH 1 ? ? 31 ? ? 5 4
+SEARCH ? ? L ? ? 1 0 27758
+SEARCH 0 ? ? ? ? ? 0 27759
+SEARCH 0 ? ? ? ? ? 14989860 0
+SEARCH ? ? ? ? ? ? 0 4294967296
+SEARCH ? 9 L ? ? ? 14962101 14989859
+SEARCH ? ? ? 29 60 60 14962101 14989859
+"""
+WRONG = [
+    "", "year 11", "YEAR", "YEAR ", "YEAR 11 12", "YEAR  11", " YEAR 11", "YEAR 11 ", "YEAR 011", "YEAR 00", "YEAR -11",
+    "YEAR +11", "YEAR 1,000", "YEAR ?", "YEARS 11", "YEAR\t11", "YEAR 11\r", "DAY 1.5", "DAY 0x10", "DATE 5 3 ? 1",
+    "DATE 5 3 l 1", "DATE 5 3 LL 1", "DATE 5 3 1", "DATE 5 -3 - 1", "MOVE 1 11 - 1 -0", "MOVE 1 11 - 1 --1",
+    "MOVE 1 11 - 1 -", "MOVE 1 11 - 1 - 1", "MOVE 1 11 - 1 -01", "MOVE 1 11 - 1 ?", "MOVE 1 11 - 1", "SEARCH ? ? ? ? ? ? 0",
+    "SEARCH ? ? ? ? ? ? 0 5 6", "SEARCH ? ? ? ? ? ? ? 5", "SEARCH ? ? 1 ? ? ? 0 5", "SEARCH ? - ? ? ? ? 0 5",
+    "SEARCH ?? ? ? ? ? ? 0 5", "SEARCH - ? ? ? ? ? 0 5", "FOUND 3", "UNREADABLE", "QUARTER 1", "TERM 1", "PLACE", "?", "-",
+    "L", "0",
+]
+
+
+def long_lines():
+    """At most 200 bytes, and more; a number of so many digits is refused by its own reason."""
+    return [b"YEAR " + b"9" * 195, b"YEAR " + b"9" * 196, b"MOVE 1 11 - 1 -" + b"9" * 185, b"MOVE 1 11 - 1 -" + b"9" * 186,
+            b"SEARCH" + b" ?" * 97, b"x" * 200, b"x" * 201, b"YEAR 11" + b" " * 500, b"\xff\x00" * 400]
+
+
+def drawn(answers, draw):
+    """A query, its fields near the true ones or near the edges."""
+    def near(most):
+        return draw.choice((draw.randint(0, most), draw.randint(0, most), draw.randint(0, 3), draw.randint(most - 1, most + 2), draw.randint(0, 2 ** 40)))
+
+    word = draw.choice(list(FORMS))
+    day = draw.randrange(DAYS)
+    y, k, l, m, _, dn, yn = answers.date_fields(day)
+    date = f"{y} {k} {mark(l)} {m}" if draw.random() < 0.8 else f"{near(YEARS)} {draw.randint(0, 13)} {draw.choice('-L')} {draw.randint(0, 31)}"
+    if word in ("PLACE", "YEAR"):
+        return f"{word} {near(YEARS)}"
+    if word == "MONTH":
+        return f"MONTH {near(MONTHS)}"
+    if word == "QUARTER":
+        return f"QUARTER {near(MONTHS)} {draw.randint(0, 4)}"
+    if word == "TERM":
+        return f"TERM {near(YEARS)} {draw.randint(0, 24)}"
+    if word == "DAY":
+        return f"DAY {near(DAYS)}"
+    if word == "DATE":
+        return f"DATE {date}"
+    if word == "MOVE":
+        return f"MOVE {date} {draw.choice((1, -1)) * draw.choice((draw.randint(1, 400), draw.randint(1, 2 ** 24), draw.randint(1, 2 ** 70)))}"
+    first = max(0, day - draw.randint(0, 400))
+    six = answers.six(day)
+    fields = ["?" if draw.random() < 0.4 else "-L"[v - 1] if i == 2 else str(v if draw.random() < 0.95 else v + draw.randint(0, 40)) for i, v in enumerate(six)]
+    return "SEARCH " + " ".join(fields) + f" {first} {first + draw.randint(-1, 800)}"
+
+
+def damaged(line, draw):
+    at = draw.randrange(len(line))
+    return draw.choice((line[:at] + line[at + 1:], line[:at] + draw.choice(" -?L0xY\r") + line[at:], line.replace(" ", "  ", 1), line + " ", line[:at] + line[at:].lower()))
+
+
+def queries(answers):
+    draw = random.Random(20261115)
+    lines = [line.encode() for line in WORKED.splitlines() + WRONG] + long_lines()
+    while sum(len(line) + 1 for line in lines) < 80000:
+        line = drawn(answers, draw)
+        if len(lines) % 5 == 0:
+            line = damaged(line, draw)
+        if len(answers.answer(line.encode())) <= 30:
+            lines.append(line.encode())
+    return lines
+
+
+def text(answers, lines):
+    return "".join(line + "\n" for query in lines for line in answers.answer(query))
+
+
+def main():
+    answers = Answers()
+    if "--answer" in sys.argv[1:]:
+        data = sys.stdin.buffer.read()
+        lines = data.split(b"\n")
+        sys.stdout.write(text(answers, lines[:-1] if lines[-1] == b"" else lines))
+        return 0
+    lines = queries(answers)
+    folder = ROOT / "crates" / "desk"
+    return hold({folder / "stdin": b"\n".join(lines), folder / "stdout": text(answers, lines).encode()})
+
+
+if __name__ == "__main__":
+    sys.exit(main())
