@@ -1,7 +1,7 @@
 -- Tests put together, over plain values, for the functions that make them. Assumes nothing.
 use Prim.Native.Nat.{ℕ, _+_, _-_, _≤_, _<_}
 use mathlib.Core.Path.{_≡_, ap, ap₂, _∙_}
-use mathlib.Core.Bool.{Bool, false, _&&_}
+use mathlib.Core.Bool.{Bool, true, false, _&&_}
 use lib.Dec.{leb}
 use borrow.Author.Tests.{le-leb, lt-leb}
 use Rattle.rule.specs.Counts.{dayName, yearName}
@@ -22,17 +22,22 @@ pub day-made : (r : Reading) (s d k : ℕ) (a b : Bool) → a ≡ fieldFits (r .
 unfolding dayFits
 day-made r s d k a b e f g = ap₂ _&&_ e (f ∙ ap (fieldFits (r .«day_name»)) g)
 
-pub month-made : (r : Reading) (n y yn k mk s sn : ℕ) (l a b c d : Bool) →
-    a ≡ fieldFits (r .«year_name») yn → b ≡ fieldFits (r .«month_number») k → c ≡ fieldFits (r .«leap_mark») mk → d ≡ fieldFits (r .«first_name») sn →
-    yn ≡ yearName y → y ≡ yearOfMonth n → k ≡ monthNumber n → mk ≡ markNumber l → l ≡ leap n → sn ≡ dayName s → s ≡ monthStart n →
-    (a && b && c && d) ≡ monthFits r n
+-- a month's four values in the order in which they are looked at: the first that does not fit decides, and else the last does
+pub year-name-fails : (r : Reading) (n : ℕ) → fieldFits (r .«year_name») (yearName (yearOfMonth n)) ≡ false → monthFits r n ≡ false
 unfolding monthFits
-month-made r n y yn k mk s sn l a b c d e f g h p q t u v w x =
-    ap₂ _&&_
-    (ap₂ _&&_
-    (ap₂ _&&_ (e ∙ ap (fieldFits (r .«year_name»)) (p ∙ ap yearName q)) (f ∙ ap (fieldFits (r .«month_number»)) t))
-    (g ∙ ap (fieldFits (r .«leap_mark»)) (u ∙ ap markNumber v)))
-    (h ∙ ap (fieldFits (r .«first_name»)) (w ∙ ap dayName x))
+year-name-fails r n a = rw a
+
+pub number-fails : (r : Reading) (n : ℕ) → fieldFits (r .«year_name») (yearName (yearOfMonth n)) ≡ true → fieldFits (r .«month_number») (monthNumber n) ≡ false → monthFits r n ≡ false
+unfolding monthFits
+number-fails r n a b = rw (a, b)
+
+pub mark-fails : (r : Reading) (n : ℕ) → fieldFits (r .«year_name») (yearName (yearOfMonth n)) ≡ true → fieldFits (r .«month_number») (monthNumber n) ≡ true → fieldFits (r .«leap_mark») (markNumber (leap n)) ≡ false → monthFits r n ≡ false
+unfolding monthFits
+mark-fails r n a b c = rw (a, b, c)
+
+pub first-name-decides : (r : Reading) (n : ℕ) → fieldFits (r .«year_name») (yearName (yearOfMonth n)) ≡ true → fieldFits (r .«month_number») (monthNumber n) ≡ true → fieldFits (r .«leap_mark») (markNumber (leap n)) ≡ true → monthFits r n ≡ fieldFits (r .«first_name») (dayName (monthStart n))
+unfolding monthFits
+first-name-decides r n a b c = rw (a, b, c)
 
 pub ranges-made : (r : Reading) (a b c d e f : Bool) →
     a ≡ fieldInRange (r .«year_name») 60 → b ≡ fieldInRange (r .«month_number») 12 → c ≡ fieldInRange (r .«leap_mark») 2 →

@@ -3,9 +3,9 @@ ghost use mathlib.Core.Path.{_≡_};
 ghost use Prim.Native.Nat.{_+_, _-_, _≤_, _<_, min};
 ghost use lib.ListN.{length};
 ghost use lib.Seq.{sets};
-ghost use Rattle.rule.specs.Counts.{DayInRange, MonthInRange};
+ghost use Rattle.rule.specs.Counts.{DayInRange, MonthInRange, dayName, yearName};
 ghost use Rattle.rule.specs.Lists.{those, placed};
-ghost use Rattle.rule.specs.Rule.{monthStart};
+ghost use Rattle.rule.specs.Rule.{monthStart, yearOfMonth, monthNumber, leap};
 ghost use Rattle.reading.specs.Readings.{markNumber, fieldFits, fieldInRange, inRanges, monthFits, dayFits, PartOfMonth, windowHolds, fitting};
 ghost use Rattle.reading.specs.Search.{Searched};
 use rule::Reason;
@@ -79,7 +79,39 @@ fn mark_number(leap: bool) -> u32
     if leap { 2 } else { 1 }
 }
 
-// Whether a month's own four values fit: they are the same for all of its days, and are looked at once.
+// Whether a field fits a month's year name.
+fn year_name_fits(f: Field, n: u32) -> bool
+    requires { ⌜ MonthInRange n ⌝ }
+    ensures { λ b. ⌜ b ≡ fieldFits f (yearName (yearOfMonth n)) ⌝ }
+{
+    field_fits(f, rule::year_name(rule::year_of_month(n)) as u32)
+}
+
+// Whether a field fits a month's number.
+fn number_fits(f: Field, n: u32) -> bool
+    requires { ⌜ MonthInRange n ⌝ }
+    ensures { λ b. ⌜ b ≡ fieldFits f (monthNumber n) ⌝ }
+{
+    field_fits(f, rule::month_number(n) as u32)
+}
+
+// Whether a field fits a month's leap mark.
+fn mark_fits(f: Field, n: u32) -> bool
+    requires { ⌜ MonthInRange n ⌝ }
+    ensures { λ b. ⌜ b ≡ fieldFits f (markNumber (leap n)) ⌝ }
+{
+    field_fits(f, mark_number(rule::is_leap(n)))
+}
+
+// Whether a field fits the name of a month's first day.
+fn first_name_fits(f: Field, n: u32) -> bool
+    requires { ⌜ MonthInRange n ⌝ }
+    ensures { λ b. ⌜ b ≡ fieldFits f (dayName (monthStart n)) ⌝ }
+{
+    field_fits(f, rule::day_name(rule::month_start(n)) as u32)
+}
+
+// Whether a month's own four values fit: they are the same for all of its days, and are looked at once, up to the first that does not fit.
 fn month_fits(r: Reading, n: u32) -> bool
     requires { ⌜ MonthInRange n ⌝ }
     ensures { λ b. ⌜ b ≡ monthFits r n ⌝ }
@@ -88,11 +120,16 @@ fn month_fits(r: Reading, n: u32) -> bool
     let f2 = r.month_number;
     let f3 = r.leap_mark;
     let f6 = r.first_name;
-    let a = field_fits(f1, rule::year_name(rule::year_of_month(n)) as u32);
-    let b = field_fits(f2, rule::month_number(n) as u32);
-    let c = field_fits(f3, mark_number(rule::is_leap(n)));
-    let d = field_fits(f6, rule::day_name(rule::month_start(n)) as u32);
-    a & b & c & d
+    if !year_name_fits(f1, n) {
+        return false;
+    }
+    if !number_fits(f2, n) {
+        return false;
+    }
+    if !mark_fits(f3, n) {
+        return false;
+    }
+    first_name_fits(f6, n)
 }
 
 // Whether a day's own two values fit, its month starting on a day.
