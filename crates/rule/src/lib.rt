@@ -283,22 +283,30 @@ pub fn printed_day(k: u16) -> u16
     PRINTED[k as usize]
 }
 
-// The look along the printed list: the last entry that is not after a day counted from the bu's head, found by halving.
-fn place_in_list(d: u16) -> u16
-    requires { ⌜ d < 27759 ⌝ }
+// The look along the printed list, which is lent: the last entry that is not after a day counted from the bu's head, found by halving.
+fn place_in(list: &[u16; 940], d: u16) -> u16
+    requires { ⌜ (now list ≡ printedList) × (d < 27759) ⌝ }
     ensures { λ r. ⌜ r ≡ monthOfDay d ⌝ }
 {
     let mut low: u16 = 0;
     let mut high: u16 = 940;
     while 1 < high - low {
         let middle = low + (high - low) / 2;
-        if d < printed_day(middle) {
+        if d < list[middle as usize] {
             high = middle;
         } else {
             low = middle;
         }
     }
     low
+}
+
+// The place in the printed list of a day counted from the bu's head.
+fn place_in_list(d: u16) -> u16
+    requires { ⌜ d < 27759 ⌝ }
+    ensures { λ r. ⌜ r ≡ monthOfDay d ⌝ }
+{
+    place_in(&PRINTED, d)
 }
 
 // The month that a day is in: 940 for each whole bu before it, and its place in the printed list.
