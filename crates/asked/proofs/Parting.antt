@@ -29,7 +29,7 @@ module _ (b : ℕ) (s : List ℕ) where
   unfolding fieldsIn
   fields-space e = rw (e) refl
 
-  fields-more : eqb b 32 ≡ false → (f : List ℕ) (fs : List (List ℕ)) → fieldsIn s ≡ f ∷ fs → fieldsIn (b ∷ s) ≡ (b ∷ f) ∷ fs
+  pub fields-more : eqb b 32 ≡ false → (f : List ℕ) (fs : List (List ℕ)) → fieldsIn s ≡ f ∷ fs → fieldsIn (b ∷ s) ≡ (b ∷ f) ∷ fs
   unfolding fieldsIn
   fields-more e f fs h = rw (e, h) refl
 
