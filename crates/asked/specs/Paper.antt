@@ -44,7 +44,7 @@ wordOf k =
     (cond (eqb k 68) (word "DAY")
     (cond (eqb k 65) (word "DATE")
     (cond (eqb k 86) (word "MOVE")
-    (word "SEARCH"))))))))
+    (cond (eqb k 83) (word "SEARCH") []))))))))
 
 -- the one text of a field of a kind and with a value: `n` is 110, `b` 98, `m` 109
 unfoldable pub textOf : ℕ → ℕ → List ℕ

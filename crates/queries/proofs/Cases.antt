@@ -6,7 +6,7 @@ use Rattle.fields.specs.Fields.{word}
 use Rattle.fields.specs.Paper.{valueFrom}
 use Rattle.asked.specs.Asked.{fieldsIn, allDigits, isDecimal, isBack, like, keyword, fieldRead, kindsOf, valuesOf}
 use Rattle.facts.specs.Facts.{yearFactsAt, termAt}
-use Rattle.rule.specs.Rule.{monthStart, monthLength, monthOfDay, termDay}
+use Rattle.rule.specs.Rule.{monthStart, monthLength, monthOfDay, termDay, midTermsBefore, leap}
 use Rattle.dates.specs.Dates.{dateAt, namedMonth, dayInMonth, dayOfNamed, dayOfDate}
 use Rattle.moves.specs.Moves.{moved}
 use Rattle.reading.specs.Readings.{inRanges}
@@ -64,12 +64,21 @@ mark-unread = refl
 
 -- "over 200 bytes": 201, and 200 are a query
 pub over-200-bytes : answerTo (word "YEAR " ++ replicate 196 57) ≡ unreadable
-unfolding answerTo
+unfolding valueFrom allDigits isDecimal isBack like keyword fieldRead fieldsIn kindsOf valuesOf dayAnswer lineAnswer answerOf answerTo yearText yearFactsAt
 over-200-bytes = refl
 
 pub just-200-bytes : answerTo (word "YEAR " ++ replicate 195 57) ≡ refusedText 1
 unfolding valueFrom allDigits isDecimal isBack like keyword fieldRead fieldsIn kindsOf valuesOf dayAnswer lineAnswer answerOf answerTo yearText yearFactsAt
 just-200-bytes = refl
+
+-- `L` asks for a leap month, and year 11 has no leap 8; a move with `-` goes back, and before day 0 there is none
+pub leap-asked : answerTo (word "DATE 11 8 L 1") ≡ refusedText 4
+unfolding valueFrom allDigits isDecimal isBack like keyword fieldRead fieldsIn kindsOf valuesOf dayAnswer lineAnswer answerOf answerTo dateText dayOfDate dayOfNamed dayInMonth namedMonth termDay monthOfDay monthStart monthLength leap midTermsBefore
+leap-asked = refl
+
+pub one-day-back : answerTo (word "MOVE 1 11 - 1 -1") ≡ refusedText 8
+unfolding valueFrom allDigits isDecimal isBack like keyword fieldRead fieldsIn kindsOf valuesOf dayAnswer lineAnswer answerOf answerTo moveText moved dayOfDate dayOfNamed dayInMonth namedMonth termDay monthOfDay monthStart monthLength
+one-day-back = refl
 
 -- "A number too large for its type is out of range and is refused by its own reason in its own order, not unreadable"
 pub year-too-large : answerTo (word "YEAR 99999999999") ≡ refusedText 1
