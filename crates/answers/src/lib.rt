@@ -6,7 +6,7 @@ ghost use Prim.Native.Nat.{_+_, _≤_};
 ghost use lib.ListN.{length};
 ghost use Rattle.rule.specs.Reasons.{reasonNumber};
 ghost use Rattle.fields.specs.Fields.{Put, joined, each};
-ghost use Rattle.answers.specs.Answers.{
+ghost use Rattle.told.specs.Answers.{
   refusedText,
   fieldsOfBu,
   fieldsOfLeap,

@@ -4,7 +4,7 @@ ghost use Prim.Native.Nat.{ℕ, _+_, _*_, _≤_, _<_};
 ghost use lib.ListN.{length, getD, take};
 ghost use Rattle.rule.specs.Counts.{DayInRange};
 ghost use Rattle.fields.specs.Fields.{Put, each};
-ghost use Rattle.answers.specs.Answers.{
+ghost use Rattle.told.specs.Answers.{
   dayLineOf,
   dayText,
   dayLine,

@@ -11,7 +11,7 @@ use Rattle.dates.specs.Dates.{dateAt, namedMonth, dayInMonth, dayOfNamed, dayOf
 use Rattle.moves.specs.Moves.{moved}
 use Rattle.reading.specs.Readings.{inRanges}
 use Rattle.reading.specs.Search.{searchAt}
-use Rattle.answers.specs.Answers.{refusedText, yearText, termText, dayText, dateText, moveText, searchText}
+use Rattle.told.specs.Answers.{refusedText, yearText, termText, dayText, dateText, moveText, searchText}
 use Rattle.queries.specs.Queries.{unreadable, dayAnswer, lineAnswer, answerOf, answerTo}
 
 -- "a leading zero, `-0`"

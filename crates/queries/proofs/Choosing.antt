@@ -14,7 +14,7 @@ use mir.ValLaws.{toZ-pos, toZ-ofZ}
 use Rattle.fields.specs.Fields.{word}
 use Rattle.asked.specs.Asked.{like}
 use Rattle.asked.proofs.Scanning.{as-long}
-use Rattle.answers.specs.Answers.{
+use Rattle.told.specs.Answers.{
   placeText,
   yearText,
   monthText,

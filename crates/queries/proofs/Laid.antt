@@ -10,7 +10,7 @@ use Rattle.rule.proofs.Stores.{from-front}
 use borrow.Author.Tests.{le-leb, lt-leb}
 use Rattle.asked.specs.Asked.{fieldsIn, kindsOf, valuesOf, allCapped}
 use Rattle.queries.specs.Queries.{unreadable, answerOf, answerTo}
-use Rattle.queries.proofs.Capping.{all-in}
+use Rattle.queries.proofs.Cutting.{all-in}
 use Rattle.asked.proofs.Parting.{fields-few}
 
 module _ (s z z′ xs : List ℕ) (n : ℕ) (short : length s ≤ 200) (room : length z ≡ 201) (many : length xs ≡ length (fieldsIn s)) (e : n ≡ 0 + length (fieldsIn s)) (st : z′ ≡ sets z 0 xs) where

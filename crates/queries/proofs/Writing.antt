@@ -40,7 +40,7 @@ use Rattle.queries.specs.Paper.{
   written,
   answered,
 }
-use Rattle.answers.specs.Answers.{dateText, moveText}
+use Rattle.told.specs.Answers.{dateText, moveText}
 use Rattle.queries.proofs.Choosing.{search-chosen}
 
 -- fields without spaces, and their kinds and values

@@ -10,7 +10,7 @@ use Rattle.reading.specs.declared.Field.{Field}
 use Rattle.reading.specs.declared.Field.the-variants.{Known, Unread}
 use Rattle.reading.specs.Readings.{markNumber}
 use Rattle.fields.specs.Fields.{word, decimal, joined}
-use Rattle.answers.specs.Answers.{
+use Rattle.told.specs.Answers.{
   placeText,
   yearText,
   monthText,

@@ -10,7 +10,7 @@ use Rattle.reading.specs.declared.Field.the-variants.{Known, Unread}
 use Rattle.reading.specs.declared.Reading.{Reading}
 use Rattle.fields.specs.Fields.{word, lined}
 use Rattle.asked.specs.Asked.{fieldsIn, like, kindsOf, valuesOf}
-use Rattle.answers.specs.Answers.{
+use Rattle.told.specs.Answers.{
   placeText,
   yearText,
   monthText,

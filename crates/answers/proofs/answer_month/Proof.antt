@@ -2,8 +2,8 @@
 use native.Mathlib.Omega.{arith}
 use Rattle.facts.specs.Promises.{saidMonth}
 use Rattle.fields.proofs.Putting.{wide}
-use Rattle.answers.specs.Answers.{monthLineOf, monthText}
-use Rattle.answers.proofs.Telling.{tells}
+use Rattle.told.specs.Answers.{monthLineOf, monthText}
+use Rattle.told.proofs.Telling.{tells}
 use borrow.Author.Needs.{needs}
 use Rattle.answers.proofs.answer_month.Statement.{statement}
 use Rattle.answers.proofs.answer_month.Tie as tie

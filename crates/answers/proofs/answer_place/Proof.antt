@@ -2,8 +2,8 @@
 use native.Mathlib.Omega.{arith}
 use Rattle.facts.specs.Promises.{saidSolsticeYear}
 use Rattle.fields.proofs.Putting.{wide}
-use Rattle.answers.specs.Answers.{placeLine, placeText}
-use Rattle.answers.proofs.Telling.{tells}
+use Rattle.told.specs.Answers.{placeLine, placeText}
+use Rattle.told.proofs.Telling.{tells}
 use borrow.Author.Needs.{needs}
 use Rattle.answers.proofs.answer_place.Statement.{statement}
 use Rattle.answers.proofs.answer_place.Tie as tie

@@ -2,8 +2,8 @@
 use native.Mathlib.Omega.{arith}
 use Rattle.facts.specs.Promises.{saidQuarter}
 use Rattle.fields.proofs.Putting.{wide}
-use Rattle.answers.specs.Answers.{quarterLine, quarterText}
-use Rattle.answers.proofs.Telling.{tells}
+use Rattle.told.specs.Answers.{quarterLine, quarterText}
+use Rattle.told.proofs.Telling.{tells}
 use borrow.Author.Needs.{needs}
 use Rattle.answers.proofs.answer_quarter.Statement.{statement}
 use Rattle.answers.proofs.answer_quarter.Tie as tie

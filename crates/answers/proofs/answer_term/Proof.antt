@@ -2,8 +2,8 @@
 use native.Mathlib.Omega.{arith}
 use Rattle.facts.specs.Promises.{saidTerm}
 use Rattle.fields.proofs.Putting.{wide}
-use Rattle.answers.specs.Answers.{termLine, termText}
-use Rattle.answers.proofs.Telling.{tells}
+use Rattle.told.specs.Answers.{termLine, termText}
+use Rattle.told.proofs.Telling.{tells}
 use borrow.Author.Needs.{needs}
 use Rattle.answers.proofs.answer_term.Statement.{statement}
 use Rattle.answers.proofs.answer_term.Tie as tie

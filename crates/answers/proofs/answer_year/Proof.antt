@@ -2,8 +2,8 @@
 use native.Mathlib.Omega.{arith}
 use Rattle.facts.specs.Promises.{saidYear}
 use Rattle.fields.proofs.Putting.{wide}
-use Rattle.answers.proofs.Telling.{year-there, tells}
-use Rattle.answers.specs.Answers.{yearLine, yearText}
+use Rattle.told.proofs.Telling.{year-there, tells}
+use Rattle.told.specs.Answers.{yearLine, yearText}
 use borrow.Author.Needs.{needs}
 use Rattle.answers.proofs.answer_year.Statement.{statement}
 use Rattle.answers.proofs.answer_year.Tie as tie

@@ -5,7 +5,7 @@ use mathlib.Core.Path.{ap, sym}
 use Rattle.facts.specs.declared.LeapMonth.{LeapMonth}
 use Rattle.fields.proofs.Putting.{then, wide, put-as}
 use Rattle.fields.specs.Fields.{followed, joined}
-use Rattle.answers.specs.Answers.{fieldsOfLeap}
+use Rattle.told.specs.Answers.{fieldsOfLeap}
 use borrow.Author.Needs.{needs}
 use Rattle.answers.proofs.put_leap.Statement.{statement}
 use Rattle.answers.proofs.put_leap.Tie as tie

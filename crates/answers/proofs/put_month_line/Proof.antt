@@ -4,8 +4,8 @@ use mathlib.Core.List.{[], _∷_}
 use Rattle.fields.specs.Fields.{decimal, followed}
 use Rattle.fields.proofs.Putting.{then}
 use Rattle.lines.specs.Lines.{fieldsOfMonth}
-use Rattle.answers.specs.Answers.{monthLineOf}
-use Rattle.answers.proofs.Telling.{more-fields}
+use Rattle.told.specs.Answers.{monthLineOf}
+use Rattle.told.proofs.Telling.{more-fields}
 use borrow.Author.Needs.{needs}
 use Rattle.answers.proofs.put_month_line.Statement.{statement}
 use Rattle.answers.proofs.put_month_line.Tie as tie

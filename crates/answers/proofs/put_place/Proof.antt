@@ -3,8 +3,8 @@ use native.Mathlib.Omega.{arith}
 use mathlib.Core.List.{[], _∷_}
 use Rattle.fields.specs.Fields.{decimal, followed}
 use Rattle.fields.proofs.Putting.{then}
-use Rattle.answers.specs.Answers.{placeLine, fieldsOfBu}
-use Rattle.answers.proofs.Telling.{more-fields}
+use Rattle.told.specs.Answers.{placeLine, fieldsOfBu}
+use Rattle.told.proofs.Telling.{more-fields}
 use borrow.Author.Needs.{needs}
 use Rattle.answers.proofs.put_place.Statement.{statement}
 use Rattle.answers.proofs.put_place.Tie as tie

@@ -1,7 +1,7 @@
 -- `answers::put_quarter` meets its contract. Assumes nothing.
 use Rattle.fields.specs.Fields.{followed}
 use Rattle.fields.proofs.Putting.{then}
-use Rattle.answers.specs.Answers.{quarterLine}
+use Rattle.told.specs.Answers.{quarterLine}
 use borrow.Author.Needs.{needs}
 use Rattle.answers.proofs.put_quarter.Statement.{statement}
 use Rattle.answers.proofs.put_quarter.Tie as tie

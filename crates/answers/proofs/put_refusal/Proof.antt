@@ -1,7 +1,7 @@
 -- `answers::put_refusal` meets its contract. Assumes nothing.
 use Rattle.fields.specs.Fields.{followed}
 use Rattle.fields.proofs.Putting.{then, put-as}
-use Rattle.answers.proofs.Telling.{as-refusal}
+use Rattle.told.proofs.Telling.{as-refusal}
 use borrow.Author.Needs.{needs}
 use Rattle.answers.proofs.put_refusal.Statement.{statement}
 use Rattle.answers.proofs.put_refusal.Tie as tie

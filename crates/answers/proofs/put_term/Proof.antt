@@ -1,7 +1,7 @@
 -- `answers::put_term` meets its contract. Assumes nothing.
 use Rattle.fields.specs.Fields.{followed}
 use Rattle.fields.proofs.Putting.{then}
-use Rattle.answers.specs.Answers.{termLine}
+use Rattle.told.specs.Answers.{termLine}
 use borrow.Author.Needs.{needs}
 use Rattle.answers.proofs.put_term.Statement.{statement}
 use Rattle.answers.proofs.put_term.Tie as tie

@@ -4,8 +4,8 @@ use mathlib.Core.List.{[], _∷_}
 use Rattle.fields.specs.Fields.{word, decimal, followed}
 use Rattle.fields.proofs.Putting.{then}
 use Rattle.lines.specs.Lines.{fieldsOfYear}
-use Rattle.answers.specs.Answers.{fieldsOfLeap, yearLine}
-use Rattle.answers.proofs.Telling.{more-fields}
+use Rattle.told.specs.Answers.{fieldsOfLeap, yearLine}
+use Rattle.told.proofs.Telling.{more-fields}
 use borrow.Author.Needs.{needs}
 use Rattle.answers.proofs.put_year_line.Statement.{statement}
 use Rattle.answers.proofs.put_year_line.Tie as tie

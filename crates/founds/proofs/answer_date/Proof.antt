@@ -4,8 +4,8 @@ use mathlib.Core.Path.{ap, sym, _∙_}
 use Rattle.dates.proofs.Paper.{back-and-there}
 use Rattle.dates.specs.Promises.{saidDay}
 use Rattle.fields.proofs.Putting.{wide}
-use Rattle.answers.specs.Answers.{dayLine, dateText}
-use Rattle.answers.proofs.Telling.{tells}
+use Rattle.told.specs.Answers.{dayLine, dateText}
+use Rattle.told.proofs.Telling.{tells}
 use borrow.Author.Needs.{needs}
 use Rattle.founds.proofs.answer_date.Statement.{statement}
 use Rattle.founds.proofs.answer_date.Tie as tie

@@ -2,8 +2,8 @@
 use native.Mathlib.Omega.{arith}
 use Rattle.dates.specs.Promises.{saidDate}
 use Rattle.fields.proofs.Putting.{wide}
-use Rattle.answers.specs.Answers.{dayLineOf, dayText}
-use Rattle.answers.proofs.Telling.{tells}
+use Rattle.told.specs.Answers.{dayLineOf, dayText}
+use Rattle.told.proofs.Telling.{tells}
 use borrow.Author.Needs.{needs}
 use Rattle.founds.proofs.answer_day.Statement.{statement}
 use Rattle.founds.proofs.answer_day.Tie as tie

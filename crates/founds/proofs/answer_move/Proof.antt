@@ -11,8 +11,8 @@ use Rattle.dates.specs.declared.Date.{Date}
 use Rattle.dates.specs.Promises.{saidDate}
 use Rattle.moves.specs.Moves.{moved}
 use Rattle.fields.proofs.Putting.{wide}
-use Rattle.answers.specs.Answers.{textOfDate, moveText}
-use Rattle.answers.proofs.Telling.{tells}
+use Rattle.told.specs.Answers.{textOfDate, moveText}
+use Rattle.told.proofs.Telling.{tells}
 use borrow.Author.Needs.{needs}
 use Rattle.founds.proofs.answer_move.Statement.{statement}
 use Rattle.founds.proofs.answer_move.Tie as tie

@@ -3,7 +3,7 @@ use Prim.Native.Nat.{ℕ}
 use mathlib.Core.Bool.{Bool}
 use mathlib.Core.Path.{ap₂}
 use Rattle.fields.proofs.Putting.{put-as}
-use Rattle.answers.specs.Answers.{dateText}
+use Rattle.told.specs.Answers.{dateText}
 use borrow.Author.Needs.{needs}
 use Rattle.founds.proofs.answer_of_date.Statement.{statement}
 use Rattle.founds.proofs.answer_of_date.Tie as tie

@@ -8,9 +8,9 @@ use Rattle.reading.specs.Readings.{windowDays, fitting}
 use Rattle.reading.specs.Search.{searchAt, saidFound}
 use Rattle.fields.specs.Fields.{each}
 use Rattle.fields.proofs.Putting.{put-kept, wide, then, put-as}
-use Rattle.answers.specs.Answers.{dayLine, foundLine, places, searchText}
-use Rattle.answers.proofs.Telling.{tells}
-use Rattle.answers.proofs.Finding.{room-enough, found-days, found-few, found-inside, found-in-range}
+use Rattle.told.specs.Answers.{dayLine, foundLine, places, searchText}
+use Rattle.told.proofs.Telling.{tells}
+use Rattle.told.proofs.Finding.{room-enough, found-days, found-few, found-inside, found-in-range}
 use borrow.Author.Needs.{needs}
 use Rattle.founds.proofs.answer_search.Statement.{statement}
 use Rattle.founds.proofs.answer_search.Tie as tie

@@ -4,8 +4,8 @@ use mathlib.Core.List.{[], _∷_}
 use Rattle.fields.specs.Fields.{decimal, followed}
 use Rattle.fields.proofs.Putting.{then}
 use Rattle.lines.specs.Lines.{fieldsOfDay}
-use Rattle.answers.specs.Answers.{dayLineOf}
-use Rattle.answers.proofs.Telling.{more-fields}
+use Rattle.told.specs.Answers.{dayLineOf}
+use Rattle.told.proofs.Telling.{more-fields}
 use borrow.Author.Needs.{needs}
 use Rattle.founds.proofs.put_day_line.Statement.{statement}
 use Rattle.founds.proofs.put_day_line.Tie as tie

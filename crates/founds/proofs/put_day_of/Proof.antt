@@ -1,7 +1,7 @@
 -- `founds::put_day_of` meets its contract: the line of its date. Assumes nothing.
 use mathlib.Core.Path.{ap}
 use Rattle.fields.proofs.Putting.{put-as}
-use Rattle.answers.specs.Answers.{dayLineOf, dayLine}
+use Rattle.told.specs.Answers.{dayLineOf, dayLine}
 use borrow.Author.Needs.{needs}
 use Rattle.founds.proofs.put_day_of.Statement.{statement}
 use Rattle.founds.proofs.put_day_of.Tie as tie

@@ -5,7 +5,7 @@ use mathlib.Core.Path.{_≡_, ap}
 use lib.ListN.{take}
 use Rattle.fields.specs.Fields.{each, Put}
 use Rattle.fields.proofs.Putting.{put-kept, wide, put-none, put-as, each-next, turn}
-use Rattle.answers.specs.Answers.{dayLine}
+use Rattle.told.specs.Answers.{dayLine}
 use Rattle.founds.proofs.put_days.Statement.{statement}
 use Rattle.founds.proofs.put_days.Tie as tie
 use Rattle.founds.proofs.put_days.Reads as reads

@@ -1,7 +1,7 @@
 -- `founds::put_found` meets its contract. Assumes nothing.
 use Rattle.fields.specs.Fields.{followed}
 use Rattle.fields.proofs.Putting.{then}
-use Rattle.answers.specs.Answers.{foundLine}
+use Rattle.told.specs.Answers.{foundLine}
 use borrow.Author.Needs.{needs}
 use Rattle.founds.proofs.put_found.Statement.{statement}
 use Rattle.founds.proofs.put_found.Tie as tie

@@ -5,7 +5,7 @@ use lib.IntN.{ℤ}
 use lib.ListN.{getD}
 use mir.Syntax.{w64}
 use mir.ValLaws.{toZ-ofZ}
-use Rattle.answers.specs.Answers.{moveText}
+use Rattle.told.specs.Answers.{moveText}
 use Rattle.queries.specs.Queries.{isLeap}
 use Rattle.asked.proofs.Scanning.{as-long}
 use Rattle.fields.specs.Fields.{word}

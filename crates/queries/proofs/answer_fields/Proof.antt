@@ -3,7 +3,7 @@ use native.Mathlib.Omega.{arith}
 use mathlib.Core.Path.{ap, sym, _∙_}
 use lib.ListN.{getD}
 use Rattle.reading.specs.declared.Reading.{Reading}
-use Rattle.answers.specs.Answers.{searchText}
+use Rattle.told.specs.Answers.{searchText}
 use Rattle.asked.proofs.Scanning.{as-long}
 use Rattle.fields.specs.Fields.{word}
 use Rattle.fields.proofs.Putting.{put-as, wide}

@@ -9,7 +9,7 @@ use lib.ListN.{getD, drop}
 use Rattle.rule.specs.Reasons.{Answer, is, refused, refused-with, guard, andThen}
 use Rattle.fields.specs.Fields.{decimal, followed}
 use Rattle.fields.proofs.Paper.{first-tells}
-use Rattle.answers.specs.Answers.{wordsNumbered, refusedText, told}
+use Rattle.told.specs.Answers.{wordsNumbered, refusedText, told}
 
 -- the text of a refusal tells its number
 refused-once : (j k : ℕ) → refusedText j ≡ refusedText k → j ≡ k

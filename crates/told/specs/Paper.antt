@@ -38,7 +38,7 @@ use Rattle.reading.specs.Search.{searchAt}
 use Rattle.reading.specs.Paper.{FieldsInRange, IsWindow}
 use Rattle.fields.specs.Fields.{word, decimal, mark, each}
 use Rattle.lines.specs.Lines.{letterL, letterE, wordsOf}
-use Rattle.answers.specs.Answers.{
+use Rattle.told.specs.Answers.{
   places,
   wordsNumbered,
   refusedText,

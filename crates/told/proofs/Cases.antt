@@ -46,7 +46,7 @@ use Rattle.reading.specs.Search.{total, searchAt}
 use Rattle.reading.specs.Paper.{allUnread}
 use Rattle.fields.specs.Fields.{word, digits, decimal, followed, each}
 use Rattle.lines.specs.Paper.{inLines}
-use Rattle.answers.specs.Answers.{
+use Rattle.told.specs.Answers.{
   wordsNumbered,
   refusedText,
   placeLine,

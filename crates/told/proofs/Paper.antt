@@ -38,7 +38,7 @@ use Rattle.reading.specs.Search.{total, withRoom, searchAt}
 use Rattle.reading.proofs.Paper as Searches
 use Rattle.fields.specs.Fields.{word, decimal, followed, lined, each}
 use Rattle.lines.specs.Lines.{fieldsOfYear}
-use Rattle.answers.specs.Answers.{
+use Rattle.told.specs.Answers.{
   places,
   refusedText,
   told,
@@ -63,10 +63,10 @@ use Rattle.answers.specs.Answers.{
   foundLine,
   searchText,
 }
-use Rattle.answers.specs.Paper as Paper
-use Rattle.answers.proofs.Telling.{words-back, as-refusal}
-use Rattle.answers.proofs.Refusing.{NeverWith, never-refused, never-guard, never-one, never-two, never-then, tells-refusal}
-use Rattle.answers.proofs.Finding.{searched-few, searched-never-with, searched-not-twelve}
+use Rattle.told.specs.Paper as Paper
+use Rattle.told.proofs.Telling.{words-back, as-refusal}
+use Rattle.told.proofs.Refusing.{NeverWith, never-refused, never-guard, never-one, never-two, never-then, tells-refusal}
+use Rattle.told.proofs.Finding.{searched-few, searched-never-with, searched-not-twelve}
 
 pub words-of-a-number : Paper.Words-of-a-number
 words-of-a-number = words-back

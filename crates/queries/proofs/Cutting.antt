@@ -21,7 +21,7 @@ use Rattle.reading.specs.declared.Reading.{Reading}
 use Rattle.reading.specs.Readings.{windowDays, fitting}
 use Rattle.fields.specs.Fields.{word, each}
 use Rattle.asked.specs.Asked.{like, allCapped}
-use Rattle.answers.specs.Answers.{
+use Rattle.told.specs.Answers.{
   told,
   placeLine,
   placeText,

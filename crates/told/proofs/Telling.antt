@@ -17,7 +17,7 @@ use Rattle.fields.specs.Fields.{word, decimal, joined, lined, Put}
 use Rattle.fields.proofs.Putting.{then, put-as}
 use Rattle.fields.proofs.Paper.{joined-more}
 use Rattle.lines.specs.Lines.{wordsOf}
-use Rattle.answers.specs.Answers.{wordsNumbered, refusedText, told}
+use Rattle.told.specs.Answers.{wordsNumbered, refusedText, told}
 
 -- the text of what a call said is the text of what it promised to say
 pub tells : {A R : Type 0} {w a b : ℕ} {o o′ : List ℕ} (f : A → List ℕ) (said : R → Answer A) {r s : R} {x : Answer A} →

@@ -12,8 +12,8 @@ use Rattle.rule.specs.Lists.{placed}
 use Rattle.rule.specs.Reasons.{Answer, is, refused, refused-with, guard}
 use Rattle.rule.proofs.Answers.{fails-later, goes-on, holds-all, holds-with, given-not}
 use Rattle.rule.proofs.Lists.{complement, at-place}
-use Rattle.answers.specs.Answers.{places}
-use Rattle.answers.proofs.Refusing.{NeverWith, never-is}
+use Rattle.told.specs.Answers.{places}
+use Rattle.told.proofs.Refusing.{NeverWith, never-is}
 use Rattle.sheet.proofs.Paper.{front}
 use Rattle.reading.specs.declared.Reading.{Reading}
 use Rattle.reading.specs.declared.Found.{Found}
