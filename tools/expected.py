@@ -31,6 +31,8 @@ WORDS = {
     13: "window's last day before its first, or more than 27,759 days",
     14: "a known field of a reading outside its range",
     15: "term above 23 or quarter above 3",
+    19: "planet outside 1 to 5",
+    20: "no conjunction falls from the given day to the end of the range",
 }
 
 

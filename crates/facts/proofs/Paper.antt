@@ -9,12 +9,11 @@ use lib.ListN.{length}
 use Rattle.rule.specs.Lists.{those}
 use Rattle.rule.specs.Rule.{termDay, yearTerm, firstMonth, monthsInYear, InYear, leap, monthNumber}
 use Rattle.rule.specs.Paper.{monthsOf}
-use Rattle.rule.specs.Reasons.{within}
+use Rattle.rule.specs.Reasons.{within, reasonOf}
 use Rattle.rule.proofs.Years
 use Rattle.rule.proofs.Leap as Leaps
 use Rattle.rule.proofs.Lists.{empty, head-passes, hit-counts, none-pass}
 use Rattle.rule.proofs.Answers.{
-  reasonOf,
   reason-back,
   within-true,
   at-most,

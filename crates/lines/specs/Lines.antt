@@ -23,6 +23,8 @@ use Rattle.rule.specs.declared.Reason.the-variants.{
   BadWindow,
   FieldOutOfRange,
   NoSuchTermOrQuarter,
+  NoSuchPlanet,
+  NoConjunctionLeft,
 }
 use Rattle.dates.specs.declared.Date.{Date}
 use Rattle.dates.specs.Dates.{dateOf}
@@ -107,7 +109,7 @@ printed (refused-with k n) = refusedLine k
 unfoldable pub listing : List ℕ → List ℕ
 listing s = printed (readSheet s)
 
--- the words of the reasons, as the paper's table has them
+-- the words of the reasons, as the paper's table and request W11 have them
 abbrev pub wordsOf : Reason → List ℕ
 wordsOf NoSuchYear = word "year outside 1 to 41,040"
 wordsOf NoSuchMonthNumber = word "month number outside 1 to 12"
@@ -124,3 +126,5 @@ wordsOf LentTooShort = word "a lent list or buffer too short for the whole answe
 wordsOf BadWindow = word "window's last day before its first, or more than 27,759 days"
 wordsOf FieldOutOfRange = word "a known field of a reading outside its range"
 wordsOf NoSuchTermOrQuarter = word "term above 23 or quarter above 3"
+wordsOf NoSuchPlanet = word "planet outside 1 to 5"
+wordsOf NoConjunctionLeft = word "no conjunction falls from the given day to the end of the range"

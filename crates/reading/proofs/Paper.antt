@@ -14,11 +14,10 @@ use borrow.Author.Tests.{eqb-true, eq-eqb, leb-true, leb-false, le-leb, lt-leb}
 use Rattle.rule.specs.Counts.{DayInRange, dayName, yearName}
 use Rattle.rule.specs.Lists.{those, placed}
 use Rattle.rule.specs.Rule.{monthStart, monthOfDay, yearOfMonth, leap, monthNumber}
-use Rattle.rule.specs.Reasons.{Answer, is, refused, refused-with, guard}
+use Rattle.rule.specs.Reasons.{Answer, is, refused, refused-with, guard, reasonOf}
 use Rattle.rule.proofs.Leap as Leaps
 use Rattle.rule.proofs.Lists.{those-same, length-all, has-place, at-place, rises, run-at}
 use Rattle.rule.proofs.Answers.{
-  reasonOf,
   reason-back,
   one-to-one,
   both-true,

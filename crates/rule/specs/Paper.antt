@@ -9,9 +9,8 @@ use lib.ListN.{length, getD}
 use lib.Dec.{leb}
 use Rattle.rule.specs.Counts.{YearInRange, DayInRange, MonthInRange, elapsed, dayName, yearName, ji, bu, yearInBu, headName}
 use Rattle.rule.specs.Lists.{those}
-use Rattle.rule.specs.Reasons.{reasonNumber, reasonsInOrder}
+use Rattle.rule.specs.Reasons.{reasonNumber, reasonsInOrder, reasonOf}
 use Rattle.rule.specs.declared.Reason.{Reason}
-use Rattle.rule.specs.declared.Reason.the-variants.{NoSuchYear}
 use Rattle.rule.specs.Rule.{
   monthStart,
   smallRemainder,
@@ -294,7 +293,7 @@ Turns-mislead = (monthLength 128 ≡ 30) × (monthLength 129 ≡ 30)
 
 -- "Why a query comes back"
 
--- the numbers run from 1 to 15 in the table's order, and a number gives its reason back
+-- the numbers run from 1 to 15 in the table's order, then come 19 and 20, and a number gives its reason back
 pub record Reasons-numbered : Type 0 where
-  pub in-order : map reasonNumber reasonsInOrder ≡ 1 ∷ 2 ∷ 3 ∷ 4 ∷ 5 ∷ 6 ∷ 7 ∷ 8 ∷ 9 ∷ 10 ∷ 11 ∷ 12 ∷ 13 ∷ 14 ∷ 15 ∷ []
-  pub back : (r : Reason) → getD reasonsInOrder (reasonNumber r - 1) NoSuchYear ≡ r
+  pub in-order : map reasonNumber reasonsInOrder ≡ 1 ∷ 2 ∷ 3 ∷ 4 ∷ 5 ∷ 6 ∷ 7 ∷ 8 ∷ 9 ∷ 10 ∷ 11 ∷ 12 ∷ 13 ∷ 14 ∷ 15 ∷ 19 ∷ 20 ∷ []
+  pub back : (r : Reason) → reasonOf (reasonNumber r) ≡ r

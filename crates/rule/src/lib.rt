@@ -55,6 +55,8 @@ pub enum Reason {
     BadWindow,
     FieldOutOfRange,
     NoSuchTermOrQuarter,
+    NoSuchPlanet,
+    NoConjunctionLeft,
 }
 
 // The place of a year: ji 1 to 3, bu 1 to 20, year in bu 1 to 76.
@@ -90,6 +92,8 @@ pub fn reason_number(r: Reason) -> u8
         Reason::BadWindow => 13,
         Reason::FieldOutOfRange => 14,
         Reason::NoSuchTermOrQuarter => 15,
+        Reason::NoSuchPlanet => 19,
+        Reason::NoConjunctionLeft => 20,
     }
 }
 

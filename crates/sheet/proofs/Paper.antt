@@ -9,8 +9,8 @@ use lib.ListN.{length, take, drop, length-append, length-drop, replicate, length
 use lib.Dec.{leb}
 use lib.Seq.{take-at}
 use borrow.Author.Tests.{le-leb, lt-leb}
-use Rattle.rule.specs.Reasons.{Answer, is, refused, refused-with, guard, andThen, reasonNumber}
-use Rattle.rule.proofs.Answers.{reasonOf, reason-back, read-back, once, stops, passes}
+use Rattle.rule.specs.Reasons.{Answer, is, refused, refused-with, guard, andThen, reasonNumber, reasonOf}
+use Rattle.rule.proofs.Answers.{reason-back, read-back, once, stops, passes}
 use Rattle.sheet.specs.declared.Section.{Section}
 use Rattle.sheet.specs.declared.Counted.{Counted}
 use Rattle.sheet.specs.declared.SheetCounts.{SheetCounts}

@@ -4,11 +4,9 @@ use Prim.Native.Nat.{ℕ, _-_}
 use mathlib.Core.Bool.{Bool}
 use mathlib.Core.List.{List, [], _∷_, _++_}
 use lib.IntN.{ℤ}
-use lib.ListN.{getD}
 use Rattle.rule.specs.Rule.{numberOf, leapMark}
-use Rattle.rule.specs.Reasons.{Answer, is, refused, refused-with, reasonsInOrder}
+use Rattle.rule.specs.Reasons.{Answer, is, refused, refused-with, reasonOf}
 use Rattle.rule.specs.declared.Quarter.{Quarter}
-use Rattle.rule.specs.declared.Reason.the-variants.{NoSuchYear}
 use Rattle.dates.specs.declared.Date.{Date}
 use Rattle.dates.specs.Dates.{dateOf, dateAt, dayOfDate}
 use Rattle.moves.specs.Moves.{moved}
@@ -24,9 +22,9 @@ use Rattle.reading.specs.Search.{searchAt}
 use Rattle.fields.specs.Fields.{word, decimal, lined, each}
 use Rattle.lines.specs.Lines.{fieldsOfMonth, fieldsOfYear, fieldsOfDay, wordsOf}
 
--- the words of the reason with number k: the paper's table has it in place k (Paper, Words-of-a-number)
+-- the words of the reason with number k (Paper, Words-of-a-number)
 unfoldable pub wordsNumbered : ℕ → List ℕ
-wordsNumbered k = wordsOf (getD reasonsInOrder (k - 1) NoSuchYear)
+wordsNumbered k = wordsOf (reasonOf k)
 
 -- "A refusal is `REFUSED number words`"
 unfoldable pub refusedText : ℕ → List ℕ

@@ -1,4 +1,4 @@
-// The words of a reason, as the paper has them, put into a lent buffer. A crate of its own: fifteen constants are slow to check.
+// The words of a reason, as the paper has them, put into a lent buffer. A crate of its own: seventeen constants are slow to check.
 ghost use Prim.Native.Nat.{_+_, _≤_};
 ghost use lib.ListN.{length};
 ghost use Rattle.fields.specs.Fields.{Put};
@@ -47,6 +47,12 @@ pub fn put_words(why: Reason, out: &mut [u8], at: usize) -> usize
         ),
         Reason::NoSuchTermOrQuarter => fields::put_bytes(
             b"term above 23 or quarter above 3",
+            out,
+            at,
+        ),
+        Reason::NoSuchPlanet => fields::put_bytes(b"planet outside 1 to 5", out, at),
+        Reason::NoConjunctionLeft => fields::put_bytes(
+            b"no conjunction falls from the given day to the end of the range",
             out,
             at,
         ),

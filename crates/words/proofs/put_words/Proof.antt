@@ -145,6 +145,24 @@ slice-aggregate-put-bytes-15 c = refl
 put-bytes-requires-15 : tie.Need-put-bytes-requires-15
 put-bytes-requires-15 c κs = omega arith
 
+enum-told-16 : tie.Need-enum-told-16
+enum-told-16 c = search needs
+
+slice-aggregate-put-bytes-16 : tie.Need-slice-aggregate-put-bytes-16
+slice-aggregate-put-bytes-16 c = refl
+
+put-bytes-requires-16 : tie.Need-put-bytes-requires-16
+put-bytes-requires-16 c κs = omega arith
+
+enum-told-17 : tie.Need-enum-told-17
+enum-told-17 c = search needs
+
+slice-aggregate-put-bytes-17 : tie.Need-slice-aggregate-put-bytes-17
+slice-aggregate-put-bytes-17 c = refl
+
+put-bytes-requires-17 : tie.Need-put-bytes-requires-17
+put-bytes-requires-17 c κs = omega arith
+
 same-length : tie.Need-same-length
 same-length c = put-kept (c .before .before .put-bytes .ensures)
 
@@ -235,6 +253,18 @@ same-length-15 c = put-kept (c .before .before .put-bytes15 .ensures)
 returns-15 : tie.Need-returns-15
 returns-15 c = put-as (sym (ap wordsOf (c .before .before .before .before .before .enum-told15 .given .1))) (wide (omega arith) (c .before .before .put-bytes15 .ensures))
 
+same-length-16 : tie.Need-same-length-16
+same-length-16 c = put-kept (c .before .before .put-bytes16 .ensures)
+
+returns-16 : tie.Need-returns-16
+returns-16 c = put-as (sym (ap wordsOf (c .before .before .before .before .before .enum-told16 .given .1))) (wide (omega arith) (c .before .before .put-bytes16 .ensures))
+
+same-length-17 : tie.Need-same-length-17
+same-length-17 c = put-kept (c .before .before .put-bytes17 .ensures)
+
+returns-17 : tie.Need-returns-17
+returns-17 c = put-as (sym (ap wordsOf (c .before .before .before .before .before .enum-told17 .given .1))) (wide (omega arith) (c .before .before .put-bytes17 .ensures))
+
 pub put-words-spec : {M : Type 1} → statement M
 put-words-spec =
     tie.close
@@ -284,6 +314,12 @@ put-words-spec =
     enum-told-15
     slice-aggregate-put-bytes-15
     put-bytes-requires-15
+    enum-told-16
+    slice-aggregate-put-bytes-16
+    put-bytes-requires-16
+    enum-told-17
+    slice-aggregate-put-bytes-17
+    put-bytes-requires-17
     same-length
     returns
     same-length-2
@@ -313,4 +349,8 @@ put-words-spec =
     same-length-14
     returns-14
     same-length-15
-    returns-15)
+    returns-15
+    same-length-16
+    returns-16
+    same-length-17
+    returns-17)

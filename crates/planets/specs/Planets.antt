@@ -1,0 +1,106 @@
+-- "The five planets" (W11): their numbers, the k-th conjunction, the first on or after a day, for every number; refusals in the
+-- paper's order. Assumes nothing.
+use Prim.Native.Nat.{ℕ, _+_, _-_, _*_, _/_, _%_}
+use mathlib.Core.Bool.{Bool, true, false, cond}
+use mathlib.Core.List.{List, [], _∷_}
+use lib.Dec.{eqb, leb}
+use lib.ListN.{getD}
+use Rattle.rule.specs.Reasons.{Answer, is, guard, within}
+use Rattle.planets.specs.declared.Numbers.{Numbers}
+use Rattle.planets.specs.declared.Figures.{Figures}
+use Rattle.planets.specs.declared.Phase.{Phase}
+use Rattle.planets.specs.declared.Phase.the-variants.{Morning, Evening, Neither}
+use Rattle.planets.specs.declared.Conjunction.{Conjunction}
+use Rattle.planets.specs.declared.Counted.{Counted}
+use Rattle.planets.specs.declared.Pair.{Pair}
+
+-- "004 gives conjunctions per years": so many conjunctions in so many years, evening and morning ones by turns or neither
+abbrev pub numbers : ℕ → ℕ → Bool → Numbers
+numbers c y t = record { conjunctions = c; years = y; «by_turns» = t }
+
+abbrev pub jupiter : Numbers
+jupiter = numbers 4327 4725 false
+
+abbrev pub mars : Numbers
+mars = numbers 879 1876 false
+
+abbrev pub saturn : Numbers
+saturn = numbers 9096 9415 false
+
+abbrev pub venus : Numbers
+venus = numbers 5830 4661 true
+
+abbrev pub mercury : Numbers
+mercury = numbers 11908 1889 true
+
+-- the planets in the request's order, 1 to 5
+unfoldable pub numbersOf : ℕ → Numbers
+numbersOf p = getD (jupiter ∷ mars ∷ saturn ∷ venus ∷ mercury ∷ []) (p - 1) jupiter
+
+-- the parts of a day: "four times the conjunctions"
+abbrev pub divisor : Numbers → ℕ
+divisor n = 4 * n .conjunctions
+
+-- the same parts from one conjunction to the next: the years times 1,461
+abbrev pub step : Numbers → ℕ
+step n = 1461 * n .years
+
+-- "The k-th falls k times the years, times 1,461, divided by four times the conjunctions; k starts at 0": the whole part is its day
+unfoldable pub conjunctionDay : Numbers → ℕ → ℕ
+conjunctionDay n k = k * n .years * 1461 / divisor n
+
+-- the rest, in parts of the divisor
+unfoldable pub conjunctionParts : Numbers → ℕ → ℕ
+conjunctionParts n k = k * n .years * 1461 % divisor n
+
+-- "For Venus and Mercury an odd count is a morning conjunction, an even one an evening one" (Paper, Morning-and-evening)
+unfoldable pub phase : Numbers → ℕ → Phase
+phase n k = cond (n .«by_turns») (cond (eqb (k % 2) 1) Morning Evening) Neither
+
+unfoldable pub conjunctionOf : Numbers → ℕ → Conjunction
+conjunctionOf n k = record { day = conjunctionDay n k; parts = conjunctionParts n k; divisor = divisor n; phase = phase n k }
+
+-- the k-th conjunction of planet p: "a planet outside 1 to 5 is 19, then 6 for .. a k whose conjunction falls outside it"
+unfoldable pub conjunctionAt : ℕ → ℕ → Answer Conjunction
+conjunctionAt p k =
+    guard (within 1 5 p) 19 (guard (leb (conjunctionDay (numbersOf p) k) 14989859) 6 (is (conjunctionOf (numbersOf p) k)))
+
+-- the count of the first conjunction on or after day d: the least k whose day is not before it (Paper, First-on-or-after)
+unfoldable pub nextCount : Numbers → ℕ → ℕ
+nextCount n d = (d * divisor n + (step n - 1)) / step n
+
+unfoldable pub countedOf : Numbers → ℕ → Counted
+countedOf n k = record { k = k; conjunction = conjunctionOf n k }
+
+-- that conjunction: 19, then 6 "for a given day out of range", and "20, last, means that no conjunction falls from the given day to
+-- the end of the range"
+unfoldable pub nextAt : ℕ → ℕ → Answer Counted
+nextAt p d =
+    guard (within 1 5 p) 19
+    (guard (leb d 14989859) 6
+    (guard (leb (conjunctionDay (numbersOf p) (nextCount (numbersOf p) d)) 14989859) 20
+    (is (countedOf (numbersOf p) (nextCount (numbersOf p) d)))))
+
+-- one conjunction's days as 004 works them out, "398 days and 14,641 parts of 17,308"
+abbrev pub figures : ℕ → ℕ → ℕ → Figures
+figures d r s = record { days = d; parts = r; divisor = s }
+
+unfoldable pub figuresOf : ℕ → Figures
+figuresOf p =
+    getD
+    (figures 398 14641 17308 ∷ figures 779 1872 3516 ∷ figures 378 2163 36384 ∷ figures 292 281 23320 ∷ figures 57 44805 47632 ∷ [])
+    (p - 1) (figures 398 14641 17308)
+
+-- the two long counts, "four times one conjunction's parts, 1,461 times the divisor"
+abbrev pub longDays : Figures → ℕ
+longDays f = 4 * (f .days * f .divisor + f .parts)
+
+abbrev pub longCircle : Figures → ℕ
+longCircle f = 1461 * f .divisor
+
+-- the pair that is printed (Paper, Reduction: it is what the two long counts are reduced to)
+abbrev pub pairOf : Numbers → Pair
+pairOf n = record { years = n .years; conjunctions = n .conjunctions }
+
+unfoldable pub pairAt : ℕ → Answer Pair
+pairAt p = guard (within 1 5 p) 19 (is (pairOf (numbersOf p)))
