@@ -1,1 +1,9 @@
--- The proofs of the five planets.
+-- Laws of the conjunctions and of the common divisor, what holds of the five, and the proofs of the statements.
+pub mod Cases
+pub mod Moments
+pub mod Divisors
+pub mod Five
+pub mod Refusing
+pub mod Reducing
+pub mod Made
+pub mod Paper

@@ -1,0 +1,27 @@
+-- `planets::phase_of` meets its contract: by the planet's mark, then by the count's parity. Assumes nothing.
+use Prim.Native.Nat.{ℕ, _%_}
+use mathlib.Core.Path.{ap, sym, _∙_}
+use mathlib.Core.Bool.{Bool, cond}
+use lib.Dec.{eqb}
+use borrow.Author.Tests.{not-true, not-false, ne-eqb}
+use Rattle.planets.specs.declared.Phase.the-variants.{Morning, Evening, Neither}
+use Rattle.planets.specs.Planets.{phase}
+use Rattle.planets.proofs.phase_of.Statement.{statement}
+use Rattle.planets.proofs.phase_of.Tie as tie
+use Rattle.planets.proofs.phase_of.Reads as reads
+use Rattle.planets.proofs.phase_of.Lts as lts
+
+returns : tie.Need-returns
+unfolding phase
+returns c = sym (ap (λ (b : Bool). cond b (cond (eqb (c .before .before .args .k % 2) 1) Morning Evening) Neither) (not-true (c .before .before .args .n .«by_turns») (c .if1 .taken)))
+
+returns-2 : tie.Need-returns-2
+unfolding phase
+returns-2 c = sym (ap (λ (b : Bool). cond b (cond (eqb (c .before .before .before .args .k % 2) 1) Morning Evening) Neither) (not-false (c .before .before .before .args .n .«by_turns») (c .before .if1 .left)) ∙ ap (λ (r : ℕ). cond (eqb r 1) Morning Evening) (c .if2 .taken))
+
+returns-3 : tie.Need-returns-3
+unfolding phase
+returns-3 c = sym (ap (λ (b : Bool). cond b (cond (eqb (c .before .before .before .args .k % 2) 1) Morning Evening) Neither) (not-false (c .before .before .before .args .n .«by_turns») (c .before .if1 .left)) ∙ ap (λ (b : Bool). cond b Morning Evening) (ne-eqb (c .before .before .before .args .k % 2) 1 (c .if2 .left)))
+
+pub phase-of-spec : {M : Type 1} → statement M
+phase-of-spec = tie.close (tie.spec returns returns-2 returns-3)

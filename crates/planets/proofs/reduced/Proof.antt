@@ -1,0 +1,30 @@
+-- `planets::reduced` meets its contract: both counts are so many times their common divisor. Assumes nothing.
+use native.Mathlib.Nat.{pos-of-dvd-of-pos, div-mul-cancel}
+use mathlib.Core.Path.{sym}
+use borrow.Author.Needs.{needs}
+use Rattle.planets.proofs.reduced.Statement.{statement}
+use Rattle.planets.proofs.reduced.Tie as tie
+use Rattle.planets.proofs.reduced.Reads as reads
+use Rattle.planets.proofs.reduced.Lts as lts
+use Rattle.planets.proofs.common_divisor.Reads as common-divisor-reads
+
+common-divisor-requires : tie.Need-common-divisor-requires
+common-divisor-requires c κs = search needs
+
+div-t4 : tie.Need-div-t4
+div-t4 c = pos-of-dvd-of-pos (c .common-divisor .ensures .second) (c .before .pre)
+
+div-t5 : tie.Need-div-t5
+div-t5 c = pos-of-dvd-of-pos (c .common-divisor .ensures .second) (c .before .pre)
+
+returns : tie.Need-returns
+returns c =
+    record {
+      common = c .common-divisor .result;
+      is-common = c .common-divisor .ensures;
+      first = sym (div-mul-cancel (c .common-divisor .result) (c .common-divisor .ensures .first));
+      second = sym (div-mul-cancel (c .common-divisor .result) (c .common-divisor .ensures .second));
+    }
+
+pub reduced-spec : {M : Type 1} → statement M
+reduced-spec = tie.close (tie.spec common-divisor-requires div-t4 div-t5 returns)

@@ -1,0 +1,53 @@
+-- `planets::reduced_pair` meets its contract: 19, and the two long counts are reduced to the printed pair. Assumes nothing.
+use Prim.Native.Nat.{ℕ, _<_}
+use mathlib.Core.Path.{ap, sym, subst, _∙_}
+use Rattle.rule.specs.Reasons.{is}
+use Rattle.rule.proofs.Answers.{failed, passed, within-true}
+use Rattle.planets.specs.Planets.{figuresOf, longDays, longCircle}
+use Rattle.planets.specs.Divisors.{Reduced}
+use Rattle.planets.proofs.Five.{some-circle}
+use Rattle.planets.proofs.Reducing.{reduction}
+use Rattle.planets.proofs.Made.{pair-no-planet, pair-one}
+use borrow.Author.Needs.{needs}
+use Rattle.planets.proofs.reduced_pair.Statement.{statement}
+use Rattle.planets.proofs.reduced_pair.Tie as tie
+use Rattle.planets.proofs.reduced_pair.Reads as reads
+use Rattle.planets.proofs.reduced_pair.Lts as lts
+use Rattle.planets.proofs.figures_of.Reads as figures-of-reads
+use Rattle.planets.proofs.long_circle.Reads as long-circle-reads
+use Rattle.planets.proofs.long_days.Reads as long-days-reads
+use Rattle.planets.proofs.reduced.Reads as reduced-reads
+use Rattle.rule.proofs.in_range.Reads as in-range-reads
+
+in-range-requires : tie.Need-in-range-requires
+in-range-requires c κs = search needs
+
+returns : tie.Need-returns
+returns c = pair-no-planet (c .before .before .args .planet) (failed _ _ (c .before .in-range .ensures) (c .if1 .taken))
+
+figures-of-requires : tie.Need-figures-of-requires
+figures-of-requires c κs = (within-true 1 5 (c .before .before .args .planet) .0 (passed _ _ (c .before .in-range .ensures) (c .if1 .left)))
+
+long-days-requires : tie.Need-long-days-requires
+long-days-requires c κs = search needs
+
+long-circle-requires : tie.Need-long-circle-requires
+long-circle-requires c κs = search needs
+
+reduced-requires : tie.Need-reduced-requires
+reduced-requires c κs = subst (λ (m : ℕ). 0 < m) (sym (c .long-circle .ensures ∙ ap longCircle (c .before .before .figures-of .ensures))) (some-circle (c .before .before .before .before .before .args .planet) (within-true 1 5 (c .before .before .before .before .before .args .planet) .0 (passed _ _ (c .before .before .before .before .in-range .ensures) (c .before .before .before .if1 .left))))
+
+returns-2 : tie.Need-returns-2
+returns-2 c = ap is (reduction (c .before .before .before .before .before .before .args .planet) (within-true 1 5 (c .before .before .before .before .before .before .args .planet) .0 (passed _ _ (c .before .before .before .before .before .in-range .ensures) (c .before .before .before .before .if1 .left))) (c .reduced .result) .0 (subst (λ (m : ℕ). Reduced m (longCircle (figuresOf (c .before .before .before .before .before .before .args .planet))) (c .reduced .result)) (c .before .before .long-days .ensures ∙ ap longDays (c .before .before .before .figures-of .ensures)) (subst (λ (m : ℕ). Reduced (c .before .before .long-days .result) m (c .reduced .result)) (c .before .long-circle .ensures ∙ ap longCircle (c .before .before .before .figures-of .ensures)) (c .reduced .ensures)))) ∙ pair-one (c .before .before .before .before .before .before .args .planet) (passed _ _ (c .before .before .before .before .before .in-range .ensures) (c .before .before .before .before .if1 .left))
+
+pub reduced-pair-spec : {M : Type 1} → statement M
+reduced-pair-spec =
+    tie.close
+    (tie.spec
+    in-range-requires
+    returns
+    figures-of-requires
+    long-days-requires
+    long-circle-requires
+    reduced-requires
+    returns-2)
