@@ -1,14 +1,14 @@
 -- What request W11 says of the five planets, proved, each statement under its name in small letters. Assumes nothing.
-use Prim.Native.Nat.{ℕ, _+_, _*_, _%_, _≤_, _<_}
+use Prim.Native.Nat.{ℕ, zero, suc, _+_, _*_, _%_, _≤_, _<_}
 use native.Mathlib.Omega.{arith}
 use mathlib.Core.Path.{_≡_, refl, ap, sym, subst, _∙_}
-use mathlib.Core.Logic.{_↔_, _⊎_, ⊎-elim, Iff·trans}
+use mathlib.Core.Logic.{_↔_, _⊎_, inl, inr, ⊎-elim, Iff·trans}
 use mathlib.Core.Bool.{Bool, true, false, cond}
 use lib.Dec.{eqb, leb, ltb}
 use borrow.Author.Tests.{ltb-true, ltb-false}
 use Rattle.rule.specs.Counts.{DayInRange}
 use Rattle.rule.specs.Reasons.{Answer, is, refused, within, guard, reasonOf}
-use Rattle.rule.proofs.Answers.{reason-back, within-true, at-most, holds-all, fails, then-iff, test-iff, one-given, one-refused, read-back, once, given-not}
+use Rattle.rule.proofs.Answers.{reason-back, within-true, at-most, holds-all, passes, fails, then-iff, test-iff, one-given, one-refused, read-back, once, given-not}
 use Rattle.planets.specs.declared.Phase.{Phase}
 use Rattle.planets.specs.declared.Phase.the-variants.{Morning, Evening, Neither}
 use Rattle.planets.specs.declared.ConjunctionTold.{ConjunctionTold}
@@ -32,7 +32,7 @@ use Rattle.planets.specs.Planets.{
 }
 use Rattle.planets.specs.Promises.{saidConjunction, saidNext, saidPair}
 use Rattle.planets.specs.Paper as Paper
-use Rattle.planets.specs.Paper.{Planet, LeastFrom, NoneLeft, NextReasons}
+use Rattle.planets.specs.Paper.{Planet, LeastFrom, NoneLeft, NextReasons, morning, mornings}
 use Rattle.planets.proofs.Moments
 use Rattle.planets.proofs.Divisors
 use Rattle.planets.proofs.Five
@@ -63,6 +63,24 @@ morning-and-evening =
       even = λ p k. ⊎-elim (λ e. rw (e) (turn 0 (2 * k) (omega arith))) (λ e. rw (e) (turn 0 (2 * k) (omega arith)));
       neither = λ p k a b. Five.each-planet (λ q. q ≤ 3 → phase (numbersOf q) k ≡ Neither) (λ h. refl) (λ h. refl) (λ h. refl) (λ h. absurd (omega (arith, h))) (λ h. absurd (omega (arith, h))) p (a, omega (arith, b)) b;
     }
+
+-- two more conjunctions: one more morning
+two-more : (p m : ℕ) → (p ≡ 4) ⊎ (p ≡ 5) → mornings (numbersOf p) (suc (suc (2 * m))) ≡ mornings (numbersOf p) (2 * m) + 1
+unfolding mornings
+two-more p m h =
+    ap (λ (a : Phase). mornings (numbersOf p) (2 * m) + morning a + morning (phase (numbersOf p) (suc (2 * m)))) (morning-and-evening .even p m h)
+    ∙ ap (λ (a : Phase). mornings (numbersOf p) (2 * m) + 0 + morning a) (ap (phase (numbersOf p)) (let o : suc (2 * m) ≡ 2 * m + 1 = omega arith in o) ∙ morning-and-evening .odd p m h)
+    ∙ omega arith
+
+half-mornings : (p m : ℕ) → (p ≡ 4) ⊎ (p ≡ 5) → mornings (numbersOf p) (2 * m) ≡ m
+unfolding mornings
+half-mornings p zero h = refl
+half-mornings p (suc m) h =
+    ap (mornings (numbersOf p)) (let o : 2 * suc m ≡ suc (suc (2 * m)) = omega arith in o) ∙ two-more p m h ∙ omega (arith, half-mornings p m h)
+
+pub half-are-mornings : Paper.Half-are-mornings
+unfolding numbersOf
+half-are-mornings = record { half = half-mornings; venus = half-mornings 4 2915 (inl refl); mercury = half-mornings 5 5954 (inr refl) }
 
 pub one-common-divisor : Paper.One-common-divisor
 one-common-divisor = Divisors.one-divisor
@@ -162,6 +180,18 @@ nexts p d =
 
     no-nineteen : asked p d ≡ refused 19 → ⊥
     no-nineteen e = Refusing.is-none (countedOf (numbersOf p) (nextCount (numbersOf p) d)) 19 (Refusing.further in-range 20 19 (is (countedOf (numbersOf p) (nextCount (numbersOf p) d))) (λ q. omega (arith, q)) .0 (Refusing.further (leb d 14989859) 6 19 (left p d) (λ q. omega (arith, q)) .0 e .1) .1)
+
+pub next-is-a-conjunction : Paper.Next-is-a-conjunction
+unfolding nextAt conjunctionAt countedOf conjunctionOf
+next-is-a-conjunction p d c e =
+    let a = holds-all (within 1 5 p) 19 (asked p d) c .0 e in
+    let b = holds-all (leb d 14989859) 6 (left p d) c .0 (a .1) in
+    let f = holds-all (leb (conjunctionDay (numbersOf p) (nextCount (numbersOf p) d)) 14989859) 20 (is (countedOf (numbersOf p) (nextCount (numbersOf p) d))) c .0 (b .1) in
+    let g : countedOf (numbersOf p) (nextCount (numbersOf p) d) ≡ c = let h : _≡_ {A = Answer Counted} (is (countedOf (numbersOf p) (nextCount (numbersOf p) d))) (is c) = f .1 in cc in
+    subst (λ (x : Counted). (conjunctionAt p (x .k) ≡ is (x .conjunction)) × (d ≤ x .conjunction .day)) g (
+      passes (within 1 5 p) 19 _ (a .0) ∙ passes (leb (conjunctionDay (numbersOf p) (nextCount (numbersOf p) d)) 14989859) 6 _ (f .0),
+      Moments.next-least (numbersOf p) (Five.good-planets p (within-true 1 5 p .0 (a .0))) d .0,
+    )
 
 pub reasons-of-planets : Paper.Reasons-of-planets
 unfolding conjunctionAt pairAt

@@ -1,14 +1,14 @@
 -- What request W11 says of the five planets, as statements. proofs/Paper.antt proves each under the same name in small letters.
 -- Assumes nothing.
-use Prim.Native.Nat.{ℕ, _+_, _*_, _≤_, _<_}
+use Prim.Native.Nat.{ℕ, zero, suc, _+_, _*_, _≤_, _<_}
 use mathlib.Core.Path.{_≡_}
 use mathlib.Core.Logic.{_↔_, _⊎_}
-use mathlib.Core.Bool.{true}
-use mathlib.Core.List.{List, [], _∷_, map}
 use Rattle.rule.specs.Counts.{DayInRange}
-use Rattle.rule.specs.Reasons.{Answer, is, refused, andThen}
+use Rattle.rule.specs.Reasons.{is, refused}
 use Rattle.planets.specs.declared.Numbers.{Numbers}
 use Rattle.planets.specs.declared.Pair.{Pair}
+use Rattle.planets.specs.declared.Counted.{Counted}
+use Rattle.planets.specs.declared.Phase.{Phase}
 use Rattle.planets.specs.declared.Phase.the-variants.{Morning, Evening, Neither}
 use Rattle.planets.specs.declared.ConjunctionTold.{ConjunctionTold}
 use Rattle.planets.specs.declared.NextTold.{NextTold}
@@ -79,6 +79,22 @@ pub record Morning-and-evening : Type 0 where
   pub even : (p k : ℕ) → (p ≡ 4) ⊎ (p ≡ 5) → phase (numbersOf p) (2 * k) ≡ Evening
   pub neither : (p k : ℕ) → 1 ≤ p → p ≤ 3 → phase (numbersOf p) k ≡ Neither
 
+-- how many of the conjunctions before the k-th are morning ones
+abbrev pub morning : Phase → ℕ
+morning Morning = 1
+morning Evening = 0
+morning Neither = 0
+
+unfoldable pub mornings : Numbers → ℕ → ℕ
+mornings n zero = 0
+mornings n (suc k) = mornings n k + morning (phase n k)
+
+-- half of them are: in its years Venus has 2,915 and Mercury 5,954, as 004 counts them (P89, P109)
+pub record Half-are-mornings : Type 0 where
+  pub half : (p m : ℕ) → (p ≡ 4) ⊎ (p ≡ 5) → mornings (numbersOf p) (2 * m) ≡ m
+  pub venus : mornings (numbersOf 4) (numbersOf 4 .conjunctions) ≡ 2915
+  pub mercury : mornings (numbersOf 5) (numbersOf 5 .conjunctions) ≡ 5954
+
 -- "Refusals: a planet outside 1 to 5 is 19, then 6 for .. a k whose conjunction falls outside it, however large"
 pub record ConjunctionReasons (p k : ℕ) : Type 0 where
   pub given : (conjunctionAt p k ≡ is (conjunctionOf (numbersOf p) k)) ↔ (Planet p × DayInRange (conjunctionDay (numbersOf p) k))
@@ -95,6 +111,10 @@ pub record NextReasons (p d : ℕ) : Type 0 where
   pub nineteen : (nextAt p d ≡ refused 19) ↔ (Planet p → ⊥)
   pub six : (nextAt p d ≡ refused 6) ↔ (Planet p × (DayInRange d → ⊥))
   pub twenty : (nextAt p d ≡ refused 20) ↔ (Planet p × DayInRange d × NoneLeft p d)
+
+-- the one that is found is what the other call gives for its count, and it is not before the day
+abbrev pub Next-is-a-conjunction : Type 0
+Next-is-a-conjunction = (p d : ℕ) (c : Counted) → nextAt p d ≡ is c → (conjunctionAt p (c .k) ≡ is (c .conjunction)) × (d ≤ c .conjunction .day)
 
 pub record Reasons-of-planets : Type 0 where
   pub conjunctions : (p k : ℕ) → ConjunctionReasons p k
