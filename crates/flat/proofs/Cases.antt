@@ -36,7 +36,19 @@ use Rattle.facts.specs.Facts.{
   quarterAt,
   termAt,
 }
-use Rattle.flat.specs.Flat.{flatDate, flatDay, flatSolstice, flatYear, flatMonth, flatQuarter, flatFound}
+use Rattle.planets.specs.Planets.{
+  numbersOf,
+  conjunctionDay,
+  conjunctionParts,
+  phase,
+  conjunctionOf,
+  conjunctionAt,
+  nextCount,
+  countedOf,
+  nextAt,
+  pairAt,
+}
+use Rattle.flat.specs.Flat.{flatDate, flatDay, flatSolstice, flatYear, flatMonth, flatQuarter, flatConjunction, flatNext, flatPair, flatFound}
 
 -- case 3: the last day, leap 10, and the day after it
 pub last-day :
@@ -127,6 +139,29 @@ pub month-134 :
     }
 unfolding monthFactsAt monthFacts monthAt leap monthNumber midTermNumber midTermsBefore monthStart smallRemainder monthLength dayName eclipse
 month-134 = refl
+
+-- W11: the first conjunction of Venus, a morning one; the one that 004 counts to by the end of year 9,455, an evening one; its pair
+pub first-of-venus : flatConjunction (conjunctionAt 4 1) ≡ record { reason = 0; day = 292; parts = 281; divisor = 23320; phase = 1 }
+unfolding conjunctionAt conjunctionOf numbersOf conjunctionDay conjunctionParts phase
+first-of-venus = refl
+
+pub first-of-jupiter : flatConjunction (conjunctionAt 1 1) ≡ record { reason = 0; day = 398; parts = 14641; divisor = 17308; phase = 0 }
+unfolding conjunctionAt conjunctionOf numbersOf conjunctionDay conjunctionParts phase
+first-of-jupiter = refl
+
+pub venus-in-9455 :
+    flatNext (nextAt 4 3453334)
+    ≡ record { reason = 0; k = 11826; day = 3453334; parts = 11666; divisor = 23320; phase = 2 }
+unfolding nextAt countedOf nextCount conjunctionOf numbersOf conjunctionDay conjunctionParts phase
+venus-in-9455 = refl
+
+pub none-left : flatNext (nextAt 4 14989855) ≡ record { reason = 20; k = 0; day = 0; parts = 0; divisor = 0; phase = 0 }
+unfolding nextAt countedOf nextCount conjunctionOf numbersOf conjunctionDay conjunctionParts phase
+none-left = refl
+
+pub pair-of-venus : flatPair (pairAt 4) ≡ record { reason = 0; years = 4661; conjunctions = 5830 }
+unfolding pairAt numbersOf
+pair-of-venus = refl
 
 -- "a search refused with 12 also returns the true total"
 pub true-total : flatFound (refused-with 12 27759) ≡ record { reason = 12; total = 27759 }

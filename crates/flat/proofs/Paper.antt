@@ -1,5 +1,5 @@
 -- Proofs of the statements about answers laid flat. Assumes nothing.
-use Prim.Native.Nat.{ℕ}
+use Prim.Native.Nat.{ℕ, zero, suc}
 use mathlib.Core.Path.{_≡_, refl, ap}
 use mathlib.Core.Bool.{Bool, true, false}
 use Rattle.rule.specs.Rule.{marked, numberOf, leapMark}
@@ -13,6 +13,12 @@ use Rattle.facts.specs.declared.LeapMonth.{LeapMonth}
 use Rattle.facts.specs.declared.LeapMonth.the-variants.{Without, With}
 use Rattle.facts.specs.declared.YearFacts.{YearFacts}
 use Rattle.facts.specs.declared.MonthFacts.{MonthFacts}
+use Rattle.planets.specs.declared.Phase.{Phase}
+use Rattle.planets.specs.declared.Phase.the-variants.{Morning, Evening, Neither}
+use Rattle.planets.specs.declared.Conjunction.{Conjunction}
+use Rattle.planets.specs.declared.Counted as Planets
+use Rattle.planets.specs.declared.Pair.{Pair}
+use Rattle.planets.specs.Table.{phaseNumber}
 use Rattle.sheet.specs.declared.Counted.{Counted}
 use Rattle.flat.specs.declared.CDate.{CDate}
 use Rattle.flat.specs.declared.CDay.{CDay}
@@ -20,9 +26,25 @@ use Rattle.flat.specs.declared.CSolstice.{CSolstice}
 use Rattle.flat.specs.declared.CYear.{CYear}
 use Rattle.flat.specs.declared.CMonth.{CMonth}
 use Rattle.flat.specs.declared.CQuarter.{CQuarter}
+use Rattle.flat.specs.declared.CConjunction.{CConjunction}
+use Rattle.flat.specs.declared.CNext.{CNext}
+use Rattle.flat.specs.declared.CPair.{CPair}
 use Rattle.flat.specs.declared.CSheetCounts.{CSheetCounts}
 use Rattle.flat.specs.declared.CLength.{CLength}
-use Rattle.flat.specs.Flat.{givenDate, givenSolstice, hasLeap, leapNumber, leapCount, givenYear, givenMonth, givenQuarter, givenCounts}
+use Rattle.flat.specs.Flat.{
+  givenDate,
+  givenSolstice,
+  hasLeap,
+  leapNumber,
+  leapCount,
+  givenYear,
+  givenMonth,
+  givenQuarter,
+  givenConjunction,
+  givenNext,
+  givenPair,
+  givenCounts,
+}
 use Rattle.flat.specs.Paper as Paper
 
 pub refusals-flat : Paper.Refusals-flat
@@ -70,6 +92,9 @@ refusals-flat =
         },
       );
       quarter = λ k. (refl, record { day = refl; parts = refl });
+      conjunction = λ k. (refl, record { day = refl; parts = refl; divisor = refl; phase = refl });
+      next = λ k. (refl, record { count = refl; day = refl; parts = refl; divisor = refl; phase = refl });
+      pair = λ k. (refl, record { years = refl; conjunctions = refl });
       found = λ k. (refl, refl);
       too-short = λ k n. (refl, refl);
       counts = λ k. (refl, record { years = refl; months = refl; days = refl });
@@ -88,6 +113,17 @@ leapFrom false k n = Without
 leap-back : (l : LeapMonth) → leapFrom (hasLeap l) (leapNumber l) (leapCount l) ≡ l
 leap-back Without = refl
 leap-back (With k n) = refl
+
+-- a phase from its number
+abbrev phaseFrom : ℕ → Phase
+phaseFrom zero = Neither
+phaseFrom (suc zero) = Morning
+phaseFrom (suc (suc n)) = Evening
+
+phase-back : (p : Phase) → phaseFrom (phaseNumber p) ≡ p
+phase-back Morning = refl
+phase-back Evening = refl
+phase-back Neither = refl
 
 -- each answer from its struct
 abbrev dateFrom : CDate → Date
@@ -136,6 +172,19 @@ monthFrom r =
 abbrev quarterFrom : CQuarter → Quarter
 quarterFrom r = record { day = r .day; parts = r .parts }
 
+abbrev conjunctionFrom : CConjunction → Conjunction
+conjunctionFrom r = record { day = r .day; parts = r .parts; divisor = r .divisor; phase = phaseFrom (r .phase) }
+
+abbrev nextFrom : CNext → Planets.Counted
+nextFrom r =
+    record {
+      k = r .k;
+      conjunction = record { day = r .day; parts = r .parts; divisor = r .divisor; phase = phaseFrom (r .phase) };
+    }
+
+abbrev pairFrom : CPair → Pair
+pairFrom r = record { years = r .years; conjunctions = r .conjunctions }
+
 abbrev countsFrom : CSheetCounts → Counted
 countsFrom r = record { years = r .years; months = r .months; days = r .days }
 
@@ -151,6 +200,11 @@ nothing-lost =
       month = one-to-one givenMonth monthFrom
           (λ f. ap (λ (m : Month). record { month = m; «first_day» = f .«first_day»; «small_remainder» = f .«small_remainder»; «month_length» = f .«month_length»; «first_name» = f .«first_name»; eclipse = f .eclipse }) (month-back (f .month)));
       quarter = one-to-one givenQuarter quarterFrom (λ q. refl);
+      conjunction = one-to-one givenConjunction conjunctionFrom
+          (λ c. ap (λ (p : Phase). record { day = c .day; parts = c .parts; divisor = c .divisor; phase = p }) (phase-back (c .phase)));
+      next = one-to-one givenNext nextFrom
+          (λ n. ap (λ (p : Phase). record { k = n .k; conjunction = record { day = n .conjunction .day; parts = n .conjunction .parts; divisor = n .conjunction .divisor; phase = p } }) (phase-back (n .conjunction .phase)));
+      pair = one-to-one givenPair pairFrom (λ p. refl);
       counts = one-to-one givenCounts countsFrom (λ c. refl);
       length = λ a b e. ap (λ (r : CLength). r .length) e;
     }

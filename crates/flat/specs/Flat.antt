@@ -11,6 +11,10 @@ use Rattle.facts.specs.declared.LeapMonth.{LeapMonth}
 use Rattle.facts.specs.declared.LeapMonth.the-variants.{Without, With}
 use Rattle.facts.specs.declared.YearFacts.{YearFacts}
 use Rattle.facts.specs.declared.MonthFacts.{MonthFacts}
+use Rattle.planets.specs.declared.Conjunction.{Conjunction}
+use Rattle.planets.specs.declared.Counted as Planets
+use Rattle.planets.specs.declared.Pair.{Pair}
+use Rattle.planets.specs.Table.{phaseNumber}
 use Rattle.sheet.specs.declared.Counted.{Counted}
 use Rattle.flat.specs.declared.CDate.{CDate}
 use Rattle.flat.specs.declared.CDay.{CDay}
@@ -18,6 +22,9 @@ use Rattle.flat.specs.declared.CSolstice.{CSolstice}
 use Rattle.flat.specs.declared.CYear.{CYear}
 use Rattle.flat.specs.declared.CMonth.{CMonth}
 use Rattle.flat.specs.declared.CQuarter.{CQuarter}
+use Rattle.flat.specs.declared.CConjunction.{CConjunction}
+use Rattle.flat.specs.declared.CNext.{CNext}
+use Rattle.flat.specs.declared.CPair.{CPair}
 use Rattle.flat.specs.declared.CFound.{CFound}
 use Rattle.flat.specs.declared.CSheetCounts.{CSheetCounts}
 use Rattle.flat.specs.declared.CLength.{CLength}
@@ -178,6 +185,44 @@ noQuarter k = record { reason = k; day = 0; parts = 0 }
 
 abbrev pub flatQuarter : Answer Quarter → CQuarter
 flatQuarter = flat givenQuarter noQuarter
+
+-- a conjunction: 1 a morning one, 2 an evening one, 0 neither
+abbrev pub givenConjunction : Conjunction → CConjunction
+givenConjunction c = record { reason = 0; day = c .day; parts = c .parts; divisor = c .divisor; phase = phaseNumber (c .phase) }
+
+abbrev pub noConjunction : ℕ → CConjunction
+noConjunction k = record { reason = k; day = 0; parts = 0; divisor = 0; phase = 0 }
+
+abbrev pub flatConjunction : Answer Conjunction → CConjunction
+flatConjunction = flat givenConjunction noConjunction
+
+-- the first one on or after a day, with its count
+abbrev pub givenNext : Planets.Counted → CNext
+givenNext n =
+    record {
+      reason = 0;
+      k = n .k;
+      day = n .conjunction .day;
+      parts = n .conjunction .parts;
+      divisor = n .conjunction .divisor;
+      phase = phaseNumber (n .conjunction .phase);
+    }
+
+abbrev pub noNext : ℕ → CNext
+noNext k = record { reason = k; k = 0; day = 0; parts = 0; divisor = 0; phase = 0 }
+
+abbrev pub flatNext : Answer Planets.Counted → CNext
+flatNext = flat givenNext noNext
+
+-- a planet's pair
+abbrev pub givenPair : Pair → CPair
+givenPair p = record { reason = 0; years = p .years; conjunctions = p .conjunctions }
+
+abbrev pub noPair : ℕ → CPair
+noPair k = record { reason = k; years = 0; conjunctions = 0 }
+
+abbrev pub flatPair : Answer Pair → CPair
+flatPair = flat givenPair noPair
 
 -- what a search found: a refusal that says the true total keeps it
 abbrev pub flatFound : Answer ℕ → CFound

@@ -10,6 +10,9 @@ use Rattle.dates.specs.declared.Date.{Date}
 use Rattle.facts.specs.declared.SolsticeYear.{SolsticeYear}
 use Rattle.facts.specs.declared.YearFacts.{YearFacts}
 use Rattle.facts.specs.declared.MonthFacts.{MonthFacts}
+use Rattle.planets.specs.declared.Conjunction.{Conjunction}
+use Rattle.planets.specs.declared.Counted as Planets
+use Rattle.planets.specs.declared.Pair.{Pair}
 use Rattle.sheet.specs.declared.Counted.{Counted}
 use Rattle.flat.specs.declared.CDate.{CDate}
 use Rattle.flat.specs.declared.CDay.{CDay}
@@ -17,6 +20,9 @@ use Rattle.flat.specs.declared.CSolstice.{CSolstice}
 use Rattle.flat.specs.declared.CYear.{CYear}
 use Rattle.flat.specs.declared.CMonth.{CMonth}
 use Rattle.flat.specs.declared.CQuarter.{CQuarter}
+use Rattle.flat.specs.declared.CConjunction.{CConjunction}
+use Rattle.flat.specs.declared.CNext.{CNext}
+use Rattle.flat.specs.declared.CPair.{CPair}
 use Rattle.flat.specs.declared.CFound.{CFound}
 use Rattle.flat.specs.declared.CSheetCounts.{CSheetCounts}
 use Rattle.flat.specs.declared.CLength.{CLength}
@@ -33,6 +39,12 @@ use Rattle.flat.specs.Flat.{
   noMonth,
   givenQuarter,
   noQuarter,
+  givenConjunction,
+  noConjunction,
+  givenNext,
+  noNext,
+  givenPair,
+  noPair,
   flatFound,
   givenCounts,
   noCounts,
@@ -83,6 +95,23 @@ pub record BareQuarter (r : CQuarter) : Type 0 where
   pub day : r .day ≡ 0
   pub parts : r .parts ≡ 0
 
+pub record BareConjunction (r : CConjunction) : Type 0 where
+  pub day : r .day ≡ 0
+  pub parts : r .parts ≡ 0
+  pub divisor : r .divisor ≡ 0
+  pub phase : r .phase ≡ 0
+
+pub record BareNext (r : CNext) : Type 0 where
+  pub count : r .k ≡ 0
+  pub day : r .day ≡ 0
+  pub parts : r .parts ≡ 0
+  pub divisor : r .divisor ≡ 0
+  pub phase : r .phase ≡ 0
+
+pub record BarePair (r : CPair) : Type 0 where
+  pub years : r .years ≡ 0
+  pub conjunctions : r .conjunctions ≡ 0
+
 pub record BareCounts (r : CSheetCounts) : Type 0 where
   pub years : r .years ≡ 0
   pub months : r .months ≡ 0
@@ -104,6 +133,9 @@ pub record Refusals-flat : Type 0 where
   pub year : (k : ℕ) → (noYear k .reason ≡ k) × BareYear (noYear k)
   pub month : (k : ℕ) → (noMonth k .reason ≡ k) × BareMonth (noMonth k)
   pub quarter : (k : ℕ) → (noQuarter k .reason ≡ k) × BareQuarter (noQuarter k)
+  pub conjunction : (k : ℕ) → (noConjunction k .reason ≡ k) × BareConjunction (noConjunction k)
+  pub next : (k : ℕ) → (noNext k .reason ≡ k) × BareNext (noNext k)
+  pub pair : (k : ℕ) → (noPair k .reason ≡ k) × BarePair (noPair k)
   pub found : (k : ℕ) → (flatFound (refused k) .reason ≡ k) × (flatFound (refused k) .total ≡ 0)
   pub too-short : (k n : ℕ) → (flatFound (refused-with k n) .reason ≡ k) × (flatFound (refused-with k n) .total ≡ n)
   pub counts : (k : ℕ) → (noCounts k .reason ≡ k) × BareCounts (noCounts k)
@@ -117,5 +149,8 @@ pub record Nothing-lost : Type 0 where
   pub year : (a b : YearFacts) → givenYear a ≡ givenYear b → a ≡ b
   pub month : (a b : MonthFacts) → givenMonth a ≡ givenMonth b → a ≡ b
   pub quarter : (a b : Quarter) → givenQuarter a ≡ givenQuarter b → a ≡ b
+  pub conjunction : (a b : Conjunction) → givenConjunction a ≡ givenConjunction b → a ≡ b
+  pub next : (a b : Planets.Counted) → givenNext a ≡ givenNext b → a ≡ b
+  pub pair : (a b : Pair) → givenPair a ≡ givenPair b → a ≡ b
   pub counts : (a b : Counted) → givenCounts a ≡ givenCounts b → a ≡ b
   pub length : (a b : ℕ) → givenLength a ≡ givenLength b → a ≡ b

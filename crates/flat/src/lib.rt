@@ -2,6 +2,8 @@
 ghost use mathlib.Core.Path.{_≡_};
 ghost use Rattle.dates.specs.Promises.{saidDate, saidDay};
 ghost use Rattle.facts.specs.Promises.{saidSolsticeYear, saidYear, saidMonth, saidQuarter, saidTerm};
+ghost use Rattle.planets.specs.Table.{phaseNumber};
+ghost use Rattle.planets.specs.Promises.{saidConjunction, saidNext, saidPair};
 ghost use Rattle.reading.specs.Search.{saidFound};
 ghost use Rattle.sheet.specs.Promises.{saidCounts, saidHowMany};
 ghost use Rattle.flat.specs.Flat.{
@@ -20,6 +22,14 @@ ghost use Rattle.flat.specs.Flat.{
   flatMonth,
   noQuarter,
   flatQuarter,
+  givenConjunction,
+  noConjunction,
+  flatConjunction,
+  givenNext,
+  noNext,
+  flatNext,
+  noPair,
+  flatPair,
   flatFound,
   noCounts,
   flatCounts,
@@ -37,6 +47,12 @@ use facts::SolsticeYearTold;
 use facts::TermTold;
 use facts::YearFacts;
 use facts::YearTold;
+use planets::Conjunction;
+use planets::ConjunctionTold;
+use planets::Counted;
+use planets::NextTold;
+use planets::PairTold;
+use planets::Phase;
 use reading::Found;
 use sheet::HowMany;
 use sheet::SheetCounts;
@@ -105,6 +121,36 @@ pub struct CQuarter {
     pub reason: u32,
     pub day: u32,
     pub parts: u32,
+}
+
+// A conjunction of a planet: its day, its remainder in parts of the divisor; `phase` is 1 for a morning one, 2 for an evening one,
+// 0 for neither.
+#[repr(C)]
+pub struct CConjunction {
+    pub reason: u32,
+    pub day: u32,
+    pub parts: u32,
+    pub divisor: u32,
+    pub phase: u32,
+}
+
+// The same with its count.
+#[repr(C)]
+pub struct CNext {
+    pub reason: u32,
+    pub k: u32,
+    pub day: u32,
+    pub parts: u32,
+    pub divisor: u32,
+    pub phase: u32,
+}
+
+// A planet's pair: so many years, and the conjunctions in them.
+#[repr(C)]
+pub struct CPair {
+    pub reason: u32,
+    pub years: u64,
+    pub conjunctions: u64,
 }
 
 // How many days a search found; where the lent list was too short, how many there are.
@@ -345,6 +391,110 @@ pub fn flat_quarter(a: QuarterTold) -> CQuarter
             parts: q.parts as u32,
         },
         QuarterTold::Refused(why) => no_quarter(rule::reason_number(why)),
+    }
+}
+
+// The same of a conjunction, of the first one on or after a day, and of a planet's pair.
+fn phase_number(p: Phase) -> u32
+    ensures { λ r. ⌜ r ≡ phaseNumber p ⌝ }
+{
+    match p {
+        Phase::Morning => 1,
+        Phase::Evening => 2,
+        Phase::Neither => 0,
+    }
+}
+
+fn given_conjunction(c: Conjunction) -> CConjunction
+    ensures { λ r. ⌜ r ≡ givenConjunction c ⌝ }
+{
+    let p = c.phase;
+    CConjunction {
+        reason: 0,
+        day: c.day,
+        parts: c.parts,
+        divisor: c.divisor,
+        phase: phase_number(p),
+    }
+}
+
+fn no_conjunction(reason: u8) -> CConjunction
+    ensures { λ r. ⌜ r ≡ noConjunction reason ⌝ }
+{
+    CConjunction {
+        reason: reason as u32,
+        day: 0,
+        parts: 0,
+        divisor: 0,
+        phase: 0,
+    }
+}
+
+pub fn flat_conjunction(a: ConjunctionTold) -> CConjunction
+    ensures { λ r. ⌜ r ≡ flatConjunction (saidConjunction a) ⌝ }
+{
+    match a {
+        ConjunctionTold::Is(c) => given_conjunction(c),
+        ConjunctionTold::Refused(why) => no_conjunction(rule::reason_number(why)),
+    }
+}
+
+fn given_next(n: Counted) -> CNext
+    ensures { λ r. ⌜ r ≡ givenNext n ⌝ }
+{
+    let laid = given_conjunction(n.conjunction);
+    CNext {
+        reason: 0,
+        k: n.k,
+        day: laid.day,
+        parts: laid.parts,
+        divisor: laid.divisor,
+        phase: laid.phase,
+    }
+}
+
+fn no_next(reason: u8) -> CNext
+    ensures { λ r. ⌜ r ≡ noNext reason ⌝ }
+{
+    CNext {
+        reason: reason as u32,
+        k: 0,
+        day: 0,
+        parts: 0,
+        divisor: 0,
+        phase: 0,
+    }
+}
+
+pub fn flat_next(a: NextTold) -> CNext
+    ensures { λ r. ⌜ r ≡ flatNext (saidNext a) ⌝ }
+{
+    match a {
+        NextTold::Is(n) => given_next(n),
+        NextTold::Refused(why) => no_next(rule::reason_number(why)),
+    }
+}
+
+fn no_pair(reason: u8) -> CPair
+    ensures { λ r. ⌜ r ≡ noPair reason ⌝ }
+{
+    CPair {
+        reason: reason as u32,
+        years: 0,
+        conjunctions: 0,
+    }
+}
+
+pub fn flat_pair(a: PairTold) -> CPair
+    ensures { λ r. ⌜ r ≡ flatPair (saidPair a) ⌝ }
+{
+    match a {
+        PairTold::Is(p) => CPair {
+            reason: 0,
+            years: p.years,
+            conjunctions: p.conjunctions,
+        },
+        PairTold::Refused(why) => no_pair(rule::reason_number(why)),
     }
 }
 
