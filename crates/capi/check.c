@@ -46,6 +46,20 @@ SIZE(oes_month, 32);
 AT(oes_quarter_told, day, 4);
 AT(oes_quarter_told, parts, 8);
 SIZE(oes_quarter_told, 12);
+AT(oes_conjunction_told, day, 4);
+AT(oes_conjunction_told, parts, 8);
+AT(oes_conjunction_told, divisor, 12);
+AT(oes_conjunction_told, phase, 16);
+SIZE(oes_conjunction_told, 20);
+AT(oes_next_told, k, 4);
+AT(oes_next_told, day, 8);
+AT(oes_next_told, parts, 12);
+AT(oes_next_told, divisor, 16);
+AT(oes_next_told, phase, 20);
+SIZE(oes_next_told, 24);
+AT(oes_pair_told, years, 8);
+AT(oes_pair_told, conjunctions, 16);
+SIZE(oes_pair_told, 24);
 AT(oes_reading, month_number, 8);
 AT(oes_reading, leap_mark, 16);
 AT(oes_reading, day_of_month, 24);
@@ -194,6 +208,62 @@ static void facts(void)
     day_is(oes_term(1, wide(0)), 15, 0);
 }
 
+static void conjunction_is(oes_conjunction_told c, const uint32_t want[5])
+{
+    const uint32_t got[5] = {c.reason, c.day, c.parts, c.divisor, c.phase};
+    for (int i = 0; i < 5; i++) {
+        SAME(got[i], want[i]);
+    }
+}
+
+static void next_is(oes_next_told n, const uint32_t want[6])
+{
+    const uint32_t got[6] = {n.reason, n.k, n.day, n.parts, n.divisor, n.phase};
+    for (int i = 0; i < 6; i++) {
+        SAME(got[i], want[i]);
+    }
+}
+
+static void pair_is(oes_pair_told p, uint32_t reason, uint64_t years, uint64_t conjunctions)
+{
+    SAME(p.reason, reason);
+    SAME(p.years, years);
+    SAME(p.conjunctions, conjunctions);
+}
+
+/* The request's checks for k = 1, 004's count of Venus, its pairs; the range's end, by hand; each number too wide, and a product
+ * of Saturn's that passes 64 bits. */
+static void planets(void)
+{
+    conjunction_is(oes_conjunction(1, 1), (const uint32_t[5]){0, 398, 14641, 17308, 0});
+    conjunction_is(oes_conjunction(2, 1), (const uint32_t[5]){0, 779, 1872, 3516, 0});
+    conjunction_is(oes_conjunction(3, 1), (const uint32_t[5]){0, 378, 2163, 36384, 0});
+    conjunction_is(oes_conjunction(4, 1), (const uint32_t[5]){0, 292, 281, 23320, 1});
+    conjunction_is(oes_conjunction(5, 1), (const uint32_t[5]){0, 57, 44805, 47632, 1});
+    conjunction_is(oes_conjunction(4, 2), (const uint32_t[5]){0, 584, 562, 23320, 2});
+    conjunction_is(oes_conjunction(4, 11826), (const uint32_t[5]){0, 3453334, 11666, 23320, 2});
+    conjunction_is(oes_conjunction(0, 1), (const uint32_t[5]){19});
+    conjunction_is(oes_conjunction(6, UINT64_MAX), (const uint32_t[5]){19});
+    conjunction_is(oes_conjunction(257, 1), (const uint32_t[5]){19});
+    conjunction_is(oes_conjunction(wide(1), wide(1)), (const uint32_t[5]){19});
+    conjunction_is(oes_conjunction(1, wide(1)), (const uint32_t[5]){6});
+    conjunction_is(oes_conjunction(3, UINT64_C(1341063005370)), (const uint32_t[5]){6});
+    conjunction_is(oes_conjunction(3, UINT64_C(1341063005371)), (const uint32_t[5]){6});
+    conjunction_is(oes_conjunction(3, (uint64_t)-1), (const uint32_t[5]){6});
+    next_is(oes_next_conjunction(4, 0), (const uint32_t[6]){0, 0, 0, 0, 23320, 2});
+    next_is(oes_next_conjunction(1, 398), (const uint32_t[6]){0, 1, 398, 14641, 17308, 0});
+    next_is(oes_next_conjunction(4, 293), (const uint32_t[6]){0, 2, 584, 562, 23320, 2});
+    next_is(oes_next_conjunction(4, 14989854), (const uint32_t[6]){0, 51333, 14989854, 12813, 23320, 1});
+    next_is(oes_next_conjunction(4, 14989855), (const uint32_t[6]){20});
+    next_is(oes_next_conjunction(4, 14989860), (const uint32_t[6]){6});
+    next_is(oes_next_conjunction(4, wide(0)), (const uint32_t[6]){6});
+    next_is(oes_next_conjunction(wide(4), 14989860), (const uint32_t[6]){19});
+    pair_is(oes_reduced_pair(3), 0, 9415, 9096);
+    pair_is(oes_reduced_pair(5), 0, 1889, 11908);
+    pair_is(oes_reduced_pair(0), 19, 0, 0);
+    pair_is(oes_reduced_pair(wide(1)), 19, 0, 0);
+}
+
 static const uint32_t untouched = 0xDEADBEEF;
 
 static void found_is(oes_reading r, uint64_t first, uint64_t last, size_t places, uint32_t reason, uint32_t total, uint32_t day)
@@ -327,6 +397,7 @@ int main(void)
 {
     dates();
     facts();
+    planets();
     search();
     sheet();
     counts();

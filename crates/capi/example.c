@@ -50,6 +50,17 @@ static void facts(void)
     }
 }
 
+/* Venus by the end of year 9,455: 11,826 conjunctions, the last of them an evening one. */
+static void planets(void)
+{
+    static const char *const phases[3] = {"neither", "morning", "evening"};
+    oes_conjunction_told c = oes_conjunction(4, 11826);
+    oes_next_told n = oes_next_conjunction(4, c.day);
+    printf("conjunction 11826 of Venus: day %" PRIu32 ", %" PRIu32 " parts of %" PRIu32 ", %s\n", c.day, c.parts, c.divisor,
+           phases[c.phase]);
+    printf("the first from that day on: %" PRIu32 "\n", n.k);
+}
+
 /* A slip with the leap mark alone, in the days of year 11: its leap month has 29 days, from day 3957 on. */
 static void search(void)
 {
@@ -92,6 +103,7 @@ int main(void)
 {
     dates();
     facts();
+    planets();
     search();
     sheet();
     return 0;

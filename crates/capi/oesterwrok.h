@@ -1,4 +1,5 @@
-/* The calls of Oesterwrok for C: days, dates, facts, searches, sheets and printed lines of the Quarter-Remainder rule.
+/* The calls of Oesterwrok for C: days, dates, facts, planets, searches, sheets and printed lines of the
+ * Quarter-Remainder rule.
  *
  * Every call ends for every input. `reason` is 0 where there is an answer; else it is the paper's number, every other field
  * is 0 (but the total of a search that is refused with 12, which is the true one), and nothing lent was changed.
@@ -75,6 +76,33 @@ typedef struct oes_quarter_told {
     uint32_t parts;
 } oes_quarter_told;
 
+/* A conjunction of a planet: its day, and its remainder in parts of the divisor. `phase` is 1 for a morning conjunction, 2 for an
+ * evening one, 0 for neither. */
+typedef struct oes_conjunction_told {
+    uint32_t reason;
+    uint32_t day;
+    uint32_t parts;
+    uint32_t divisor;
+    uint32_t phase;
+} oes_conjunction_told;
+
+/* The same with its count, the first one being 0. */
+typedef struct oes_next_told {
+    uint32_t reason;
+    uint32_t k;
+    uint32_t day;
+    uint32_t parts;
+    uint32_t divisor;
+    uint32_t phase;
+} oes_next_told;
+
+/* A planet's pair: so many years, and the conjunctions in them. */
+typedef struct oes_pair_told {
+    uint32_t reason;
+    uint64_t years;
+    uint64_t conjunctions;
+} oes_pair_told;
+
 /* A reading of a slip: six values, and whether each was read. A leap mark is 1 for ordinary and 2 for leap. */
 typedef struct oes_reading {
     uint64_t year_name;
@@ -120,6 +148,11 @@ oes_year oes_year_facts(uint64_t year);
 oes_month oes_month_facts(uint64_t month);
 oes_quarter_told oes_quarter(uint64_t month, uint64_t quarter);
 oes_day oes_term(uint64_t year, uint64_t term);
+
+/* Planets: 1 Jupiter, 2 Mars, 3 Saturn, 4 Venus, 5 Mercury. */
+oes_conjunction_told oes_conjunction(uint64_t planet, uint64_t k);
+oes_next_told oes_next_conjunction(uint64_t planet, uint64_t day);
+oes_pair_told oes_reduced_pair(uint64_t planet);
 
 oes_found oes_search(oes_reading reading, uint64_t first, uint64_t last, uint32_t *out, size_t out_places);
 

@@ -17,6 +17,21 @@ use Rattle.facts.specs.declared.SolsticeYear.{SolsticeYear}
 use Rattle.facts.specs.declared.YearFacts.{YearFacts}
 use Rattle.facts.specs.declared.MonthFacts.{MonthFacts}
 use Rattle.facts.specs.Facts.{solsticeYearAt, yearFactsAt, monthFactsAt, quarterAt, termAt}
+use Rattle.planets.specs.declared.Conjunction.{Conjunction}
+use Rattle.planets.specs.declared.Counted.{Counted}
+use Rattle.planets.specs.declared.Pair.{Pair}
+use Rattle.planets.specs.Planets.{
+  numbersOf,
+  conjunctionDay,
+  conjunctionParts,
+  phase,
+  conjunctionOf,
+  conjunctionAt,
+  nextCount,
+  countedOf,
+  nextAt,
+  pairAt,
+}
 use Rattle.reading.specs.declared.Reading.{Reading}
 use Rattle.reading.specs.Readings.{inRanges, windowDays, windowHolds, fitting}
 use Rattle.reading.specs.Search.{total, withRoom, searchAt, listAfter}
@@ -28,6 +43,9 @@ use Rattle.flat.specs.declared.CSolstice.{CSolstice}
 use Rattle.flat.specs.declared.CYear.{CYear}
 use Rattle.flat.specs.declared.CMonth.{CMonth}
 use Rattle.flat.specs.declared.CQuarter.{CQuarter}
+use Rattle.flat.specs.declared.CConjunction.{CConjunction}
+use Rattle.flat.specs.declared.CNext.{CNext}
+use Rattle.flat.specs.declared.CPair.{CPair}
 use Rattle.flat.specs.declared.CFound.{CFound}
 use Rattle.flat.specs.declared.CSheetCounts.{CSheetCounts}
 use Rattle.flat.specs.declared.CLength.{CLength}
@@ -49,6 +67,15 @@ use Rattle.flat.specs.Flat.{
   flatMonth,
   givenQuarter,
   noQuarter,
+  givenConjunction,
+  noConjunction,
+  flatConjunction,
+  givenNext,
+  noNext,
+  flatNext,
+  givenPair,
+  noPair,
+  flatPair,
   flatFound,
   givenCounts,
   noCounts,
@@ -63,6 +90,9 @@ use Rattle.flat.specs.Paper.{
   BareYear,
   BareMonth,
   BareQuarter,
+  BareConjunction,
+  BareNext,
+  BarePair,
   BareFound,
   BareCounts,
   BareLength,
@@ -89,6 +119,9 @@ unique-exported =
       month-facts = λ n a b p q. p ∙ sym q;
       quarter = λ n i a b p q. p ∙ sym q;
       term = λ y k a b p q. p ∙ sym q;
+      conjunction = λ n k a b p q. p ∙ sym q;
+      next = λ n d a b p q. p ∙ sym q;
+      pair = λ n a b p q. p ∙ sym q;
       search = λ r first last old a b new other p q. (p .answer ∙ sym (q .answer), p .lent ∙ sym (q .lent));
       read-sheet = λ s y m d a b y₁ m₁ d₁ y₂ m₂ d₂ p q.
           (p .answer ∙ sym (q .answer), p .years ∙ sym (q .years), p .months ∙ sym (q .months), p .days ∙ sym (q .days));
@@ -238,6 +271,24 @@ quarter-bare = is-bare (λ (x : CQuarter). x .reason) givenQuarter noQuarter (λ
 quarter-zero : (a : Answer Quarter) → Sound a → (r : CQuarter) → r ≡ flat givenQuarter noQuarter a → (r .reason ≡ 0) ↔ Answered a
 quarter-zero = is-zero (λ (x : CQuarter). x .reason) givenQuarter noQuarter (λ x. refl) (λ k. refl)
 
+conjunction-bare : (a : Answer Conjunction) (r : CConjunction) → r ≡ flat givenConjunction noConjunction a → r .reason ≢ 0 → BareConjunction r
+conjunction-bare = is-bare (λ (x : CConjunction). x .reason) givenConjunction noConjunction (λ x. refl) BareConjunction (λ k. refusals-flat .conjunction k .1)
+
+conjunction-zero : (a : Answer Conjunction) → Sound a → (r : CConjunction) → r ≡ flat givenConjunction noConjunction a → (r .reason ≡ 0) ↔ Answered a
+conjunction-zero = is-zero (λ (x : CConjunction). x .reason) givenConjunction noConjunction (λ x. refl) (λ k. refl)
+
+next-bare : (a : Answer Counted) (r : CNext) → r ≡ flat givenNext noNext a → r .reason ≢ 0 → BareNext r
+next-bare = is-bare (λ (x : CNext). x .reason) givenNext noNext (λ x. refl) BareNext (λ k. refusals-flat .next k .1)
+
+next-zero : (a : Answer Counted) → Sound a → (r : CNext) → r ≡ flat givenNext noNext a → (r .reason ≡ 0) ↔ Answered a
+next-zero = is-zero (λ (x : CNext). x .reason) givenNext noNext (λ x. refl) (λ k. refl)
+
+pair-bare : (a : Answer Pair) (r : CPair) → r ≡ flat givenPair noPair a → r .reason ≢ 0 → BarePair r
+pair-bare = is-bare (λ (x : CPair). x .reason) givenPair noPair (λ x. refl) BarePair (λ k. refusals-flat .pair k .1)
+
+pair-zero : (a : Answer Pair) → Sound a → (r : CPair) → r ≡ flat givenPair noPair a → (r .reason ≡ 0) ↔ Answered a
+pair-zero = is-zero (λ (x : CPair). x .reason) givenPair noPair (λ x. refl) (λ k. refl)
+
 pub refusal-is-bare : Paper.Refusal-is-bare
 refusal-is-bare =
     record {
@@ -249,6 +300,9 @@ refusal-is-bare =
       month-facts = λ n r p h. month-bare (monthFactsAt n) r p h;
       quarter = λ n q r p h. quarter-bare (quarterAt n q) r p h;
       term = λ y k r p h. day-bare (termAt y k) r p h;
+      conjunction = λ n k r p h. conjunction-bare (conjunctionAt n k) r p h;
+      next = λ n d r p h. next-bare (nextAt n d) r p h;
+      pair = λ n r p h. pair-bare (pairAt n) r p h;
       search = λ r first last old a new p h.
           let b = search-bare (readingOf r) first last (length old) (fitting (readingOf r) first (windowDays first last)) old a (p .answer) h in
           (b .0, p .lent ∙ b .1);
@@ -277,6 +331,9 @@ reason-0-iff-answered =
       month-facts = λ n r p. month-zero (monthFactsAt n) (Sound.month-sound n) r p;
       quarter = λ n q r p. quarter-zero (quarterAt n q) (Sound.quarter-sound n q) r p;
       term = λ y k r p. day-zero (termAt y k) (Sound.term-sound y k) r p;
+      conjunction = λ n k r p. conjunction-zero (conjunctionAt n k) (Sound.conjunction-sound n k) r p;
+      next = λ n d r p. next-zero (nextAt n d) (Sound.next-sound n d) r p;
+      pair = λ n r p. pair-zero (pairAt n) (Sound.pair-sound n) r p;
       search = λ r first last old a new p. search-zero (readingOf r) first last (length old) a (p .answer);
       read-sheet = λ s y m d r y′ m′ d′ p.
           said-zero (λ (x : CSheetCounts). x .reason) givenCounts noCounts (λ x. refl) counted (λ k. refl)
@@ -289,12 +346,17 @@ reason-0-iff-answered =
     }
 
 pub wrong-exported : Paper.Wrong-exported
-unfolding dateAt dayOfDate dayOfNamed dayInMonth namedMonth monthLength monthStart monthOfDay termDay monthFactsAt yearFactsAt
+unfolding dateAt dayOfDate dayOfNamed dayInMonth namedMonth monthLength monthStart monthOfDay termDay monthFactsAt yearFactsAt conjunctionAt conjunctionOf numbersOf conjunctionDay conjunctionParts phase nextAt countedOf nextCount pairAt
 wrong-exported =
     record {
       refusing-days = λ h. h 0 (flatDate (dateAt 0)) refl refl;
       refusing-dates = λ h. h 1 11 false 1 (flatDay (dayOfDate 1 11 false 1)) refl refl;
+      refusing-conjunctions = λ h. h 1 0 (flatConjunction (conjunctionAt 1 0)) refl refl;
+      refusing-nexts = λ h. h 1 0 (flatNext (nextAt 1 0)) refl refl;
+      refusing-pairs = λ h. h 1 (flatPair (pairAt 1)) refl refl;
       low-bits-of-days = λ h. let e : _≡_ {A = ℕ} 6 0 = ap (λ (x : CDate). x .reason) (h 4294967296 (flatDate (dateAt 4294967296)) refl) in omega arith;
       low-bits-of-months = λ h. let e : _≡_ {A = ℕ} 7 0 = ap (λ (x : CMonth). x .reason) (h 4294967296 (flatMonth (monthFactsAt 4294967296)) refl) in omega arith;
       low-bits-of-years = λ h. let e : _≡_ {A = ℕ} 1 0 = ap (λ (x : CYear). x .reason) (h 4294967297 (flatYear (yearFactsAt 4294967297)) refl) in omega arith;
+      low-bits-of-planets = λ h. let e : _≡_ {A = ℕ} 19 0 = ap (λ (x : CConjunction). x .reason) (h 257 1 (flatConjunction (conjunctionAt 257 1)) refl) in omega arith;
+      low-bits-of-counts = λ h. let e : _≡_ {A = ℕ} 6 0 = ap (λ (x : CConjunction). x .reason) (h 1 4294967297 (flatConjunction (conjunctionAt 1 4294967297)) refl) in omega arith;
     }

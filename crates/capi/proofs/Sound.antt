@@ -21,6 +21,7 @@ use Rattle.facts.specs.Facts.{
   quarterAt,
   termAt,
 }
+use Rattle.planets.specs.Planets.{numbersOf, conjunctionDay, conjunctionOf, conjunctionAt, nextCount, countedOf, nextAt, pairOf, pairAt}
 use Rattle.sheet.specs.declared.Section.{Section}
 use Rattle.sheet.specs.Sheet.{
   Lists,
@@ -115,6 +116,22 @@ quarter-sound n q = guarded (leb n 507599) 7 (omega arith) (guarded (leb q 3) 15
 pub term-sound : (y k : ℕ) → Sound (termAt y k)
 unfolding termAt
 term-sound y k = guarded (within 1 41040 y) 1 (omega arith) (guarded (leb k 23) 15 (omega arith) (given (termDay (yearTerm y k))))
+
+-- planets
+pub conjunction-sound : (p k : ℕ) → Sound (conjunctionAt p k)
+unfolding conjunctionAt
+conjunction-sound p k = guarded (within 1 5 p) 19 (omega arith) (guarded (leb (conjunctionDay (numbersOf p) k) 14989859) 6 (omega arith) (given (conjunctionOf (numbersOf p) k)))
+
+pub next-sound : (p d : ℕ) → Sound (nextAt p d)
+unfolding nextAt
+next-sound p d =
+    guarded (within 1 5 p) 19 (omega arith)
+    (guarded (leb d 14989859) 6 (omega arith)
+    (guarded (leb (conjunctionDay (numbersOf p) (nextCount (numbersOf p) d)) 14989859) 20 (omega arith) (given (countedOf (numbersOf p) (nextCount (numbersOf p) d)))))
+
+pub pair-sound : (p : ℕ) → Sound (pairAt p)
+unfolding pairAt
+pair-sound p = guarded (within 1 5 p) 19 (omega arith) (given (pairOf (numbersOf p)))
 
 -- a sheet read
 count-sound : (most : ℕ) (s : List ℕ) → Sound (countRead most s)

@@ -11,6 +11,7 @@ use Rattle.rule.specs.Reasons.{Answer, is}
 use Rattle.dates.specs.Dates.{dateAt, dayOfDate}
 use Rattle.moves.specs.Moves.{moved}
 use Rattle.facts.specs.Facts.{solsticeYearAt, yearFactsAt, monthFactsAt, quarterAt, termAt}
+use Rattle.planets.specs.Planets.{conjunctionAt, nextAt, pairAt}
 use Rattle.reading.specs.Search.{total, searchAt}
 use Rattle.sheet.specs.Sheet.{readInto, writeInto}
 use Rattle.lines.specs.Promises.{yearBlockAt, monthLineAt, monthItemAt, dayItemAt}
@@ -20,6 +21,9 @@ use Rattle.flat.specs.declared.CSolstice.{CSolstice}
 use Rattle.flat.specs.declared.CYear.{CYear}
 use Rattle.flat.specs.declared.CMonth.{CMonth}
 use Rattle.flat.specs.declared.CQuarter.{CQuarter}
+use Rattle.flat.specs.declared.CConjunction.{CConjunction}
+use Rattle.flat.specs.declared.CNext.{CNext}
+use Rattle.flat.specs.declared.CPair.{CPair}
 use Rattle.flat.specs.declared.CFound.{CFound}
 use Rattle.flat.specs.declared.CSheetCounts.{CSheetCounts}
 use Rattle.flat.specs.declared.CLength.{CLength}
@@ -30,6 +34,9 @@ use Rattle.flat.specs.Paper.{
   BareYear,
   BareMonth,
   BareQuarter,
+  BareConjunction,
+  BareNext,
+  BarePair,
   BareFound,
   BareCounts,
   BareLength,
@@ -45,6 +52,9 @@ use Rattle.capi.specs.Promises.{
   CMonthFacts,
   CQuarterOf,
   CTerm,
+  CKthConjunction,
+  CNextConjunction,
+  CReducedPair,
   CSearch,
   CReadSheet,
   CPrinted,
@@ -68,6 +78,9 @@ pub record Unique-exported : Type 0 where
   pub month-facts : (n : ℕ) (a b : CMonth) → CMonthFacts n a → CMonthFacts n b → a ≡ b
   pub quarter : (n q : ℕ) (a b : CQuarter) → CQuarterOf n q a → CQuarterOf n q b → a ≡ b
   pub term : (y k : ℕ) (a b : CDay) → CTerm y k a → CTerm y k b → a ≡ b
+  pub conjunction : (p k : ℕ) (a b : CConjunction) → CKthConjunction p k a → CKthConjunction p k b → a ≡ b
+  pub next : (p d : ℕ) (a b : CNext) → CNextConjunction p d a → CNextConjunction p d b → a ≡ b
+  pub pair : (p : ℕ) (a b : CPair) → CReducedPair p a → CReducedPair p b → a ≡ b
   pub search :
       (r : CReading) (first last : ℕ) (old : List ℕ) (a b : CFound) (new other : List ℕ) →
       CSearch r first last old a new → CSearch r first last old b other → (a ≡ b) × (new ≡ other)
@@ -95,6 +108,9 @@ pub record Refusal-is-bare : Type 0 where
   pub month-facts : (n : ℕ) (r : CMonth) → CMonthFacts n r → r .reason ≢ 0 → BareMonth r
   pub quarter : (n q : ℕ) (r : CQuarter) → CQuarterOf n q r → r .reason ≢ 0 → BareQuarter r
   pub term : (y k : ℕ) (r : CDay) → CTerm y k r → r .reason ≢ 0 → BareDay r
+  pub conjunction : (p k : ℕ) (r : CConjunction) → CKthConjunction p k r → r .reason ≢ 0 → BareConjunction r
+  pub next : (p d : ℕ) (r : CNext) → CNextConjunction p d r → r .reason ≢ 0 → BareNext r
+  pub pair : (p : ℕ) (r : CPair) → CReducedPair p r → r .reason ≢ 0 → BarePair r
   pub search :
       (r : CReading) (first last : ℕ) (old : List ℕ) (a : CFound) (new : List ℕ) →
       CSearch r first last old a new → a .reason ≢ 0 → BareFound (total (readingOf r) first last) a × (new ≡ old)
@@ -125,6 +141,9 @@ pub record Reason-0-iff-answered : Type 0 where
   pub month-facts : (n : ℕ) (r : CMonth) → CMonthFacts n r → (r .reason ≡ 0) ↔ Answered (monthFactsAt n)
   pub quarter : (n q : ℕ) (r : CQuarter) → CQuarterOf n q r → (r .reason ≡ 0) ↔ Answered (quarterAt n q)
   pub term : (y k : ℕ) (r : CDay) → CTerm y k r → (r .reason ≡ 0) ↔ Answered (termAt y k)
+  pub conjunction : (p k : ℕ) (r : CConjunction) → CKthConjunction p k r → (r .reason ≡ 0) ↔ Answered (conjunctionAt p k)
+  pub next : (p d : ℕ) (r : CNext) → CNextConjunction p d r → (r .reason ≡ 0) ↔ Answered (nextAt p d)
+  pub pair : (p : ℕ) (r : CPair) → CReducedPair p r → (r .reason ≡ 0) ↔ Answered (pairAt p)
   pub search :
       (r : CReading) (first last : ℕ) (old : List ℕ) (a : CFound) (new : List ℕ) →
       CSearch r first last old a new → (a .reason ≡ 0) ↔ Answered (searchAt (readingOf r) first last (length old))
@@ -139,10 +158,16 @@ pub record Reason-0-iff-answered : Type 0 where
   pub print-month : ZeroPrint monthItemAt
   pub print-day : ZeroPrint dayItemAt
 
--- wrong versions, each shut out at some input: one that refuses all, and one that takes a number by its low 32 bits
+-- wrong versions, each shut out at some input: one that refuses all, and one that takes a number by its low 32 bits, or a planet by
+-- its low 8
 pub record Wrong-exported : Type 0 where
   pub refusing-days : ((d : ℕ) (r : CDate) → CDateOfDay d r → r .reason ≢ 0) → ⊥
   pub refusing-dates : ((y k : ℕ) (l : Bool) (m : ℕ) (r : CDay) → CDayOfDate y k l m r → r .reason ≢ 0) → ⊥
+  pub refusing-conjunctions : ((p k : ℕ) (r : CConjunction) → CKthConjunction p k r → r .reason ≢ 0) → ⊥
+  pub refusing-nexts : ((p d : ℕ) (r : CNext) → CNextConjunction p d r → r .reason ≢ 0) → ⊥
+  pub refusing-pairs : ((p : ℕ) (r : CPair) → CReducedPair p r → r .reason ≢ 0) → ⊥
   pub low-bits-of-days : ((d : ℕ) (r : CDate) → CDateOfDay d r → CDateOfDay (d % 4294967296) r) → ⊥
   pub low-bits-of-months : ((n : ℕ) (r : CMonth) → CMonthFacts n r → CMonthFacts (n % 4294967296) r) → ⊥
   pub low-bits-of-years : ((y : ℕ) (r : CYear) → CYearFacts y r → CYearFacts (y % 4294967296) r) → ⊥
+  pub low-bits-of-planets : ((p k : ℕ) (r : CConjunction) → CKthConjunction p k r → CKthConjunction (p % 256) k r) → ⊥
+  pub low-bits-of-counts : ((p k : ℕ) (r : CConjunction) → CKthConjunction p k r → CKthConjunction p (k % 4294967296) r) → ⊥

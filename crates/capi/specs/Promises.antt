@@ -10,6 +10,7 @@ use Rattle.rule.specs.Reasons.{Answer, is, andThen}
 use Rattle.dates.specs.Dates.{dateAt, dayOfDate}
 use Rattle.moves.specs.Moves.{moved}
 use Rattle.facts.specs.Facts.{solsticeYearAt, yearFactsAt, monthFactsAt, quarterAt, termAt}
+use Rattle.planets.specs.Planets.{conjunctionAt, nextAt, pairAt}
 use Rattle.reading.specs.declared.Field.{Field}
 use Rattle.reading.specs.declared.Field.the-variants.{Known, Unread}
 use Rattle.reading.specs.declared.Reading.{Reading}
@@ -24,10 +25,26 @@ use Rattle.flat.specs.declared.CSolstice.{CSolstice}
 use Rattle.flat.specs.declared.CYear.{CYear}
 use Rattle.flat.specs.declared.CMonth.{CMonth}
 use Rattle.flat.specs.declared.CQuarter.{CQuarter}
+use Rattle.flat.specs.declared.CConjunction.{CConjunction}
+use Rattle.flat.specs.declared.CNext.{CNext}
+use Rattle.flat.specs.declared.CPair.{CPair}
 use Rattle.flat.specs.declared.CFound.{CFound}
 use Rattle.flat.specs.declared.CSheetCounts.{CSheetCounts}
 use Rattle.flat.specs.declared.CLength.{CLength}
-use Rattle.flat.specs.Flat.{flatDate, flatDay, flatSolstice, flatYear, flatMonth, flatQuarter, flatFound, flatCounts, flatLength}
+use Rattle.flat.specs.Flat.{
+  flatDate,
+  flatDay,
+  flatSolstice,
+  flatYear,
+  flatMonth,
+  flatQuarter,
+  flatConjunction,
+  flatNext,
+  flatPair,
+  flatFound,
+  flatCounts,
+  flatLength,
+}
 use Rattle.capi.specs.declared.CReading.{CReading}
 
 -- day to date
@@ -61,6 +78,18 @@ CQuarterOf n q r = r ≡ flatQuarter (quarterAt n q)
 -- a term of a year
 abbrev pub CTerm : ℕ → ℕ → CDay → Type 0
 CTerm y k r = r ≡ flatDay (termAt y k)
+
+-- the k-th conjunction of a planet
+abbrev pub CKthConjunction : ℕ → ℕ → CConjunction → Type 0
+CKthConjunction p k r = r ≡ flatConjunction (conjunctionAt p k)
+
+-- the first conjunction of a planet on or after a day
+abbrev pub CNextConjunction : ℕ → ℕ → CNext → Type 0
+CNextConjunction p d r = r ≡ flatNext (nextAt p d)
+
+-- a planet's pair
+abbrev pub CReducedPair : ℕ → CPair → Type 0
+CReducedPair p r = r ≡ flatPair (pairAt p)
 
 -- a value that was read, or not
 abbrev pub fieldOf : ℕ → Bool → Field

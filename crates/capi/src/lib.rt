@@ -13,6 +13,9 @@ ghost use Rattle.capi.specs.Promises.{
   CMonthFacts,
   CQuarterOf,
   CTerm,
+  CKthConjunction,
+  CNextConjunction,
+  CReducedPair,
   CSearch,
   CReadSheet,
   CWriteSheet,
@@ -21,11 +24,14 @@ ghost use Rattle.capi.specs.Promises.{
   CPrintMonth,
   CPrintDay,
 };
+use flat::CConjunction;
 use flat::CDate;
 use flat::CDay;
 use flat::CFound;
 use flat::CLength;
 use flat::CMonth;
+use flat::CNext;
+use flat::CPair;
 use flat::CQuarter;
 use flat::CSheetCounts;
 use flat::CSolstice;
@@ -129,6 +135,30 @@ pub extern "C" fn oes_term(year: u64, term: u64) -> CDay
     ensures { λ r. ⌜ CTerm year term r ⌝ }
 {
     flat::flat_term(facts::term(capped::cap(year), capped::cap(term)))
+}
+
+// The k-th conjunction of a planet; k goes as it is.
+#[no_mangle]
+pub extern "C" fn oes_conjunction(planet: u64, k: u64) -> CConjunction
+    ensures { λ r. ⌜ CKthConjunction planet k r ⌝ }
+{
+    flat::flat_conjunction(planets::kth_conjunction(capped::cap(planet), k))
+}
+
+// The first conjunction of a planet on or after a day.
+#[no_mangle]
+pub extern "C" fn oes_next_conjunction(planet: u64, day: u64) -> CNext
+    ensures { λ r. ⌜ CNextConjunction planet day r ⌝ }
+{
+    flat::flat_next(planets::next_conjunction(capped::cap(planet), capped::cap(day)))
+}
+
+// A planet's pair, reduced from its two long counts.
+#[no_mangle]
+pub extern "C" fn oes_reduced_pair(planet: u64) -> CPair
+    ensures { λ r. ⌜ CReducedPair planet r ⌝ }
+{
+    flat::flat_pair(planets::reduced_pair(capped::cap(planet)))
 }
 
 // One thing that may be read: its value, or unread.
