@@ -127,6 +127,21 @@ answer! {
 }
 
 answer! {
+    /// `oes_conjunction_told`
+    CConjunction { day: u32, parts: u32, divisor: u32, phase: u32 }
+}
+
+answer! {
+    /// `oes_next_told`
+    CNext { k: u32, day: u32, parts: u32, divisor: u32, phase: u32 }
+}
+
+answer! {
+    /// `oes_pair_told`
+    CPair { years: u64, conjunctions: u64 }
+}
+
+answer! {
     /// `oes_found`
     CFound { total: u32 }
 }
@@ -175,6 +190,9 @@ unsafe extern "C" {
     pub safe fn oes_month_facts(month: u64) -> CMonth;
     pub safe fn oes_quarter(month: u64, quarter: u64) -> CQuarter;
     pub safe fn oes_term(year: u64, term: u64) -> CDay;
+    pub safe fn oes_conjunction(planet: u64, k: u64) -> CConjunction;
+    pub safe fn oes_next_conjunction(planet: u64, day: u64) -> CNext;
+    pub safe fn oes_reduced_pair(planet: u64) -> CPair;
     fn oes_search(
         reading: CReading,
         first: u64,

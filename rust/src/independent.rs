@@ -259,6 +259,126 @@ pub fn term(year: u64, term: u64) -> Result<u32, Reason> {
     Ok(term_day(24 * (year - 1) + term) as u32)
 }
 
+// The five planets.
+
+/// What 004 gives of a planet: "conjunctions per years".
+struct Planet {
+    conjunctions: u128,
+    years: u128,
+    /// Whether an odd count is a morning conjunction and an even one an evening one.
+    by_turns: bool,
+    /// One conjunction's days, parts, and of how many parts.
+    first: (u64, u64, u64),
+}
+
+/// Jupiter, Mars, Saturn, Venus and Mercury, in the request's words.
+const PLANETS: [Planet; 5] = [
+    planet(4_327, 4_725, false, (398, 14_641, 17_308)),
+    planet(879, 1_876, false, (779, 1_872, 3_516)),
+    planet(9_096, 9_415, false, (378, 2_163, 36_384)),
+    planet(5_830, 4_661, true, (292, 281, 23_320)),
+    planet(11_908, 1_889, true, (57, 44_805, 47_632)),
+];
+
+const fn planet(conjunctions: u128, years: u128, by_turns: bool, first: (u64, u64, u64)) -> Planet {
+    Planet {
+        conjunctions,
+        years,
+        by_turns,
+        first,
+    }
+}
+
+/// The planet of a number, 1 to 5. Reason 19.
+fn check_planet(number: u64) -> Result<&'static Planet, Reason> {
+    let place = number
+        .checked_sub(1)
+        .and_then(|place| place.try_into().ok());
+    place
+        .and_then(|place: usize| PLANETS.get(place))
+        .ok_or(Reason::Planet)
+}
+
+impl Planet {
+    /// The day and the rest of the k-th conjunction: k times the years, times 1,461, divided by four times the conjunctions. No
+    /// product of 128 bits passes its end.
+    fn falls(&self, k: u64) -> (u128, u128) {
+        let parts = u128::from(k) * self.years * 1_461;
+        let divisor = 4 * self.conjunctions;
+        (parts / divisor, parts % divisor)
+    }
+
+    fn phase(&self, k: u64) -> Phase {
+        match (self.by_turns, k % 2) {
+            (false, _) => Phase::Neither,
+            (true, 0) => Phase::Evening,
+            (true, _) => Phase::Morning,
+        }
+    }
+
+    /// The k-th conjunction, where its day is in range.
+    fn conjunction(&self, k: u64) -> Option<Conjunction> {
+        let (day, parts) = self.falls(k);
+        (day < u128::from(DAYS)).then(|| Conjunction {
+            day: day as u32,
+            parts: parts as u32,
+            divisor: 4 * self.conjunctions as u32,
+            phase: self.phase(k),
+        })
+    }
+
+    /// The least count whose conjunction does not fall before a day, by halving: no two fall on one day, so that the count that
+    /// is the day's own number is never too small.
+    fn count_from(&self, day: u64) -> u64 {
+        let (mut low, mut high) = (0, day);
+        while low < high {
+            let middle = low + (high - low) / 2;
+            if self.falls(middle).0 < u128::from(day) {
+                low = middle + 1;
+            } else {
+                high = middle;
+            }
+        }
+        low
+    }
+}
+
+/// As [`crate::conjunction`].
+pub fn conjunction(planet: u64, k: u64) -> Result<Conjunction, Reason> {
+    check_planet(planet)?.conjunction(k).ok_or(Reason::DayCount)
+}
+
+/// As [`crate::next_conjunction`].
+pub fn next_conjunction(planet: u64, day: u64) -> Result<NextConjunction, Reason> {
+    let planet = check_planet(planet)?;
+    check_day(day)?;
+    let k = planet.count_from(day);
+    let conjunction = planet.conjunction(k).ok_or(Reason::NoConjunctionLeft)?;
+    Ok(NextConjunction {
+        k: k as u32,
+        conjunction,
+    })
+}
+
+/// As [`crate::reduced_pair`]: four times one conjunction's parts and 1,461 times the divisor, the less taken from the greater
+/// until they are alike.
+pub fn reduced_pair(planet: u64) -> Result<Pair, Reason> {
+    let (days, parts, divisor) = check_planet(planet)?.first;
+    let (long_days, long_circle) = (4 * (days * divisor + parts), 1_461 * divisor);
+    let (mut a, mut b) = (long_days, long_circle);
+    while a != b {
+        if a > b {
+            a -= b;
+        } else {
+            b -= a;
+        }
+    }
+    Ok(Pair {
+        years: long_days / a,
+        conjunctions: long_circle / a,
+    })
+}
+
 // Searches.
 
 /// Whether an unread field, or one that has this value.

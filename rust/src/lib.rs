@@ -122,6 +122,44 @@ pub fn term(year: u64, term: u64) -> Result<u32, Reason> {
     Ok(ffi::oes_term(year, term).told()?.day)
 }
 
+/// The k-th conjunction of a planet since the origin, where k starts at 0. Planets: 1 Jupiter, 2 Mars, 3 Saturn, 4 Venus,
+/// 5 Mercury. Reasons 19, 6.
+#[inline]
+pub fn conjunction(planet: u64, k: u64) -> Result<Conjunction, Reason> {
+    let c = ffi::oes_conjunction(planet, k).told()?;
+    Ok(Conjunction {
+        day: c.day,
+        parts: c.parts,
+        divisor: c.divisor,
+        phase: phase(c.phase),
+    })
+}
+
+/// The first conjunction of a planet on or after a day, with its count. Reasons 19, 6, 20.
+#[inline]
+pub fn next_conjunction(planet: u64, day: u64) -> Result<NextConjunction, Reason> {
+    let c = ffi::oes_next_conjunction(planet, day).told()?;
+    Ok(NextConjunction {
+        k: c.k,
+        conjunction: Conjunction {
+            day: c.day,
+            parts: c.parts,
+            divisor: c.divisor,
+            phase: phase(c.phase),
+        },
+    })
+}
+
+/// A planet's pair, years and the conjunctions in them, to which its two long counts are reduced. Reason 19.
+#[inline]
+pub fn reduced_pair(planet: u64) -> Result<Pair, Reason> {
+    let c = ffi::oes_reduced_pair(planet).told()?;
+    Ok(Pair {
+        years: c.years,
+        conjunctions: c.conjunctions,
+    })
+}
+
 /// Every day from `first` to `last` that fits the reading, in rising order at the front of `out`, and how many there are; the
 /// rest of `out` is untouched. Reasons 6, 13, 14, 12; with 12 comes the true total.
 #[inline]
@@ -206,6 +244,17 @@ fn date(c: ffi::CDate) -> Date {
         month_length: c.month_length,
         day_name: c.day_name,
         year_name: c.year_name,
+    }
+}
+
+/// The phase of a number that capi gave.
+#[inline]
+fn phase(number: u32) -> Phase {
+    match number {
+        0 => Phase::Neither,
+        1 => Phase::Morning,
+        2 => Phase::Evening,
+        _ => panic!("capi gave {number}, which is no phase"),
     }
 }
 

@@ -2,7 +2,7 @@
 
 use std::fmt;
 
-/// Why a query comes back: the paper's fifteen reasons under their numbers.
+/// Why a query comes back: the paper's fifteen reasons and the two of the planets, under their numbers.
 #[derive(Clone, Copy, Debug, PartialEq, Eq, Hash)]
 #[repr(u32)]
 pub enum Reason {
@@ -36,10 +36,14 @@ pub enum Reason {
     Field = 14,
     /// 15: term above 23 or quarter above 3.
     TermOrQuarter = 15,
+    /// 19: planet outside 1 to 5.
+    Planet = 19,
+    /// 20: no conjunction falls from the given day to the end of the range.
+    NoConjunctionLeft = 20,
 }
 
-/// The reasons in the order of their numbers.
-const REASONS: [Reason; 15] = [
+/// The reasons in the order of their numbers; 16, 17 and 18 belong to requests that are not built.
+pub const REASONS: [Reason; 17] = [
     Reason::Year,
     Reason::MonthNumber,
     Reason::DayOfMonth,
@@ -55,18 +59,19 @@ const REASONS: [Reason; 15] = [
     Reason::Window,
     Reason::Field,
     Reason::TermOrQuarter,
+    Reason::Planet,
+    Reason::NoConjunctionLeft,
 ];
 
 impl Reason {
-    /// The paper's number, 1 to 15.
+    /// The paper's number, 1 to 15, or 19 or 20.
     pub fn number(self) -> u32 {
         self as u32
     }
 
     /// The reason of a number, where there is one.
     pub fn from_number(number: u32) -> Option<Reason> {
-        let place = (number as usize).checked_sub(1)?;
-        REASONS.get(place).copied()
+        REASONS.into_iter().find(|reason| reason.number() == number)
     }
 }
 
@@ -217,6 +222,48 @@ pub struct Quarter {
     pub day: u32,
     /// The rest, in parts of 3,760.
     pub parts: u32,
+}
+
+/// Whether a conjunction is a morning or an evening one.
+#[derive(Clone, Copy, Debug, PartialEq, Eq)]
+pub enum Phase {
+    /// Neither: Jupiter, Mars and Saturn.
+    Neither,
+    /// A morning conjunction of Venus or Mercury, of an odd count.
+    Morning,
+    /// An evening one, of an even count.
+    Evening,
+}
+
+/// A conjunction of a planet.
+#[derive(Clone, Copy, Debug, PartialEq, Eq)]
+pub struct Conjunction {
+    /// The day on which it falls.
+    pub day: u32,
+    /// The rest, in parts of the divisor.
+    pub parts: u32,
+    /// Of how many parts: four times the planet's conjunctions.
+    pub divisor: u32,
+    /// Morning, evening or neither.
+    pub phase: Phase,
+}
+
+/// The first conjunction on or after a day.
+#[derive(Clone, Copy, Debug, PartialEq, Eq)]
+pub struct NextConjunction {
+    /// Its count since the origin, where the first one is 0.
+    pub k: u32,
+    /// The conjunction.
+    pub conjunction: Conjunction,
+}
+
+/// A planet's pair.
+#[derive(Clone, Copy, Debug, PartialEq, Eq)]
+pub struct Pair {
+    /// So many years.
+    pub years: u64,
+    /// The conjunctions in them.
+    pub conjunctions: u64,
 }
 
 /// The leap mark of a reading that says "ordinary".

@@ -1,11 +1,13 @@
-//! The paper's known dates and its printed year, asked of both sides: of capi through the wrapper, and of the independent one.
+//! The paper's known dates, its printed year and its figures of the planets, asked of both sides: of capi through the wrapper, and
+//! of the independent one.
 
 /// The paper's figures, as tests over the calls of one side.
 macro_rules! paper_of {
     ($side:ident, $calls:path) => {
         mod $side {
             use oesterwrok::{
-                Asked, Date, LeapMonth, Month, Reading, Reason, SearchRefused, SheetCounts,
+                Asked, Conjunction, Date, LeapMonth, Month, Pair, Phase, Reading, Reason,
+                SearchRefused, SheetCounts,
             };
             use $calls as calls;
 
@@ -135,6 +137,105 @@ macro_rules! paper_of {
                     let months: u32 = (year..year + 19).map(|y| of(y).months).sum();
                     let leaps = (year..year + 19).filter(|&y| of(y).leap.is_some()).count();
                     assert_eq!((months, leaps), (235, 7));
+                }
+            }
+
+            fn falls(day: u32, parts: u32, divisor: u32, phase: Phase) -> Conjunction {
+                Conjunction {
+                    day,
+                    parts,
+                    divisor,
+                    phase,
+                }
+            }
+
+            /// The request's checks for k = 1; two of them make the days of k = 2, and of Venus and Mercury a whole round.
+            #[test]
+            fn first_conjunctions() {
+                use Phase::{Evening, Morning, Neither};
+                let figures = [
+                    (398, 14_641, 797, 11_974, 17_308, Neither, Neither),
+                    (779, 1_872, 1_559, 228, 3_516, Neither, Neither),
+                    (378, 2_163, 756, 4_326, 36_384, Neither, Neither),
+                    (292, 281, 584, 562, 23_320, Morning, Evening),
+                    (57, 44_805, 115, 41_978, 47_632, Morning, Evening),
+                ];
+                for (planet, (day_1, parts_1, day_2, parts_2, divisor, odd, even)) in
+                    (1..).zip(figures)
+                {
+                    let kth = |k| calls::conjunction(planet, k);
+                    assert_eq!(kth(0), Ok(falls(0, 0, divisor, even)));
+                    assert_eq!(kth(1), Ok(falls(day_1, parts_1, divisor, odd)));
+                    assert_eq!(kth(2), Ok(falls(day_2, parts_2, divisor, even)));
+                    let next = |day: u32| calls::next_conjunction(planet, day.into()).unwrap().k;
+                    assert_eq!((next(0), next(1), next(day_1)), (0, 1, 1));
+                    assert_eq!((next(day_1 + 1), next(day_2)), (2, 2));
+                }
+            }
+
+            /// The last conjunction in range of each planet, worked out by hand, and the next one's day, which is outside it.
+            #[test]
+            fn last_conjunctions() {
+                use Phase::{Evening, Morning, Neither};
+                let lasts = [
+                    (37_583, falls(14_989_825, 14_075, 17_308, Neither)),
+                    (19_229, falls(14_989_628, 3_396, 3_516, Neither)),
+                    (39_649, falls(14_989_679, 3_699, 36_384, Neither)),
+                    (51_333, falls(14_989_854, 12_813, 23_320, Morning)),
+                    (258_710, falls(14_989_825, 16_190, 47_632, Evening)),
+                ];
+                for (planet, (k, last)) in (1..).zip(lasts) {
+                    assert_eq!(calls::conjunction(planet, k), Ok(last));
+                    assert_eq!(calls::conjunction(planet, k + 1), Err(Reason::DayCount));
+                    let next = |day| calls::next_conjunction(planet, day);
+                    let found = next(last.day.into()).unwrap();
+                    assert_eq!((u64::from(found.k), found.conjunction), (k, last));
+                    let after = u64::from(last.day) + 1;
+                    assert_eq!(next(after), Err(Reason::NoConjunctionLeft));
+                    assert_eq!(next(LAST_DAY), Err(Reason::NoConjunctionLeft));
+                    assert_eq!(next(LAST_DAY + 1), Err(Reason::DayCount));
+                }
+            }
+
+            /// 004 counts 11,826 conjunctions of Venus by the end of year 9,455, the last one an evening one.
+            #[test]
+            fn venus_in_9455() {
+                let found = calls::next_conjunction(4, 3_453_334).unwrap();
+                let falls = falls(3_453_334, 11_666, 23_320, Phase::Evening);
+                assert_eq!((found.k, found.conjunction), (11_826, falls));
+            }
+
+            #[test]
+            fn planets_refused() {
+                for planet in [0, 6, 257, 1 << 32 | 1, u64::MAX] {
+                    assert_eq!(calls::conjunction(planet, u64::MAX), Err(Reason::Planet));
+                    assert_eq!(
+                        calls::next_conjunction(planet, u64::MAX),
+                        Err(Reason::Planet)
+                    );
+                    assert_eq!(calls::reduced_pair(planet), Err(Reason::Planet));
+                }
+                for k in [1 << 32 | 1, 1_341_063_005_370, u64::MAX] {
+                    assert_eq!(calls::conjunction(3, k), Err(Reason::DayCount));
+                }
+                assert_eq!(calls::next_conjunction(3, 1 << 32), Err(Reason::DayCount));
+            }
+
+            #[test]
+            fn printed_pairs() {
+                let pairs = [
+                    (4_725, 4_327),
+                    (1_876, 879),
+                    (9_415, 9_096),
+                    (4_661, 5_830),
+                    (1_889, 11_908),
+                ];
+                for (planet, (years, conjunctions)) in (1..).zip(pairs) {
+                    let pair = Pair {
+                        years,
+                        conjunctions,
+                    };
+                    assert_eq!(calls::reduced_pair(planet), Ok(pair));
                 }
             }
 

@@ -5,11 +5,13 @@ mod dates;
 mod facts;
 mod lent;
 mod lines;
+mod planets;
 mod random;
 mod searches;
 mod sheets;
 mod tally;
 
+use oesterwrok::REASONS;
 use std::panic::{catch_unwind, AssertUnwindSafe};
 use std::process::ExitCode;
 use std::sync::atomic::{AtomicUsize, Ordering};
@@ -43,6 +45,7 @@ fn all_rows() -> Vec<Row> {
     rows.extend(searches::rows(SEED + 30));
     rows.extend(sheets::rows(SEED + 40));
     rows.extend(lines::rows(SEED + 50));
+    rows.extend(planets::rows(SEED + 60));
     rows
 }
 
@@ -109,8 +112,8 @@ fn print_table(rows: &[Row], tallies: &[Tally]) -> Tally {
             .for_each(|(here, there)| *here += there);
     }
     print_row("total", &total);
-    let met = (1..=15).map(|reason| format!("{reason}: {}", total.met[reason]));
-    println!("reasons met  {}", met.collect::<Vec<_>>().join("  "));
+    let met = REASONS.map(|reason| format!("{}: {}", reason.number(), total.times_met(reason)));
+    println!("reasons met  {}", met.join("  "));
     total
 }
 
@@ -149,10 +152,14 @@ fn verdict(rows: &[Row], tallies: &[Tally], total: &Tally) -> ExitCode {
         );
         return ExitCode::FAILURE;
     }
-    if let Some(never) = (1..=15).find(|&reason| total.met[reason] == 0) {
-        println!("\nFAILED: reason {never} was never met");
+    if let Some(never) = REASONS.iter().find(|&&reason| total.times_met(reason) == 0) {
+        println!("\nFAILED: {never} was never met");
         return ExitCode::FAILURE;
     }
-    println!("TOTAL: {} compared, all equal", total.compared);
+    println!(
+        "TOTAL: {} compared, all equal; all {} reasons met",
+        total.compared,
+        REASONS.len()
+    );
     ExitCode::SUCCESS
 }

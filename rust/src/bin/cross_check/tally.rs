@@ -9,7 +9,7 @@ use std::ops::Range;
 const SHOWN: usize = 3;
 
 /// Into how many pieces a row is cut, for the threads to share.
-const PIECES: u64 = 16;
+pub const PIECES: u64 = 16;
 
 /// What was compared so far.
 #[derive(Default)]
@@ -19,7 +19,7 @@ pub struct Tally {
     /// How many of them were equal.
     pub equal: u64,
     /// How often each reason was met by the independent one; 0 counts the answers.
-    pub met: [u64; 16],
+    pub met: [u64; 21],
     /// The first differences.
     pub first: Vec<String>,
 }
@@ -62,6 +62,11 @@ impl Tally {
         }
         self.first.extend(other.first);
         self.first.truncate(SHOWN);
+    }
+
+    /// How often a reason was met.
+    pub fn times_met(&self, reason: Reason) -> u64 {
+        self.met[reason.number() as usize]
     }
 
     /// How many answers differed.
@@ -165,7 +170,7 @@ pub fn at_random(
 }
 
 /// One of the equal parts of a range.
-fn part(whole: &Range<u64>, number: u64) -> Range<u64> {
+pub fn part(whole: &Range<u64>, number: u64) -> Range<u64> {
     let length = whole.end - whole.start;
     whole.start + length * number / PIECES..whole.start + length * (number + 1) / PIECES
 }
