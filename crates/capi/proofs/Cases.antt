@@ -35,7 +35,7 @@ venus-in-9455 r p = ap (λ (x : CNext). x .k) p
 
 -- a planet whose low 8 bits are Jupiter's is none: reason 19; a count whose low 32 bits are 1 is far outside the range: reason 6
 pub planet-past-8-bits : (r : CConjunction) → CKthConjunction 257 1 r → r .reason ≡ 19
-unfolding conjunctionAt
+unfolding conjunctionAt numbersOf conjunctionDay
 planet-past-8-bits r p = ap (λ (x : CConjunction). x .reason) p
 
 pub count-past-32-bits : (r : CConjunction) → CKthConjunction 1 4294967297 r → r .reason ≡ 6
