@@ -6,8 +6,23 @@ is computed here from the walked calendar of expected.py, and is held against th
 
 In, and asked of the calls: year-name, year-place, year-place-bu, bu-head, bu-year-name, year-start, leap-month, month-start,
 bu-month, month-number, month-step, eclipse-month, quarter, quarter-day-of-month, solstice, term, term12, midterm-month, reading,
-eclipse-count, big-pair, identity (two: the second way to a first day, the second way to an eclipse).
+eclipse-count, big-pair, identity (two: the second way to a first day, the second way to an eclipse); and of the planets planet,
+planet-parity, planet-in-month, planet-count, planet-gcd, the constants 周率, 日率 and 日度法, and the rows of the kinds arith and
+const that speak of conjunctions: one conjunction's parts and the two long counts, a planet's conjunctions in its years, its
+morning conjunctions in them (see ASKED: the program has a kind of its own for each).
 Out, by kind: see OUT, with the reason of each. Out, by class: CONVENTION (another way of counting, eclipses from other epochs).
+
+Of the planets' figures planet, planet-parity and planet-divisor (日度法) are asked of `conjunction`, planet-in-month of it and of the
+month's first day, planet-gcd of `common_divisor`, planet-conjunctions (周率) and planet-years (日率) of `reduced_pair`.
+planet-parts, planet-long-days and planet-long-circle are made of what `conjunction` answers for k = 1: its day times the divisor
+and its parts; four times that; 1,461 times the divisor. planet-mornings counts the morning ones among k = 1 to the pair's
+conjunctions, which all fall in the pair's years.
+planet-count (積合 and 合餘, by the end of year Y): `next_conjunction` from the day of the next year's solstice, which is the year's
+end, has a count k; if its moment is after the end, in parts of the divisor, the last conjunction by then is that of k - 1. No call
+gives the 合餘, 1 of which is 1,461 parts of the divisor (Y × 周率 - k × 日率, and a year is 1,461 quarters of a day): it is the parts
+from the moment of the last conjunction to the end of the year, divided by 1,461. The end of year Y is 1,461 × Y quarters of a day,
+01's year; that the solstice's day is its whole part is held against the call `term` by the program. Here both come by 004's own
+way, one division of Y × 周率 by 日率.
 
 Of a solstice and a term only the day and its name are compared, of term12 only the day: the remainder of a term is not in the
 base, it waits for request W2. So a row whose misprint stands in the remainder alone (T24) agrees, and its line says so.
@@ -24,13 +39,13 @@ import pathlib
 import sys
 
 sys.dont_write_bytecode = True
-from expected import ROOT, Desk, hold, name
+from expected import PLANETS, ROOT, Desk, common_divisor, hold, kth, name
 
 ROWS = ROOT / "tools" / "eras.tsv"
 COLUMNS = "id kind inputs printed rule lines agrees class literal quote note".split()
 
 THREE = "the older calendar, which is not in the base"
-PLANETS = "planets are not in the base"
+PLACES = "004's steps to a planet's month and to its place among the stars: no call gives them"
 STARS = "lodges, stars, shadows and water clocks are not in the base"
 OUT = {
     "year-count": "CE to a year: reign titles and CE are not ours",
@@ -41,12 +56,12 @@ OUT = {
     "const": "a constant, with no question to a call in it",
     **dict.fromkeys("ts-elapsed ts-year-start ts-month ts-month-number ts-quarter ts-solstice ts-leap-month ts-reading".split(), THREE),
     **dict.fromkeys("solstice-lag term-lag calendars-differ".split(), THREE),
-    **dict.fromkeys("planet planet-const planet-gcd planet-in-month planet-count planet-parity planet-motion".split(), PLANETS),
+    **dict.fromkeys("planet-const planet-motion".split(), PLACES),
     **dict.fromkeys("lodge dusk-star-arc dawn-star-arc sun-place polar-cell clepsydra dusk-star dawn-star polar".split(), STARS),
 }
 OUT_CLASSES = {"CONVENTION"}
 
-# The items of each kind in the collection's order; one in brackets is not answered by a call.
+# The items of each kind that is asked, in the collection's order; one in brackets is not answered by a call.
 IN = {
     "year-name": "name",
     "year-place": "ji bu year-in-bu",
@@ -69,20 +84,53 @@ IN = {
     "reading": "exists",
     "eclipse-count": "eclipse-months",
     "big-pair": "least most",
-    "identity": "holds",
+    "first-day-identity": "holds",
+    "next-eclipse-identity": "holds",
+    "planet": "day parts divisor",
+    "planet-parity": "evening",
+    "planet-in-month": "days parts",
+    "planet-count": "conjunctions remainder",
+    "planet-gcd": "common-divisor",
+    "planet-conjunctions": "conjunctions",
+    "planet-years": "years",
+    "planet-divisor": "divisor",
+    "planet-parts": "parts",
+    "planet-long-days": "parts",
+    "planet-long-circle": "parts",
+    "planet-mornings": "conjunctions",
 }
 
 # The classes of rows that differ, in the order of the total.
 CLASSES = ["MISPRINT(numeral)", "MISPRINT(scan gap/interleave)", "SOURCE-DATE", "ROUNDED"]
 HEADING = "FIGURES OF 004 BY ITS LINES (L), AND WHAT THE CALLS ANSWER; - IS NOT STATED IN 004"
 
-# Questions that the collection puts in a sentence: kind and inputs of the row.
+
+
+def sums(p):
+    """The sums of one conjunction, as the collection writes them, and what is asked for each."""
+    day, parts, divisor, _ = kth(p, 1)
+    whole = day * divisor + parts
+    return {
+        f"{day}*{divisor}+{parts}": ("planet-parts", f"p={p}"),
+        f"4*{whole}": ("planet-long-days", f"p={p}"),
+        f"1461*{divisor}": ("planet-long-circle", f"p={p}"),
+    }
+
+
+# Questions that the collection puts in a sentence, a sum or a word: kind and inputs of the row.
 ASKED = {
     "5 months": ("month-step", "months=5"),
     "civil 9368..9460": ("eclipse-count", "first-civil=9368 last-civil=9460"),
     "remainder r of a month: previous and this both big": ("big-pair", "months=941"),
     "343335*e-1461*r == 27759*n, e<41040": ("first-day-identity", "years=41040"),
     "next eclipse from month n: n + (112n mod 135) div 23, less 1 if no remainder": ("next-eclipse-identity", "months=20000"),
+    "土 合 in 9,415 years": ("planet-conjunctions", "p=3"),
+    "金 晨合 in 4,661 years": ("planet-mornings", "p=4"),
+    "水 晨合 in 1,889 years": ("planet-mornings", "p=5"),
+    **{f"p={p} 周率": ("planet-conjunctions", f"p={p}") for p in PLANETS},
+    **{f"p={p} 日率": ("planet-years", f"p={p}") for p in PLANETS},
+    **{f"p={p} 日度法": ("planet-divisor", f"p={p}") for p in PLANETS},
+    **{written: asked for p in PLANETS for written, asked in sums(p).items()},
 }
 
 # An item that the collection fills in from the rule, by its own note, and that 004 does not print: (row, item).
@@ -209,6 +257,44 @@ class Rule:
 
         return [YES_NO[all(holds(n) for n in range(1, months + 1))]]
 
+    def planet(self, p, k):
+        return list(kth(p, k)[:3])
+
+    def planet_parity(self, p, k):
+        return [YES_NO[kth(p, k)[3] == "evening"]]
+
+    def planet_in_month(self, p, k, n):
+        day, parts = kth(p, k)[:2]
+        assert self.c.month_of(day) == n
+        return [day - self.c.starts[n], parts]
+
+    def planet_count(self, p, years):
+        return list(divmod(years * PLANETS[p][0], PLANETS[p][1]))
+
+    def planet_gcd(self, a, b):
+        return [common_divisor(a, b)]
+
+    def planet_conjunctions(self, p):
+        return [PLANETS[p][0]]
+
+    def planet_years(self, p):
+        return [PLANETS[p][1]]
+
+    def planet_divisor(self, p):
+        return [4 * PLANETS[p][0]]
+
+    def planet_parts(self, p):
+        return [1461 * PLANETS[p][1]]
+
+    def planet_long_days(self, p):
+        return [4 * 1461 * PLANETS[p][1]]
+
+    def planet_long_circle(self, p):
+        return [1461 * 4 * PLANETS[p][0]]
+
+    def planet_mornings(self, p):
+        return [sum(kth(p, k)[3] == "morning" for k in range(1, PLANETS[p][0] + 1))]
+
 
 def rows_in(path):
     lines = path.read_text(encoding="utf8").split("\n")
@@ -216,9 +302,15 @@ def rows_in(path):
     return [dict(zip(COLUMNS, line.split("\t"), strict=True)) for line in lines[1:-1]]
 
 
+def asked_as(row):
+    """The program's kind, and inputs."""
+    return ASKED.get(row["inputs"], (row["kind"], row["inputs"]))
+
+
 def is_used(row):
-    assert (row["kind"] in IN) != (row["kind"] in OUT), row["kind"]
-    return row["kind"] in IN and row["class"] not in OUT_CLASSES
+    kind = asked_as(row)[0]
+    assert (kind in IN) != (kind in OUT), kind
+    return kind in IN and row["class"] not in OUT_CLASSES
 
 
 def choose(path):
@@ -233,15 +325,15 @@ def choose(path):
 
 def question(row):
     """The program's kind and inputs, and the numbers in them."""
-    kind, inputs = ASKED.get(row["inputs"], (row["kind"], row["inputs"]))
+    kind, inputs = asked_as(row)
     values = [word.split("=")[1] for word in inputs.split()]
     return kind, inputs, [v == "L" if v in "L-" else int(v) for v in values]
 
 
 def items(row, column):
     """What a column says of each item, as the program writes it."""
-    labels, said = IN[row["kind"]].split(), row[column].split()
-    said = [{"exists": "yes", "none": "no", "holds": "yes"}.get(s, s) for s in said]
+    labels, said = IN[asked_as(row)[0]].split(), row[column].split()
+    said = [{"exists": "yes", "none": "no", "holds": "yes", "evening": "yes", "morning": "no"}.get(s, s) for s in said]
     said = [str(NAMES[s[:2]]) + s[2:] if s[:2] in NAMES else s for s in said]
     if labels[-1] == "leap" and said[-2] != "-":
         said[-1] = YES_NO[said[-1] == "L"]
@@ -275,7 +367,7 @@ class Run:
         kind, inputs, numbers = question(row)
         given = getattr(self.rule, kind.replace("-", "_"))(*numbers)
         printed, word = checked(row, given)
-        asked = [(l, p, str(g)) for l, p, g in zip(IN[row["kind"]].split(), printed, given) if l[0] != "["]
+        asked = [(l, p, str(g)) for l, p, g in zip(IN[kind].split(), printed, given) if l[0] != "["]
         agrees = all(p in ("-", g) for _, p, g in asked)
         text = f"{row['id']} {kind} {inputs} L{row['lines']}: " + " ".join(f"{l}={p}" for l, p, _ in asked)
         if word:

@@ -1,13 +1,20 @@
 #!/usr/bin/env python3
-"""What the programs `tray` and `uses` must write, by a computation of its own, straight from the sentences of the paper.
+"""What the programs `tray` and `uses` must write, and `known` of the planets, by a computation of its own, straight from the
+sentences of the paper and of request W11.
 
 It shares nothing with the library: the calendar is walked month by month from the origin, mid-terms are looked for among all
 even terms on each month's days, numbers are given out by the paper's two sentences, and every date is found by looking it up.
+A planet's next conjunction is searched for among its counts. Of the proved table of the planets (crates/planets/specs/Table.antt)
+the questions are read, so that `known` asks every row in its order, and each of its answers is held against what is computed here.
+What `known` writes before its planets stands there by hand, from the paper, and is kept as it is.
 
 usage: tools/expected.py            write the expected output of each program it knows
        tools/expected.py --check    say whether what stands is what it computes (exit status 1 if not)
 """
+import bisect
+import math
 import pathlib
+import re
 import sys
 
 sys.dont_write_bytecode = True
@@ -89,6 +96,57 @@ def refusal(k):
 
 def mark(leap):
     return "L" if leap else "-"
+
+
+# "004 gives conjunctions per years": planet, conjunctions, years.
+PLANETS = {1: (4327, 4725), 2: (879, 1876), 3: (9096, 9415), 4: (5830, 4661), 5: (11908, 1889)}
+
+
+def phase(p, k):
+    """Of Venus and Mercury: an odd count is a morning conjunction, an even one an evening one."""
+    if p < 4:
+        return "-"
+    return "morning" if k % 2 == 1 else "evening"
+
+
+def kth(p, k):
+    """Day, parts, divisor and phase of a planet's k-th conjunction, in range or not."""
+    conjunctions, years = PLANETS[p]
+    return *divmod(k * years * 1461, 4 * conjunctions), 4 * conjunctions, phase(p, k)
+
+
+def conjunction(p, k):
+    """The same, or the reason's number."""
+    if p not in PLANETS:
+        return 19
+    return kth(p, k) if kth(p, k)[0] < DAYS else 6
+
+
+def next_conjunction(p, day):
+    """The count and the conjunction that comes first on or after the day, looked for among the counts, or the reason's number."""
+    if p not in PLANETS:
+        return 19
+    if not day < DAYS:
+        return 6
+    k = bisect.bisect_left(range(DAYS), day, key=lambda j: kth(p, j)[0])
+    assert kth(p, k)[0] >= day and (k == 0 or kth(p, k - 1)[0] < day)
+    return (k, *kth(p, k)) if kth(p, k)[0] < DAYS else 20
+
+
+def pair(p):
+    """Years and conjunctions, or the reason's number."""
+    return PLANETS[p][::-1] if p in PLANETS else 19
+
+
+def common_divisor(a, b):
+    """The largest number that divides both, looked for among all that divide the second."""
+    low = [d for d in range(1, math.isqrt(b) + 1) if b % d == 0]
+    return max(d for d in low + [b // d for d in low] if a % d == 0)
+
+
+def told(answer):
+    """An answer's fields, or its refusal."""
+    return refusal(answer) if isinstance(answer, int) else spaced(answer)
 
 
 class Desk:
@@ -345,6 +403,37 @@ def printed_lines(desk):
     return out + [print_line("DAY", d, room, 6, [day_or_refusal(desk, d)] if d < DAYS else None) for d, room in days]
 
 
+def conjunction_line(p, k):
+    return f"CONJUNCTION {p} {k}:" + told(conjunction(p, k))
+
+
+def next_line(p, day):
+    return f"NEXT {p} {day}:" + told(next_conjunction(p, day))
+
+
+def last_count(p):
+    """The count of a planet's last conjunction in range."""
+    return bisect.bisect_left(range(DAYS), DAYS, key=lambda k: kth(p, k)[0]) - 1
+
+
+def planets():
+    most = 2**64 - 1
+    strange = (0, 6, 261, 4294967295)
+    out = [conjunction_line(p, k) for p in strange for k in (1, most)]
+    out += [conjunction_line(p, last_count(p) + 1) for p in PLANETS] + [conjunction_line(p, most) for p in PLANETS]
+    out += [conjunction_line(p, k) for p, k in ((1, 2**32), (3, 1341063005369), (3, 1341063005370), (5, 2**63))]
+    out += [next_line(p, day) for p in strange for day in (0, 14989860)]
+    out += [next_line(p, day) for p in (1, 5) for day in (14989860, 4294967295)]
+    out += [next_line(p, day) for p in PLANETS for day in (kth(p, last_count(p))[0] + 1, 14989859)]
+    return out + [f"PAIR {p}:" + told(pair(p)) for p in strange]
+
+
+def planets_kept():
+    out = [conjunction_line(p, k) for p in PLANETS for k in (0, 1, last_count(p))]
+    out += [next_line(p, day) for p in PLANETS for day in (0, 1, kth(p, last_count(p))[0])]
+    return out + [f"PAIR {p}:" + told(pair(p)) for p in PLANETS]
+
+
 def tray(desk):
     least, most = -(2**63), 2**63 - 1
     out = ["THE REJECT TRAY"]
@@ -383,6 +472,7 @@ def tray(desk):
     out += sheets()
     out.append("WRITE 1001 YEARS:" + refusal(write_sheet(([11] * 1001, [], []), 2)))
     out += printed_lines(desk)
+    out += planets()
     out.append("WHAT MUST NOT BE REJECTED")
     out += [desk.day_line(14989859), desk.date_line(*last)]
     out += [desk.move_line(*first, 0), desk.move_line(*first, 14989859), desk.move_line(*last, -14989859)]
@@ -392,6 +482,7 @@ def tray(desk):
     back = read_sheet(list(full), (1000, 1000, 1000))
     out.append(f"WRITE 1000 OF EACH: {len(full)}")
     out.append("READ IT BACK:" + spaced(len(items) for items in back) + "; LAST" + spaced(items[999] for items in back))
+    out += planets_kept()
     pairs = 0
     for n in range(940):
         if desk.c.length(n) == 30 and desk.c.length(n + 1) == 30:
@@ -477,7 +568,47 @@ def uses(desk):
     out += year_block(desk, 11) + year_block(desk, 0)
     out += [month_or_refusal(desk, word, n) for word in ("", "MONTH ") for n in (134, 507600)]
     out += [day_or_refusal(desk, d) for d in (0, 14989860)]
+    out += [f"conjunction {k} of planet {p}:" + told(conjunction(p, k)) for p, k in ((4, 11826), (6, 1))]
+    out += [f"next conjunction of planet {p} from day {d}:" + told(next_conjunction(p, d)) for p, d in ((4, 3453043), (1, 14989826))]
+    out += [f"pair of planet {p}:" + told(pair(p)) for p in (5, 0)]
+    out.append(f"common divisor 27612900 25286988: {common_divisor(27612900, 25286988)}")
     return "\n".join(out) + "\n"
+
+
+# The program `known`: the rows of the proved table of the planets, each asked of the calls.
+
+TABLE = ROOT / "crates" / "planets" / "specs" / "Table.antt"
+PHASES = {"-": 0, "morning": 1, "evening": 2}
+KNOWN_PLANETS = "the planets (W11)\n"
+
+
+def in_month(desk, p, k, n):
+    answer = conjunction(p, k)
+    return answer if isinstance(answer, int) else (answer[0] - desk.c.starts[n], answer[1])
+
+
+def table_rows():
+    """The questions of the proved table with their numbers, and its answers: numbers, or a reason's number."""
+    for kind, asked, word, answer in re.findall(r"(?:row|refusal) \(([a-z-]+)([ 0-9]+)\) (\(?)([^)\n]+)", TABLE.read_text(encoding="utf8")):
+        said = tuple(map(int, answer.replace("∷ []", "").split("∷"))) if word else int(answer)
+        yield kind, tuple(map(int, asked.split())), said
+
+
+def known_row(desk, kind, asked, said):
+    answer = {"conjunction": conjunction, "next": next_conjunction, "in-month": lambda *a: in_month(desk, *a), "pair": pair}[kind](*asked)
+    assert said == (answer if isinstance(answer, int) else tuple(PHASES.get(x, x) for x in answer)), (kind, asked, said, answer)
+    words = {
+        "conjunction": "planet {} conjunction {}",
+        "next": "planet {} from day {}",
+        "in-month": "planet {} conjunction {} in month {}",
+        "pair": "planet {} years and conjunctions",
+    }[kind]
+    return words.format(*asked) + ":" + told(answer)
+
+
+def known(desk):
+    by_hand = (ROOT / "crates" / "known" / "stdout").read_text(encoding="utf8").partition(KNOWN_PLANETS)[0]
+    return by_hand + KNOWN_PLANETS + "".join(known_row(desk, *row) + "\n" for row in table_rows())
 
 
 def hold(files):
@@ -496,7 +627,7 @@ def hold(files):
 
 def main():
     desk = Desk()
-    texts = {"tray": tray(desk), "uses": uses(desk)}
+    texts = {"tray": tray(desk), "uses": uses(desk), "known": known(desk)}
     return hold({ROOT / "crates" / program / "stdout": text.encode() for program, text in texts.items()})
 
 

@@ -1,5 +1,6 @@
 // A row's question: its kind, and the calls that answer it.
 use crate::answer::Answer;
+use crate::conjunctions;
 use crate::days;
 use crate::months;
 use crate::readings;
@@ -31,10 +32,14 @@ fn of_day_or_run(kind: &[u8], a: u32, b: u32) -> Answer {
     Answer::NotGiven
 }
 
-// A reading alone is asked for by four numbers.
+// A reading alone is asked for by four numbers, a conjunction in a month by three.
 fn answer_of(kind: &[u8], a: u32, b: u32, c: u32, d: u32) -> Answer {
     if readings::is_asked(kind) {
         return readings::exists(a, b, c, d);
+    }
+    let p = conjunctions::kind_of(kind);
+    if p < 12 {
+        return conjunctions::answer(p, a, b, c);
     }
     of_year_or_month(kind, a, b)
 }

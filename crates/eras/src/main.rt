@@ -1,6 +1,7 @@
 // The figures of 004 that the calls answer, each row asked and compared. Rows and what it must write are made by tools/eras.py.
 mod answer;
 mod ask;
+mod conjunctions;
 mod days;
 mod months;
 mod readings;

@@ -4,6 +4,13 @@ use dates::Dated;
 use dates::DayFound;
 use facts::LeapMonth;
 use moves::Way;
+use planets::Conjunction;
+use planets::ConjunctionTold;
+use planets::Counted;
+use planets::NextTold;
+use planets::Pair;
+use planets::PairTold;
+use planets::Phase;
 use reading::Field;
 use reading::Reading;
 use rule::Month;
@@ -38,6 +45,12 @@ pub fn signed(n: i64) {
 
 fn decimal(n: u64) {
     io::print_decimal(1, n);
+}
+
+// A space, and a number of 64 bits.
+pub fn next_long(n: u64) {
+    text(b" ");
+    decimal(n);
 }
 
 // `L` for leap, `-` for ordinary.
@@ -107,6 +120,61 @@ pub fn leap_month(l: LeapMonth) {
     }
 }
 
+// Whether a conjunction is a morning or an evening one, `-` where it is neither.
+pub fn phase(p: Phase) {
+    match p {
+        Phase::Morning => text(b" morning"),
+        Phase::Evening => text(b" evening"),
+        Phase::Neither => text(b" -"),
+    }
+}
+
+// A conjunction: day, parts, of how many they are, morning or evening.
+pub fn conjunction(c: Conjunction) {
+    let p = c.phase;
+    next(c.day);
+    next(c.parts);
+    next(c.divisor);
+    phase(p);
+}
+
+// A conjunction after its count.
+pub fn counted(c: Counted) {
+    let of_count = c.conjunction;
+    next(c.k);
+    conjunction(of_count);
+}
+
+// A pair: years, and the conjunctions in them.
+pub fn pair(p: Pair) {
+    next_long(p.years);
+    next_long(p.conjunctions);
+}
+
+pub fn conjunction_told(r: ConjunctionTold) {
+    match r {
+        ConjunctionTold::Is(c) => conjunction(c),
+        ConjunctionTold::Refused(why) => reason(why),
+    }
+    text(b"\n");
+}
+
+pub fn next_told(r: NextTold) {
+    match r {
+        NextTold::Is(c) => counted(c),
+        NextTold::Refused(why) => reason(why),
+    }
+    text(b"\n");
+}
+
+pub fn pair_told(r: PairTold) {
+    match r {
+        PairTold::Is(p) => pair(p),
+        PairTold::Refused(why) => reason(why),
+    }
+    text(b"\n");
+}
+
 // A field of a reading: its number, or `?`.
 pub fn field(f: Field) {
     match f {
@@ -167,6 +235,5 @@ fn wider(x: u16) -> u32 {
 
 // A space, and a count.
 pub fn count(n: usize) {
-    text(b" ");
-    decimal(n as u64);
+    next_long(n as u64);
 }
