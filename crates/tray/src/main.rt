@@ -2,6 +2,7 @@
 // other tray, what must not be rejected. For a person to read. What it must write is made by tools/expected.py.
 
 mod ask;
+mod conjunctions;
 mod pairs;
 mod printed;
 mod readings;
@@ -118,6 +119,16 @@ fn terms() {
     ask::term(1, 256);
 }
 
+// The planets: 19, then 6, then 20.
+fn planets_refused() {
+    conjunctions::strange_planets();
+    conjunctions::counts_outside();
+    conjunctions::large_counts();
+    conjunctions::strange_planets_from_a_day();
+    conjunctions::none_left();
+    conjunctions::strange_pairs();
+}
+
 // What must not be rejected.
 fn kept() {
     ask::day(14989859);
@@ -152,9 +163,11 @@ fn main() {
     sheets::written();
     sheets::too_many();
     printed::all();
+    planets_refused();
     show::text(b"WHAT MUST NOT BE REJECTED\n");
     kept();
     readings::kept();
     sheets::full();
+    conjunctions::kept();
     pairs::seconds_of_two_big();
 }
