@@ -1,8 +1,10 @@
-// The paper's known dates, asked of the calls and printed with what was asked and answered. What it must write is the paper's.
+// The paper's known dates, and then the checks of the planets, asked of the calls and printed with what was asked and answered.
+// What it must write is the paper's; of the planets it is made by tools/expected.py.
 use reading::Field;
 use reading::Reading;
 
 mod ask;
+mod conjunctions;
 
 fn cases_1_to_3() {
     show::text(b"1\n");
@@ -107,4 +109,5 @@ fn main() {
     cases_10_and_11();
     case_12();
     readings();
+    conjunctions::all();
 }

@@ -6,6 +6,9 @@ use facts::QuarterTold;
 use facts::SolsticeYearTold;
 use facts::TermTold;
 use facts::YearTold;
+use planets::ConjunctionTold;
+use planets::NextTold;
+use planets::PairTold;
 use reading::Field;
 use reading::Found;
 use reading::Reading;
@@ -265,6 +268,57 @@ fn print_day(day: u32) {
     printed(lines::print_day(day, &mut buffer), &buffer);
 }
 
+// A planet's conjunction by its count (planets 1 to 5: Jupiter, Mars, Saturn, Venus, Mercury; the count from 0): its day, its
+// remainder in parts, of how many they are, and whether it is a morning or an evening one.
+fn conjunction(planet: u32, k: u64) {
+    show::text(b"conjunction");
+    show::next_long(k);
+    show::text(b" of planet");
+    show::next(planet);
+    colon();
+    match planets::kth_conjunction(planet, k) {
+        ConjunctionTold::Is(c) => show::conjunction(c),
+        ConjunctionTold::Refused(why) => show::reason(why),
+    }
+    end();
+}
+
+// The first conjunction of a planet on or after a day: its count, and the conjunction.
+fn next_conjunction(planet: u32, day: u32) {
+    show::text(b"next conjunction of planet");
+    show::next(planet);
+    show::text(b" from day");
+    show::next(day);
+    colon();
+    match planets::next_conjunction(planet, day) {
+        NextTold::Is(counted) => show::counted(counted),
+        NextTold::Refused(why) => show::reason(why),
+    }
+    end();
+}
+
+// 004's pair of a planet, got by reducing two long counts against each other: so many years, and the conjunctions in them.
+fn reduced_pair(planet: u32) {
+    show::text(b"pair of planet");
+    show::next(planet);
+    colon();
+    match planets::reduced_pair(planet) {
+        PairTold::Is(pair) => show::pair(pair),
+        PairTold::Refused(why) => show::reason(why),
+    }
+    end();
+}
+
+// The common divisor of two numbers. It is never refused.
+fn common_divisor(a: u64, b: u64) {
+    show::text(b"common divisor");
+    show::next_long(a);
+    show::next_long(b);
+    colon();
+    show::next_long(planets::common_divisor(a, b));
+    end();
+}
+
 // Each call once where it answers, and once where it is refused.
 fn dates_and_moves() {
     date_of_day(3420558);
@@ -308,9 +362,20 @@ fn printed_lines() {
     print_day(14989860);
 }
 
+fn conjunctions() {
+    conjunction(4, 11826);
+    conjunction(6, 1);
+    next_conjunction(4, 3453043);
+    next_conjunction(1, 14989826);
+    reduced_pair(5);
+    reduced_pair(0);
+    common_divisor(27612900, 25286988);
+}
+
 fn main() {
     dates_and_moves();
     facts_of_years_and_months();
     searches_and_sheets();
     printed_lines();
+    conjunctions();
 }
