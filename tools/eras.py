@@ -12,11 +12,11 @@ const that speak of conjunctions: one conjunction's parts and the two long count
 morning conjunctions in them (see ASKED: the program has a kind of its own for each).
 Out, by kind: see OUT, with the reason of each. Out, by class: CONVENTION (another way of counting, eclipses from other epochs).
 
-Of the planets' figures planet, planet-parity and planet-divisor (日度法) are asked of `conjunction`, planet-in-month of it and of the
+Of the planets' figures planet, planet-parity and planet-divisor (日度法) are asked of `kth_conjunction`, planet-in-month of it and of the
 month's first day, planet-gcd of `common_divisor`, planet-conjunctions (周率) and planet-years (日率) of `reduced_pair`.
-planet-parts, planet-long-days and planet-long-circle are made of what `conjunction` answers for k = 1: its day times the divisor
-and its parts; four times that; 1,461 times the divisor. planet-mornings counts the morning ones among k = 1 to the pair's
-conjunctions, which all fall in the pair's years.
+planet-parts, planet-long-days and planet-long-circle are made of what `kth_conjunction` answers for k = 1: its day times the divisor
+and its parts; four times that; 1,461 times the divisor. planet-mornings counts the morning ones among the first so many
+as the pair has conjunctions, from k = 0 on.
 planet-count (積合 and 合餘, by the end of year Y): `next_conjunction` from the day of the next year's solstice, which is the year's
 end, has a count k; if its moment is after the end, in parts of the divisor, the last conjunction by then is that of k - 1. No call
 gives the 合餘, 1 of which is 1,461 parts of the divisor (Y × 周率 - k × 日率, and a year is 1,461 quarters of a day): it is the parts
@@ -293,7 +293,7 @@ class Rule:
         return [1461 * 4 * PLANETS[p][0]]
 
     def planet_mornings(self, p):
-        return [sum(kth(p, k)[3] == "morning" for k in range(1, PLANETS[p][0] + 1))]
+        return [sum(kth(p, k)[3] == "morning" for k in range(PLANETS[p][0]))]
 
 
 def rows_in(path):

@@ -96,7 +96,7 @@ fn of_pair(kind: usize, p: u32) -> Answer {
     }
 }
 
-// The conjunctions; the years; the morning conjunctions among the first so many after the origin.
+// The conjunctions; the years; the morning conjunctions among the first so many.
 fn by_pair(kind: usize, p: u32, years: u64, conjunctions: u64) -> Answer {
     match kind {
         7 => one(conjunctions),
@@ -120,15 +120,15 @@ fn morning(c: Conjunction) -> bool {
     }
 }
 
-// How many of the conjunctions 1 to a count are morning ones.
+// How many of the conjunctions before that of a count are morning ones.
 fn mornings(p: u32, count: u32) -> u32 {
     let mut found: u32 = 0;
     let mut k: u32 = 0;
     while k < count {
-        k += 1;
         if is_morning(p, k) {
             found += 1;
         }
+        k += 1;
     }
     found
 }

@@ -1,6 +1,7 @@
 -- `eras::conjunctions::mornings` is safe and ends: k goes up to the count, and no more are found than were asked. Assumes nothing.
 use Prim.Native.Nat.{_≤_, _-_}
 use native.Mathlib.Omega.{arith}
+use mathlib.Core.Logic.{⊎-elim}
 use borrow.Author.Needs.{needs}
 use Rattle.eras.proofs.conjunctions.mornings.Statement.{statement}
 use Rattle.eras.proofs.conjunctions.mornings.Tie as tie
@@ -14,26 +15,20 @@ abbrev μ-loop : tie.MeasureT-loop
 loop-holds : tie.Need-loop-holds Inv-loop μ-loop
 loop-holds c = omega arith
 
-add-k : tie.Need-add-k Inv-loop μ-loop
-add-k c = omega arith
-
 is-morning-requires : tie.Need-is-morning-requires Inv-loop μ-loop
 is-morning-requires c κs = search needs
 
 add-found : tie.Need-add-found Inv-loop μ-loop
 add-found c = omega arith
 
+add-k : tie.Need-add-k Inv-loop μ-loop
+add-k c = omega arith
+
 loop-less : tie.Need-loop-less Inv-loop μ-loop
 loop-less c = omega arith
 
 loop-again : tie.Need-loop-again Inv-loop μ-loop
-loop-again c = omega arith
-
-loop-less-2 : tie.Need-loop-less-2 Inv-loop μ-loop
-loop-less-2 c = omega arith
-
-loop-again-2 : tie.Need-loop-again-2 Inv-loop μ-loop
-loop-again-2 c = omega arith
+loop-again c = ⊎-elim (λ w. omega arith) (λ w. omega arith) (c .if1 .came)
 
 returns : tie.Need-returns Inv-loop μ-loop
 returns c = search needs
@@ -41,15 +36,4 @@ returns c = search needs
 pub mornings-spec : {M : Type 1} → statement M
 mornings-spec =
     tie.close
-    (tie.spec
-    Inv-loop
-    μ-loop
-    loop-holds
-    add-k
-    is-morning-requires
-    add-found
-    loop-less
-    loop-again
-    loop-less-2
-    loop-again-2
-    returns)
+    (tie.spec Inv-loop μ-loop loop-holds is-morning-requires add-found add-k loop-less loop-again returns)
