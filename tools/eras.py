@@ -12,17 +12,17 @@ const that speak of conjunctions: one conjunction's parts and the two long count
 morning conjunctions in them (see ASKED: the program has a kind of its own for each).
 Out, by kind: see OUT, with the reason of each. Out, by class: CONVENTION (another way of counting, eclipses from other epochs).
 
-Of the planets' figures planet, planet-parity and planet-divisor (日度法) are asked of `kth_conjunction`, planet-in-month of it and of the
-month's first day, planet-gcd of `common_divisor`, planet-conjunctions (周率) and planet-years (日率) of `reduced_pair`.
-planet-parts, planet-long-days and planet-long-circle are made of what `kth_conjunction` answers for k = 1: its day times the divisor
-and its parts; four times that; 1,461 times the divisor. planet-mornings counts the morning ones among the first so many
+Of the planets' figures planet, planet-parity and planet-divisor (日度法) are asked of `kth_conjunction`, planet-in-month of it and
+of the month's first day, planet-gcd of `common_divisor`, planet-conjunctions (周率) and planet-years (日率) of `reduced_pair`.
+planet-parts, planet-long-days and planet-long-circle are made of what `kth_conjunction` answers for k = 1: its day times the
+divisor and its parts; four times that; 1,461 times the divisor. planet-mornings counts the morning ones among the first so many
 as the pair has conjunctions, from k = 0 on.
 planet-count (積合 and 合餘, by the end of year Y): `next_conjunction` from the day of the next year's solstice, which is the year's
 end, has a count k; if its moment is after the end, in parts of the divisor, the last conjunction by then is that of k - 1. No call
-gives the 合餘, 1 of which is 1,461 parts of the divisor (Y × 周率 - k × 日率, and a year is 1,461 quarters of a day): it is the parts
-from the moment of the last conjunction to the end of the year, divided by 1,461. The end of year Y is 1,461 × Y quarters of a day,
-01's year; that the solstice's day is its whole part is held against the call `term` by the program. Here both come by 004's own
-way, one division of Y × 周率 by 日率.
+gives the 合餘, Y × 周率 - k × 日率; since a year is 1,461 quarters of a day, 1 of it is 1,461 parts of the divisor, so that the program
+makes it of the parts from the moment of the last conjunction to the end of the year. That end is 1,461 × Y quarters of a day by
+01's year, and the program asks `term` whether its whole part is the solstice's day. Here both come by 004's own way, one division
+of Y × 周率 by 日率.
 
 Of a solstice and a term only the day and its name are compared, of term12 only the day: the remainder of a term is not in the
 base, it waits for request W2. So a row whose misprint stands in the remainder alone (T24) agrees, and its line says so.

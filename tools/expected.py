@@ -589,8 +589,11 @@ def in_month(desk, p, k, n):
 
 def table_rows():
     """The questions of the proved table with their numbers, and its answers: numbers, or a reason's number."""
-    for kind, asked, word, answer in re.findall(r"(?:row|refusal) \(([a-z-]+)([ 0-9]+)\) (\(?)([^)\n]+)", TABLE.read_text(encoding="utf8")):
-        said = tuple(map(int, answer.replace("∷ []", "").split("∷"))) if word else int(answer)
+    text = TABLE.read_text(encoding="utf8")
+    rows = re.findall(r"(?:row|refusal) \(([a-z-]+)([ 0-9]+)\) (\(?)([^)\n]+)", text)
+    assert len(rows) == len(re.findall(r"\b(?:row|refusal) \(", text))
+    for kind, asked, is_list, answer in rows:
+        said = tuple(map(int, answer.replace("∷ []", "").split("∷"))) if is_list else int(answer)
         yield kind, tuple(map(int, asked.split())), said
 
 
