@@ -1,13 +1,15 @@
 -- The statements of specs/Paper, proved, each under its own name. Assumes nothing.
-use Prim.Native.Nat.{ℕ, suc, _+_, _-_, _≤_, _<_, min}
+use Prim.Native.Nat.{ℕ, zero, suc, _+_, _-_, _*_, _≤_, _<_, min}
 use native.Mathlib.Omega.{arith}
 use native.Mathlib.Decide.{decLe}
-use mathlib.Core.Path.{_≡_, refl, ap, ap₂, sym, _∙_}
+use native.Mathlib.Nat.{mul-assoc, mul-comm, mul-le-mul-left, le-div-iff-mul-le}
+use mathlib.Core.Path.{_≡_, refl, ap, ap₂, sym, _∙_, subst}
 use mathlib.Core.Bool.{Bool, true, false, _&&_, and-eq-true-iff}
 use lib.Dec.{leb}
 use lib.IntN.{ℤ, pos, negsuc, _+ℤ_}
 use borrow.Author.Tests.{leb-true, leb-false, le-leb, lt-leb}
 use Rattle.rule.specs.Reasons.{Answer, is, refused, refused-with, guard, within, andThen}
+use Rattle.rule.proofs.Answers.{within-true}
 use Rattle.dates.specs.declared.Date.{Date}
 use Rattle.dates.specs.Dates.{dateAt, dateOf, dayOfDate, dayOfNamed}
 use Rattle.moves.specs.Moves.{landed, moved, stepped}
@@ -19,6 +21,11 @@ use Rattle.facts.specs.declared.MonthFacts.{MonthFacts}
 use Rattle.dates.proofs.Paper.{back-and-there}
 use Rattle.moves.proofs.Landing.{lands-out, back-out, moved-refused, moved-refused-with, moved-found}
 use Rattle.facts.specs.Facts.{solsticeYear, yearFacts, monthFacts, quarterOf, solsticeYearAt, yearFactsAt, monthFactsAt, quarterAt, termAt}
+use Rattle.planets.specs.declared.Numbers.{Numbers}
+use Rattle.planets.specs.declared.Conjunction.{Conjunction}
+use Rattle.planets.specs.declared.Counted.{Counted}
+use Rattle.planets.specs.Planets.{divisor, numbersOf, conjunctionDay, conjunctionOf, conjunctionAt, nextCount, countedOf, nextAt}
+use Rattle.planets.specs.Paper.{Good, Good-planets}
 use Rattle.reading.specs.declared.Field.{Field}
 use Rattle.reading.specs.declared.Field.the-variants.{Known, Unread}
 use Rattle.reading.specs.declared.Reading.{Reading}
@@ -116,6 +123,50 @@ move-capped : (y k : ℕ) (l : Bool) (m : ℕ) (n : ℤ) → moved (capped y) (c
 unfolding moved
 move-capped y k l m n = ap (λ (a : Answer ℕ). andThen a (λ d. landed (pos d +ℤ n))) (day-capped y k l m)
 
+-- a conjunction's day is never before its count
+count-not-after-day : (n : Numbers) → Good n → (k : ℕ) → k ≤ conjunctionDay n k
+unfolding conjunctionDay
+count-not-after-day n g k =
+    le-div-iff-mul-le {k = divisor n} {x = k} {y = k * n .years * 1461} (let h = g .some in omega arith) .1
+    (subst (λ (y : ℕ). k * divisor n ≤ y) (sym (mul-assoc k (n .years) 1461 ∙ ap (λ (y : ℕ). k * y) (mul-comm (n .years) 1461))) (mul-le-mul-left k (g .apart)))
+
+good-planets : Good-planets
+unfolding numbersOf
+good-planets zero h = absurd (omega (arith, h .0))
+good-planets (suc zero) h = record { some = omega arith; apart = omega arith }
+good-planets (suc (suc zero)) h = record { some = omega arith; apart = omega arith }
+good-planets (suc (suc (suc zero))) h = record { some = omega arith; apart = omega arith }
+good-planets (suc (suc (suc (suc zero)))) h = record { some = omega arith; apart = omega arith }
+good-planets (suc (suc (suc (suc (suc zero))))) h = record { some = omega arith; apart = omega arith }
+good-planets (suc (suc (suc (suc (suc (suc p)))))) h = absurd (omega (arith, h .1))
+
+-- so no count that was cut down has its conjunction in range
+count-settled : (n : Numbers) → Good n → Settled (λ k. leb (conjunctionDay n k) 14989859)
+count-settled n g =
+    none-behind (λ k. leb (conjunctionDay n k) 14989859)
+    (λ k h. lt-leb (conjunctionDay n k) 14989859 (omega (arith, count-not-after-day n g k)))
+
+conjunction-capped : (p k : ℕ) → conjunctionAt (capped p) (capped k) ≡ conjunctionAt p k
+unfolding conjunctionAt
+conjunction-capped p k =
+    behind-a-test Conjunction (within 1 5) (from-one 5 (omega arith)) 19 (λ i. at i (capped k)) p
+    ∙ go (within 1 5 p) refl
+  where
+    at : ℕ → ℕ → Answer Conjunction
+    at i j = guard (leb (conjunctionDay (numbersOf i) j) 14989859) 6 (is (conjunctionOf (numbersOf i) j))
+
+    go : (t : Bool) → within 1 5 p ≡ t → guard t 19 (at p (capped k)) ≡ guard t 19 (at p k)
+    go true e =
+        behind-a-test Conjunction (λ i. leb (conjunctionDay (numbersOf p) i) 14989859)
+        (count-settled (numbersOf p) (good-planets p (within-true 1 5 p .0 e))) 6 (λ i. is (conjunctionOf (numbersOf p) i)) k
+    go false e = refl
+
+next-capped : (p d : ℕ) → nextAt (capped p) (capped d) ≡ nextAt p d
+unfolding nextAt
+next-capped p d =
+    two Counted (within 1 5) (λ i. leb i 14989859) (from-one 5 (omega arith)) (at-most 14989859 (omega arith)) 19 6
+    (λ i j. guard (leb (conjunctionDay (numbersOf i) (nextCount (numbersOf i) j)) 14989859) 20 (is (countedOf (numbersOf i) (nextCount (numbersOf i) j)))) p d
+
 pub capped-alike : Capped-alike
 unfolding dateAt solsticeYearAt yearFactsAt monthFactsAt quarterAt termAt
 capped-alike =
@@ -129,6 +180,8 @@ capped-alike =
       month = λ n. behind-a-test MonthFacts (λ i. leb i 507599) month-settled 7 (λ i. is (monthFacts i)) n;
       quarter = λ n q. two Quarter (λ i. leb i 507599) (λ i. leb i 3) month-settled (at-most 3 (omega arith)) 7 15 (λ i j. is (quarterOf i j)) n q;
       term = λ y k. two ℕ (within 1 41040) (λ i. leb i 23) year-settled (at-most 23 (omega arith)) 1 15 (λ i j. is (termDay (yearTerm i j))) y k;
+      conjunction = conjunction-capped;
+      next = next-capped;
     }
 
 -- a field, and a reading
