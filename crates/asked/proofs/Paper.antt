@@ -108,11 +108,13 @@ read-back s =
     (choose K (like (word "MONTH") s) (λ e. inr (exact (word "MONTH") s refl e))
     (choose K (like (word "QUARTER") s) (λ e. inr (exact (word "QUARTER") s refl e))
     (choose K (like (word "TERM") s) (λ e. inr (exact (word "TERM") s refl e))
+    (choose K (like (word "CONJUNCTION") s) (λ e. inr (exact (word "CONJUNCTION") s refl e))
+    (choose K (like (word "NEXT") s) (λ e. inr (exact (word "NEXT") s refl e))
     (choose K (like (word "DAY") s) (λ e. inr (exact (word "DAY") s refl e))
     (choose K (like (word "DATE") s) (λ e. inr (exact (word "DATE") s refl e))
     (choose K (like (word "MOVE") s) (λ e. inr (exact (word "MOVE") s refl e))
     (choose K (like (word "SEARCH") s) (λ e. inr (exact (word "SEARCH") s refl e))
-    (inl refl))))))))))))))
+    (inl refl))))))))))))))))
   where
     P : Field → Type 0
     P r = (r .kind ≡ 120) ⊎ (s ≡ textOf (r .kind) (r .value))
@@ -172,6 +174,8 @@ all-read =
       month = refl;
       quarter = refl;
       term = refl;
+      conjunction = refl;
+      next = refl;
       day = refl;
       date = refl;
       move = refl;

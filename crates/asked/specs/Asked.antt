@@ -1,5 +1,5 @@
 -- The desk program's lines: "Fields parted by single spaces", and what a field may be: a decimal number without leading zeros, such a
--- number that starts with `-`, a mark, `?`, or one of the nine words. All are lists of bytes. Assumes nothing.
+-- number that starts with `-`, a mark, `?`, or one of the eleven words. All are lists of bytes. Assumes nothing.
 use Prim.Native.Nat.{ℕ, _-_}
 use mathlib.Core.Bool.{Bool, true, false, not, cond, _&&_, _||_}
 use mathlib.Core.List.{List, [], _∷_}
@@ -41,7 +41,7 @@ unfoldable pub isDecimal : List ℕ → Bool
 isDecimal s = leads s && allDigits s
 
 -- The kinds of a field are letters: `n` a number, `b` a number that starts with `-`, `m` a mark, `?` unread, a capital for each of the
--- nine words, `x` any other. A query's form is a line of such letters, where `f` admits a number or `?`, `g` a mark or `?`, and `s` a
+-- eleven words, `x` any other. A query's form is a line of such letters, where `f` admits a number or `?`, `g` a mark or `?`, and `s` a
 -- number with `-` or without; any other letter admits itself alone.
 abbrev pub admits : ℕ → ℕ → Bool
 admits p k =
@@ -61,7 +61,7 @@ unfoldable pub isBack : List ℕ → Bool
 isBack [] = false
 isBack (b ∷ s) = eqb b 45 && not (like (word "0") s) && isDecimal s
 
--- the nine words: a text without small letters admits itself alone
+-- the eleven words: a text without small letters admits itself alone
 unfoldable pub keyword : List ℕ → ℕ
 keyword s =
     cond (like (word "PLACE") s) 80
@@ -69,10 +69,12 @@ keyword s =
     (cond (like (word "MONTH") s) 77
     (cond (like (word "QUARTER") s) 81
     (cond (like (word "TERM") s) 84
+    (cond (like (word "CONJUNCTION") s) 67
+    (cond (like (word "NEXT") s) 78
     (cond (like (word "DAY") s) 68
     (cond (like (word "DATE") s) 65
     (cond (like (word "MOVE") s) 86
-    (cond (like (word "SEARCH") s) 83 120))))))))
+    (cond (like (word "SEARCH") s) 83 120))))))))))
 
 -- a field's kind and value: a number's own; of a mark 1 for ordinary and 2 for leap; of any other 0
 unfoldable pub fieldRead : List ℕ → Field

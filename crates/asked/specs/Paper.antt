@@ -33,7 +33,7 @@ Joined-parts = (f : List ℕ) (fs : List (List ℕ)) → NoSpaces (f ∷ fs) →
 abbrev pub markOf : ℕ → List ℕ
 markOf v = cond (eqb v 2) (word "L") (word "-")
 
--- the nine words by their letters
+-- the eleven words by their letters
 abbrev pub wordOf : ℕ → List ℕ
 wordOf k =
     cond (eqb k 80) (word "PLACE")
@@ -41,10 +41,12 @@ wordOf k =
     (cond (eqb k 77) (word "MONTH")
     (cond (eqb k 81) (word "QUARTER")
     (cond (eqb k 84) (word "TERM")
+    (cond (eqb k 67) (word "CONJUNCTION")
+    (cond (eqb k 78) (word "NEXT")
     (cond (eqb k 68) (word "DAY")
     (cond (eqb k 65) (word "DATE")
     (cond (eqb k 86) (word "MOVE")
-    (cond (eqb k 83) (word "SEARCH") []))))))))
+    (cond (eqb k 83) (word "SEARCH") []))))))))))
 
 -- the one text of a field of a kind and with a value: `n` is 110, `b` 98, `m` 109
 unfoldable pub textOf : ℕ → ℕ → List ℕ
@@ -67,7 +69,7 @@ Never-minus-nought = (f : List ℕ) → fieldRead f .kind ≡ 98 → fieldRead f
 abbrev pub Reads : List ℕ → ℕ → ℕ → Type 0
 Reads f k v = fieldRead f ≡ record { kind = k; value = v }
 
--- every number is a field, however large, and with `-` every number but 0; so are the marks, `?` and the nine words
+-- every number is a field, however large, and with `-` every number but 0; so are the marks, `?` and the eleven words
 pub record All-read : Type 0 where
   pub number : (n : ℕ) → Reads (decimal n) 110 n
   pub number-back : (n : ℕ) → Reads (45 ∷ decimal (suc n)) 98 (suc n)
@@ -79,6 +81,8 @@ pub record All-read : Type 0 where
   pub month : Reads (word "MONTH") 77 0
   pub quarter : Reads (word "QUARTER") 81 0
   pub term : Reads (word "TERM") 84 0
+  pub conjunction : Reads (word "CONJUNCTION") 67 0
+  pub next : Reads (word "NEXT") 78 0
   pub day : Reads (word "DAY") 68 0
   pub date : Reads (word "DATE") 65 0
   pub move : Reads (word "MOVE") 86 0

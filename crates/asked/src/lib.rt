@@ -133,7 +133,7 @@ fn is_back(s: &[u8]) -> bool
     (s[0] == 45) & !is_like(b"0", &s[1..]) & is_decimal(&s[1..])
 }
 
-// The letter of one of the nine words, or `x`.
+// The letter of one of the eleven words, or `x`.
 fn keyword(s: &[u8]) -> u8
     ensures { λ r. ⌜ r ≡ keyword (now (s .entry)) ⌝ }
 {
@@ -151,6 +151,12 @@ fn keyword(s: &[u8]) -> u8
     }
     if is_like(b"TERM", s) {
         return 84;
+    }
+    if is_like(b"CONJUNCTION", s) {
+        return 67;
+    }
+    if is_like(b"NEXT", s) {
+        return 78;
     }
     if is_like(b"DAY", s) {
         return 68;

@@ -160,18 +160,65 @@ returns-9 c = rw (
 )
     refl
 
+slice-aggregate-is-like-10 : tie.Need-slice-aggregate-is-like-10
+slice-aggregate-is-like-10 c = search needs
+
+is-like-requires-10 : tie.Need-is-like-requires-10
+is-like-requires-10 c κs = search needs
+
 returns-10 : tie.Need-returns-10
 unfolding keyword
 returns-10 c = rw (
-  sym (c .before .before .before .before .before .before .before .before .before .before .before .before .before .before .before .before .before .before .before .before .before .before .before .before .before .is-like .ensures) ∙ c .before .before .before .before .before .before .before .before .before .before .before .before .before .before .before .before .before .before .before .before .before .before .before .before .if1 .left,
-  sym (c .before .before .before .before .before .before .before .before .before .before .before .before .before .before .before .before .before .before .before .before .before .before .is-like2 .ensures) ∙ c .before .before .before .before .before .before .before .before .before .before .before .before .before .before .before .before .before .before .before .before .before .if2 .left,
-  sym (c .before .before .before .before .before .before .before .before .before .before .before .before .before .before .before .before .before .before .before .is-like3 .ensures) ∙ c .before .before .before .before .before .before .before .before .before .before .before .before .before .before .before .before .before .before .if3 .left,
-  sym (c .before .before .before .before .before .before .before .before .before .before .before .before .before .before .before .before .is-like4 .ensures) ∙ c .before .before .before .before .before .before .before .before .before .before .before .before .before .before .before .if4 .left,
-  sym (c .before .before .before .before .before .before .before .before .before .before .before .before .before .is-like5 .ensures) ∙ c .before .before .before .before .before .before .before .before .before .before .before .before .if5 .left,
-  sym (c .before .before .before .before .before .before .before .before .before .before .is-like6 .ensures) ∙ c .before .before .before .before .before .before .before .before .before .if6 .left,
-  sym (c .before .before .before .before .before .before .before .is-like7 .ensures) ∙ c .before .before .before .before .before .before .if7 .left,
-  sym (c .before .before .before .before .is-like8 .ensures) ∙ c .before .before .before .if8 .left,
-  sym (c .before .is-like9 .ensures) ∙ c .if9 .left,
+  sym (c .before .before .before .before .before .before .before .before .before .before .before .before .before .before .before .before .before .before .before .before .before .before .before .before .before .before .before .before .is-like .ensures) ∙ c .before .before .before .before .before .before .before .before .before .before .before .before .before .before .before .before .before .before .before .before .before .before .before .before .before .before .before .if1 .left,
+  sym (c .before .before .before .before .before .before .before .before .before .before .before .before .before .before .before .before .before .before .before .before .before .before .before .before .before .is-like2 .ensures) ∙ c .before .before .before .before .before .before .before .before .before .before .before .before .before .before .before .before .before .before .before .before .before .before .before .before .if2 .left,
+  sym (c .before .before .before .before .before .before .before .before .before .before .before .before .before .before .before .before .before .before .before .before .before .before .is-like3 .ensures) ∙ c .before .before .before .before .before .before .before .before .before .before .before .before .before .before .before .before .before .before .before .before .before .if3 .left,
+  sym (c .before .before .before .before .before .before .before .before .before .before .before .before .before .before .before .before .before .before .before .is-like4 .ensures) ∙ c .before .before .before .before .before .before .before .before .before .before .before .before .before .before .before .before .before .before .if4 .left,
+  sym (c .before .before .before .before .before .before .before .before .before .before .before .before .before .before .before .before .is-like5 .ensures) ∙ c .before .before .before .before .before .before .before .before .before .before .before .before .before .before .before .if5 .left,
+  sym (c .before .before .before .before .before .before .before .before .before .before .before .before .before .is-like6 .ensures) ∙ c .before .before .before .before .before .before .before .before .before .before .before .before .if6 .left,
+  sym (c .before .before .before .before .before .before .before .before .before .before .is-like7 .ensures) ∙ c .before .before .before .before .before .before .before .before .before .if7 .left,
+  sym (c .before .before .before .before .before .before .before .is-like8 .ensures) ∙ c .before .before .before .before .before .before .if8 .left,
+  sym (c .before .before .before .before .is-like9 .ensures) ∙ c .before .before .before .if9 .left,
+  sym (c .before .is-like10 .ensures) ∙ c .if10 .taken,
+)
+    refl
+
+slice-aggregate-is-like-11 : tie.Need-slice-aggregate-is-like-11
+slice-aggregate-is-like-11 c = search needs
+
+is-like-requires-11 : tie.Need-is-like-requires-11
+is-like-requires-11 c κs = search needs
+
+returns-11 : tie.Need-returns-11
+unfolding keyword
+returns-11 c = rw (
+  sym (c .before .before .before .before .before .before .before .before .before .before .before .before .before .before .before .before .before .before .before .before .before .before .before .before .before .before .before .before .before .before .before .is-like .ensures) ∙ c .before .before .before .before .before .before .before .before .before .before .before .before .before .before .before .before .before .before .before .before .before .before .before .before .before .before .before .before .before .before .if1 .left,
+  sym (c .before .before .before .before .before .before .before .before .before .before .before .before .before .before .before .before .before .before .before .before .before .before .before .before .before .before .before .before .is-like2 .ensures) ∙ c .before .before .before .before .before .before .before .before .before .before .before .before .before .before .before .before .before .before .before .before .before .before .before .before .before .before .before .if2 .left,
+  sym (c .before .before .before .before .before .before .before .before .before .before .before .before .before .before .before .before .before .before .before .before .before .before .before .before .before .is-like3 .ensures) ∙ c .before .before .before .before .before .before .before .before .before .before .before .before .before .before .before .before .before .before .before .before .before .before .before .before .if3 .left,
+  sym (c .before .before .before .before .before .before .before .before .before .before .before .before .before .before .before .before .before .before .before .before .before .before .is-like4 .ensures) ∙ c .before .before .before .before .before .before .before .before .before .before .before .before .before .before .before .before .before .before .before .before .before .if4 .left,
+  sym (c .before .before .before .before .before .before .before .before .before .before .before .before .before .before .before .before .before .before .before .is-like5 .ensures) ∙ c .before .before .before .before .before .before .before .before .before .before .before .before .before .before .before .before .before .before .if5 .left,
+  sym (c .before .before .before .before .before .before .before .before .before .before .before .before .before .before .before .before .is-like6 .ensures) ∙ c .before .before .before .before .before .before .before .before .before .before .before .before .before .before .before .if6 .left,
+  sym (c .before .before .before .before .before .before .before .before .before .before .before .before .before .is-like7 .ensures) ∙ c .before .before .before .before .before .before .before .before .before .before .before .before .if7 .left,
+  sym (c .before .before .before .before .before .before .before .before .before .before .is-like8 .ensures) ∙ c .before .before .before .before .before .before .before .before .before .if8 .left,
+  sym (c .before .before .before .before .before .before .before .is-like9 .ensures) ∙ c .before .before .before .before .before .before .if9 .left,
+  sym (c .before .before .before .before .is-like10 .ensures) ∙ c .before .before .before .if10 .left,
+  sym (c .before .is-like11 .ensures) ∙ c .if11 .taken,
+)
+    refl
+
+returns-12 : tie.Need-returns-12
+unfolding keyword
+returns-12 c = rw (
+  sym (c .before .before .before .before .before .before .before .before .before .before .before .before .before .before .before .before .before .before .before .before .before .before .before .before .before .before .before .before .before .before .before .is-like .ensures) ∙ c .before .before .before .before .before .before .before .before .before .before .before .before .before .before .before .before .before .before .before .before .before .before .before .before .before .before .before .before .before .before .if1 .left,
+  sym (c .before .before .before .before .before .before .before .before .before .before .before .before .before .before .before .before .before .before .before .before .before .before .before .before .before .before .before .before .is-like2 .ensures) ∙ c .before .before .before .before .before .before .before .before .before .before .before .before .before .before .before .before .before .before .before .before .before .before .before .before .before .before .before .if2 .left,
+  sym (c .before .before .before .before .before .before .before .before .before .before .before .before .before .before .before .before .before .before .before .before .before .before .before .before .before .is-like3 .ensures) ∙ c .before .before .before .before .before .before .before .before .before .before .before .before .before .before .before .before .before .before .before .before .before .before .before .before .if3 .left,
+  sym (c .before .before .before .before .before .before .before .before .before .before .before .before .before .before .before .before .before .before .before .before .before .before .is-like4 .ensures) ∙ c .before .before .before .before .before .before .before .before .before .before .before .before .before .before .before .before .before .before .before .before .before .if4 .left,
+  sym (c .before .before .before .before .before .before .before .before .before .before .before .before .before .before .before .before .before .before .before .is-like5 .ensures) ∙ c .before .before .before .before .before .before .before .before .before .before .before .before .before .before .before .before .before .before .if5 .left,
+  sym (c .before .before .before .before .before .before .before .before .before .before .before .before .before .before .before .before .is-like6 .ensures) ∙ c .before .before .before .before .before .before .before .before .before .before .before .before .before .before .before .if6 .left,
+  sym (c .before .before .before .before .before .before .before .before .before .before .before .before .before .is-like7 .ensures) ∙ c .before .before .before .before .before .before .before .before .before .before .before .before .if7 .left,
+  sym (c .before .before .before .before .before .before .before .before .before .before .is-like8 .ensures) ∙ c .before .before .before .before .before .before .before .before .before .if8 .left,
+  sym (c .before .before .before .before .before .before .before .is-like9 .ensures) ∙ c .before .before .before .before .before .before .if9 .left,
+  sym (c .before .before .before .before .is-like10 .ensures) ∙ c .before .before .before .if10 .left,
+  sym (c .before .is-like11 .ensures) ∙ c .if11 .left,
 )
     refl
 
@@ -206,4 +253,10 @@ keyword-spec =
     slice-aggregate-is-like-9
     is-like-requires-9
     returns-9
-    returns-10)
+    slice-aggregate-is-like-10
+    is-like-requires-10
+    returns-10
+    slice-aggregate-is-like-11
+    is-like-requires-11
+    returns-11
+    returns-12)
