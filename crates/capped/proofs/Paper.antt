@@ -1,9 +1,8 @@
 -- The statements of specs/Paper, proved, each under its own name. Assumes nothing.
-use Prim.Native.Nat.{ℕ, zero, suc, _+_, _-_, _*_, _≤_, _<_, min}
+use Prim.Native.Nat.{ℕ, suc, _+_, _-_, _≤_, _<_, min}
 use native.Mathlib.Omega.{arith}
 use native.Mathlib.Decide.{decLe}
-use native.Mathlib.Nat.{mul-assoc, mul-comm, mul-le-mul-left, le-div-iff-mul-le}
-use mathlib.Core.Path.{_≡_, refl, ap, ap₂, sym, _∙_, subst}
+use mathlib.Core.Path.{_≡_, refl, ap, ap₂, sym, _∙_}
 use mathlib.Core.Bool.{Bool, true, false, _&&_, and-eq-true-iff}
 use lib.Dec.{leb}
 use lib.IntN.{ℤ, pos, negsuc, _+ℤ_}
@@ -24,8 +23,10 @@ use Rattle.facts.specs.Facts.{solsticeYear, yearFacts, monthFacts, quarterOf, s
 use Rattle.planets.specs.declared.Numbers.{Numbers}
 use Rattle.planets.specs.declared.Conjunction.{Conjunction}
 use Rattle.planets.specs.declared.Counted.{Counted}
-use Rattle.planets.specs.Planets.{divisor, numbersOf, conjunctionDay, conjunctionOf, conjunctionAt, nextCount, countedOf, nextAt}
-use Rattle.planets.specs.Paper.{Good, Good-planets}
+use Rattle.planets.specs.Planets.{numbersOf, conjunctionDay, conjunctionOf, conjunctionAt, nextCount, countedOf, nextAt}
+use Rattle.planets.specs.Paper.{Good}
+use Rattle.planets.proofs.Moments.{count-first}
+use Rattle.planets.proofs.Paper.{good-planets}
 use Rattle.reading.specs.declared.Field.{Field}
 use Rattle.reading.specs.declared.Field.the-variants.{Known, Unread}
 use Rattle.reading.specs.declared.Reading.{Reading}
@@ -123,28 +124,11 @@ move-capped : (y k : ℕ) (l : Bool) (m : ℕ) (n : ℤ) → moved (capped y) (c
 unfolding moved
 move-capped y k l m n = ap (λ (a : Answer ℕ). andThen a (λ d. landed (pos d +ℤ n))) (day-capped y k l m)
 
--- a conjunction's day is never before its count
-count-not-after-day : (n : Numbers) → Good n → (k : ℕ) → k ≤ conjunctionDay n k
-unfolding conjunctionDay
-count-not-after-day n g k =
-    le-div-iff-mul-le {k = divisor n} {x = k} {y = k * n .years * 1461} (let h = g .some in omega arith) .1
-    (subst (λ (y : ℕ). k * divisor n ≤ y) (sym (mul-assoc k (n .years) 1461 ∙ ap (λ (y : ℕ). k * y) (mul-comm (n .years) 1461))) (mul-le-mul-left k (g .apart)))
-
-good-planets : Good-planets
-unfolding numbersOf
-good-planets zero h = absurd (omega (arith, h .0))
-good-planets (suc zero) h = record { some = omega arith; apart = omega arith }
-good-planets (suc (suc zero)) h = record { some = omega arith; apart = omega arith }
-good-planets (suc (suc (suc zero))) h = record { some = omega arith; apart = omega arith }
-good-planets (suc (suc (suc (suc zero)))) h = record { some = omega arith; apart = omega arith }
-good-planets (suc (suc (suc (suc (suc zero))))) h = record { some = omega arith; apart = omega arith }
-good-planets (suc (suc (suc (suc (suc (suc p)))))) h = absurd (omega (arith, h .1))
-
--- so no count that was cut down has its conjunction in range
+-- a conjunction's day is never before its count, so that no count that was cut down has its conjunction in range
 count-settled : (n : Numbers) → Good n → Settled (λ k. leb (conjunctionDay n k) 14989859)
 count-settled n g =
     none-behind (λ k. leb (conjunctionDay n k) 14989859)
-    (λ k h. lt-leb (conjunctionDay n k) 14989859 (omega (arith, count-not-after-day n g k)))
+    (λ k h. lt-leb (conjunctionDay n k) 14989859 (omega (arith, count-first n g k)))
 
 conjunction-capped : (p k : ℕ) → conjunctionAt (capped p) (capped k) ≡ conjunctionAt p k
 unfolding conjunctionAt
