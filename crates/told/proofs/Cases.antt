@@ -39,6 +39,7 @@ use Rattle.facts.specs.Facts.{
   quarterAt,
   termAt,
 }
+use Rattle.planets.specs.Planets.{numbersOf, conjunctionDay, conjunctionParts, phase, conjunctionOf, conjunctionAt, nextCount, countedOf, nextAt}
 use Rattle.reading.specs.declared.Field.the-variants.{Known, Unread}
 use Rattle.reading.specs.declared.Reading.{Reading}
 use Rattle.reading.specs.Readings.{monthFits, dayFits, fits, inRanges, fitting}
@@ -59,6 +60,10 @@ use Rattle.told.specs.Answers.{
   quarterText,
   termLine,
   termText,
+  conjunctionLine,
+  conjunctionText,
+  nextLine,
+  nextText,
   dayLineOf,
   dayText,
   dayLine,
@@ -113,6 +118,42 @@ no-quarter = refl
 pub term-11-1 : termText 11 1 ≡ inLines (word "TERM 3667" ∷ [])
 unfolding termText termLine termAt termDay digits decimal followed inLines
 term-11-1 = refl
+
+-- the checks of W11 for k = 1: Jupiter, and Venus, whose odd counts are morning conjunctions
+pub jupiter-1 : conjunctionText 1 1 ≡ inLines (word "CONJUNCTION 398 14641 17308 -" ∷ [])
+unfolding conjunctionText conjunctionLine conjunctionAt conjunctionOf numbersOf conjunctionDay conjunctionParts phase digits decimal followed inLines
+jupiter-1 = refl
+
+pub venus-1 : conjunctionText 4 1 ≡ inLines (word "CONJUNCTION 292 281 23320 M" ∷ [])
+unfolding conjunctionText conjunctionLine conjunctionAt conjunctionOf numbersOf conjunctionDay conjunctionParts phase digits decimal followed inLines
+venus-1 = refl
+
+-- an even count is an evening conjunction: Mercury's second
+pub mercury-2 : conjunctionText 5 2 ≡ inLines (word "CONJUNCTION 115 41978 47632 E" ∷ [])
+unfolding conjunctionText conjunctionLine conjunctionAt conjunctionOf numbersOf conjunctionDay conjunctionParts phase digits decimal followed inLines
+mercury-2 = refl
+
+pub no-planet : conjunctionText 6 1 ≡ inLines (word "REFUSED 19 planet outside 1 to 5" ∷ [])
+unfolding conjunctionText conjunctionLine conjunctionAt conjunctionOf numbersOf conjunctionDay conjunctionParts phase digits decimal followed inLines refusedText wordsNumbered
+no-planet = refl
+
+pub no-such-count : conjunctionText 1 37584 ≡ inLines (word "REFUSED 6 day count outside the range" ∷ [])
+unfolding conjunctionText conjunctionLine conjunctionAt conjunctionOf numbersOf conjunctionDay conjunctionParts phase digits decimal followed inLines refusedText wordsNumbered
+no-such-count = refl
+
+-- the first conjunction of Venus on or after day 292 is its first, and after that day its second
+pub next-292 : nextText 4 292 ≡ inLines (word "NEXT 1 292 281 23320 M" ∷ [])
+unfolding nextText nextLine nextAt nextCount countedOf conjunctionOf numbersOf conjunctionDay conjunctionParts phase digits decimal followed inLines
+next-292 = refl
+
+pub next-293 : nextText 4 293 ≡ inLines (word "NEXT 2 584 562 23320 E" ∷ [])
+unfolding nextText nextLine nextAt nextCount countedOf conjunctionOf numbersOf conjunctionDay conjunctionParts phase digits decimal followed inLines
+next-293 = refl
+
+-- after day 14,989,825 no conjunction of Jupiter is left
+pub none-left : nextText 1 14989826 ≡ inLines (word "REFUSED 20 no conjunction falls from the given day to the end of the range" ∷ [])
+unfolding nextText nextLine nextAt nextCount countedOf conjunctionOf numbersOf conjunctionDay conjunctionParts phase digits decimal followed inLines refusedText wordsNumbered
+none-left = refl
 
 -- the last day of year 11's month 134, and a day that is none
 pub last-of-134 : dayText 3985 ≡ inLines (word "DAY 3985 11 9 L 29 26 29 27" ∷ [])

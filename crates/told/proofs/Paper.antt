@@ -1,10 +1,10 @@
 -- The statements of specs/Paper, proved, each under its own name. Assumes nothing.
-use Prim.Native.Nat.{ℕ, _+_, _-_}
+use Prim.Native.Nat.{ℕ, _+_, _-_, _≤_}
 use native.Mathlib.Omega.{arith}
 use mathlib.Core.Path.{_≡_, refl, ap, ap₂, sym, _∙_}
-use mathlib.Core.Logic.{_↔_}
+use mathlib.Core.Logic.{_↔_, _⊎_, inl, inr}
 use mathlib.Core.Bool.{Bool, true, false, _&&_}
-use mathlib.Core.List.{List, [], _∷_, _++_}
+use mathlib.Core.List.{List, [], _∷_, _++_, append-assoc}
 use lib.Dec.{leb}
 use lib.IntN.{ℤ, pos, negsuc, _+ℤ_}
 use lib.ListN.{getD}
@@ -32,6 +32,9 @@ use Rattle.facts.specs.Facts.{
   termAt,
 }
 use Rattle.facts.proofs.Paper as Facts
+use Rattle.planets.specs.Planets.{numbersOf, divisor, conjunctionDay, conjunctionParts, phase, conjunctionOf, conjunctionAt, nextCount, countedOf, nextAt}
+use Rattle.planets.specs.Paper.{Planet}
+use Rattle.planets.proofs.Paper as Planets
 use Rattle.reading.specs.declared.Reading.{Reading}
 use Rattle.reading.specs.Readings.{inRanges, windowDays, windowHolds, fitting}
 use Rattle.reading.specs.Search.{total, withRoom, searchAt}
@@ -54,6 +57,11 @@ use Rattle.told.specs.Answers.{
   quarterText,
   termLine,
   termText,
+  phaseText,
+  conjunctionLine,
+  conjunctionText,
+  nextLine,
+  nextText,
   dayLineOf,
   dayText,
   dayLine,
@@ -106,6 +114,34 @@ quarter-line-literally n q h i = ap (told quarterLine) (Facts.reasons-of-facts .
 pub term-line-literally : Paper.Term-line-literally
 unfolding termText termLine followed
 term-line-literally y k h i = ap (told termLine) (Facts.reasons-of-facts .terms y k .given .1 (h, i))
+
+-- a phase's letter, and the planet that has it
+letter-of : {p k : ℕ} {last : List ℕ} → Paper.Letter p k last → phaseText (phase (numbersOf p) k) ≡ last
+letter-of {p} (Paper.morning j v) = ap phaseText (Planets.morning-and-evening .odd p j v)
+letter-of {p} (Paper.evening j v) = ap phaseText (Planets.morning-and-evening .even p j v)
+letter-of {p} {k} (Paper.neither l h) = ap phaseText (Planets.morning-and-evening .neither p k l h)
+
+by-turns : {p : ℕ} → (p ≡ 4) ⊎ (p ≡ 5) → Planet p
+by-turns (inl e) = (omega (arith, e), omega (arith, e))
+by-turns (inr e) = (omega (arith, e), omega (arith, e))
+
+planet-of : {p k : ℕ} {last : List ℕ} → Paper.Letter p k last → Planet p
+planet-of (Paper.morning j v) = by-turns v
+planet-of (Paper.evening j v) = by-turns v
+planet-of (Paper.neither l h) = (l, omega (arith, h))
+
+pub conjunction-line-literally : Paper.Conjunction-line-literally
+unfolding conjunctionText conjunctionLine conjunctionOf followed
+conjunction-line-literally p k last l h =
+    ap (told conjunctionLine) (Planets.reasons-of-planets .conjunctions p k .given .1 (planet-of l, h))
+    ∙ ap (λ (s : List ℕ). word "CONJUNCTION " ++ Paper.conjunctionWith p k s) (letter-of l)
+
+pub next-line-literally : Paper.Next-line-literally
+unfolding nextText nextLine countedOf conjunctionOf followed
+next-line-literally p d k last l h least i =
+    ap (told nextLine) (Planets.reasons-of-planets .nexts p d .given k .1 (planet-of l, h, least, i))
+    ∙ ap (λ (s : List ℕ). word "NEXT " ++ s) (append-assoc (decimal k) _ (10 ∷ []))
+    ∙ ap (λ (s : List ℕ). word "NEXT " ++ (decimal k ++ (32 ∷ Paper.conjunctionWith p k s))) (letter-of l)
 
 pub day-line-literally : Paper.Day-line-literally
 unfolding dayLine dayLineOf dateOf dateIn followed
@@ -183,7 +219,7 @@ unfolding moved
 moved-never-with y k l m n = never-then (dayOfDate y k l m) _ (date-never-with y k l m) (λ d. landed-never-with (pos d +ℤ n))
 
 pub refusals-told : Paper.Refusals-told
-unfolding placeText placeLine yearText yearLine monthText monthLineOf quarterText quarterLine termText termLine dayText dayLine dayLineOf dateText moveText foundLine searchText solsticeYearAt yearFactsAt monthFactsAt quarterAt termAt dateAt followed
+unfolding placeText placeLine yearText yearLine monthText monthLineOf quarterText quarterLine termText termLine conjunctionText conjunctionLine nextText nextLine dayText dayLine dayLineOf dateText moveText foundLine searchText solsticeYearAt yearFactsAt monthFactsAt quarterAt termAt conjunctionAt nextAt dateAt followed
 refusals-told =
     record {
       place = λ y. tells-refusal placeLine 80 (λ e. omega (arith, e)) (solsticeYearAt y) (λ x e. refl) (never-one (within 1 41040 y) 1 (solsticeYear y));
@@ -191,6 +227,11 @@ refusals-told =
       month = λ n. tells-refusal (monthLineOf n) 77 (λ e. omega (arith, e)) (monthFactsAt n) (λ x e. refl) (never-one (leb n 507599) 7 (monthFacts n));
       quarter = λ n q. tells-refusal quarterLine 81 (λ e. omega (arith, e)) (quarterAt n q) (λ x e. refl) (never-two (leb n 507599) 7 (leb q 3) 15 (quarterOf n q));
       term = λ y k. tells-refusal termLine 84 (λ e. omega (arith, e)) (termAt y k) (λ x e. refl) (never-two (within 1 41040 y) 1 (leb k 23) 15 (termDay (yearTerm y k)));
+      conjunction = λ p k. tells-refusal conjunctionLine 67 (λ e. omega (arith, e)) (conjunctionAt p k) (λ x e. refl) (never-two (within 1 5 p) 19 (leb (conjunctionDay (numbersOf p) k) 14989859) 6 (conjunctionOf (numbersOf p) k));
+      next = λ p d.
+          tells-refusal nextLine 78 (λ e. omega (arith, e)) (nextAt p d) (λ x e. refl)
+          (never-guard (within 1 5 p) 19 _
+          (never-two (leb d 14989859) 6 (leb (conjunctionDay (numbersOf p) (nextCount (numbersOf p) d)) 14989859) 20 (countedOf (numbersOf p) (nextCount (numbersOf p) d))));
       day = λ d. tells-refusal (dayLineOf d) 68 (λ e. omega (arith, e)) (dateAt d) (λ x e. refl) (never-one (leb d 14989859) 6 (dateOf d));
       date = λ y k l m. tells-refusal dayLine 68 (λ e. omega (arith, e)) (dayOfDate y k l m) (λ x e. refl) (date-never-with y k l m);
       move = λ y k l m n. tells-refusal textOfDate 68 (λ e. omega (arith, e)) (moved y k l m n) (moved-line y k l m n) (moved-never-with y k l m n);

@@ -16,6 +16,11 @@ use Rattle.facts.specs.declared.LeapMonth.the-variants.{Without, With}
 use Rattle.facts.specs.declared.YearFacts.{YearFacts}
 use Rattle.facts.specs.declared.MonthFacts.{MonthFacts}
 use Rattle.facts.specs.Facts.{solsticeYearAt, yearFactsAt, monthFactsAt, quarterAt, termAt}
+use Rattle.planets.specs.declared.Phase.{Phase}
+use Rattle.planets.specs.declared.Phase.the-variants.{Morning, Evening, Neither}
+use Rattle.planets.specs.declared.Conjunction.{Conjunction}
+use Rattle.planets.specs.declared.Counted.{Counted}
+use Rattle.planets.specs.Planets.{conjunctionAt, nextAt}
 use Rattle.reading.specs.declared.Reading.{Reading}
 use Rattle.reading.specs.Readings.{windowDays, fitting}
 use Rattle.reading.specs.Search.{searchAt}
@@ -85,6 +90,29 @@ termLine d = lined (word "TERM" ∷ decimal d ∷ [])
 
 unfoldable pub termText : ℕ → ℕ → List ℕ
 termText y k = told termLine (termAt y k)
+
+-- a conjunction's phase: "`M` morning, `E` evening", and `-` for neither
+abbrev pub phaseText : Phase → List ℕ
+phaseText Morning = word "M"
+phaseText Evening = word "E"
+phaseText Neither = word "-"
+
+abbrev pub fieldsOfConjunction : Conjunction → List (List ℕ)
+fieldsOfConjunction c = decimal (c .day) ∷ decimal (c .parts) ∷ decimal (c .divisor) ∷ phaseText (c .phase) ∷ []
+
+-- `CONJUNCTION planet k`: `CONJUNCTION day parts divisor phase`
+unfoldable pub conjunctionLine : Conjunction → List ℕ
+conjunctionLine c = lined (word "CONJUNCTION" ∷ fieldsOfConjunction c)
+
+unfoldable pub conjunctionText : ℕ → ℕ → List ℕ
+conjunctionText p k = told conjunctionLine (conjunctionAt p k)
+
+-- `NEXT planet day`: `NEXT k day parts divisor phase`
+unfoldable pub nextLine : Counted → List ℕ
+nextLine c = lined (word "NEXT" ∷ decimal (c .k) ∷ fieldsOfConjunction (c .conjunction))
+
+unfoldable pub nextText : ℕ → ℕ → List ℕ
+nextText p d = told nextLine (nextAt p d)
 
 -- `DAY day`: `DAY day year number mark day-of-month day-name month-length year-name`
 unfoldable pub dayLineOf : ℕ → Date → List ℕ

@@ -1,8 +1,8 @@
 -- The desk program's answers, read literally, as statements. proofs/Paper.antt proves each under the same name in small letters.
 -- Assumes nothing.
-use Prim.Native.Nat.{ℕ, _+_, _-_, _≤_}
+use Prim.Native.Nat.{ℕ, _+_, _-_, _*_, _≤_}
 use mathlib.Core.Path.{_≡_}
-use mathlib.Core.Logic.{_↔_}
+use mathlib.Core.Logic.{_↔_, _⊎_}
 use mathlib.Core.Bool.{Bool, true, false}
 use mathlib.Core.List.{List, [], _∷_, _++_}
 use lib.IntN.{ℤ, pos, _+ℤ_}
@@ -32,6 +32,8 @@ use Rattle.dates.specs.Dates.{dateAt, dayOfDate}
 use Rattle.dates.specs.Paper.{IsDayOf}
 use Rattle.moves.specs.Moves.{moved}
 use Rattle.facts.specs.Facts.{solsticeYearAt, yearFactsAt, monthFactsAt, quarterAt, termAt}
+use Rattle.planets.specs.Planets.{numbersOf, divisor, conjunctionDay, conjunctionParts, conjunctionAt, nextAt}
+use Rattle.planets.specs.Paper.{LeastFrom}
 use Rattle.reading.specs.declared.Reading.{Reading}
 use Rattle.reading.specs.Readings.{windowDays, fitting}
 use Rattle.reading.specs.Search.{searchAt}
@@ -47,6 +49,8 @@ use Rattle.told.specs.Answers.{
   monthText,
   quarterText,
   termText,
+  conjunctionText,
+  nextText,
   dayText,
   dayLine,
   dateText,
@@ -116,6 +120,32 @@ Quarter-line-literally =
 abbrev pub Term-line-literally : Type 0
 Term-line-literally = (y k : ℕ) → YearInRange y → k ≤ 23 → termText y k ≡ word "TERM " ++ (decimal (termDay (yearTerm y k)) ++ (10 ∷ []))
 
+-- "`CONJUNCTION day parts divisor phase`": what stands for the phase is `last`
+abbrev pub conjunctionWith : ℕ → ℕ → List ℕ → List ℕ
+conjunctionWith p k last =
+    (decimal (conjunctionDay (numbersOf p) k)
+    ++ (32 ∷ (decimal (conjunctionParts (numbersOf p) k)
+    ++ (32 ∷ (decimal (divisor (numbersOf p))
+    ++ (32 ∷ last))))))
+    ++ (10 ∷ [])
+
+-- the letter of a planet's k-th conjunction: "For Venus and Mercury an odd count is a morning conjunction, an even one an evening one"
+pub data Letter : ℕ → ℕ → List ℕ → Type 0 where
+  morning : {p : ℕ} → (j : ℕ) → (p ≡ 4) ⊎ (p ≡ 5) → Letter p (2 * j + 1) (word "M")
+  evening : {p : ℕ} → (j : ℕ) → (p ≡ 4) ⊎ (p ≡ 5) → Letter p (2 * j) (word "E")
+  neither : {p k : ℕ} → 1 ≤ p → p ≤ 3 → Letter p k (word "-")
+
+abbrev pub Conjunction-line-literally : Type 0
+Conjunction-line-literally =
+    (p k : ℕ) (last : List ℕ) → Letter p k last → DayInRange (conjunctionDay (numbersOf p) k) →
+    conjunctionText p k ≡ word "CONJUNCTION " ++ conjunctionWith p k last
+
+-- "`NEXT k day parts divisor phase`", of the first conjunction on or after day d
+abbrev pub Next-line-literally : Type 0
+Next-line-literally =
+    (p d k : ℕ) (last : List ℕ) → Letter p k last → DayInRange d → LeastFrom (numbersOf p) d k → DayInRange (conjunctionDay (numbersOf p) k) →
+    nextText p d ≡ word "NEXT " ++ (decimal k ++ (32 ∷ conjunctionWith p k last))
+
 -- "`DAY day year number mark day-of-month day-name month-length year-name`"
 abbrev pub Day-line-literally : Type 0
 Day-line-literally =
@@ -158,7 +188,7 @@ abbrev pub Never-twelve : Type 0
 Never-twelve = (r : Reading) (first last : ℕ) → searchText r first last ≡ refusedText 12 → ⊥
 
 -- a text is the refusal of number k exactly where the query comes back with k: which that is, the statements Reasons-of-facts,
--- Reasons-of-a-day, Reasons-of-a-date, Move-of-a-date, Date's-own-reasons and Reasons-of-a-search say
+-- Reasons-of-planets, Reasons-of-a-day, Reasons-of-a-date, Move-of-a-date, Date's-own-reasons and Reasons-of-a-search say
 abbrev pub TellsRefusals : {A : Type 0} → List ℕ → Answer A → Type 0
 TellsRefusals text a = (k : ℕ) → (text ≡ refusedText k) ↔ (a ≡ refused k)
 
@@ -168,6 +198,8 @@ pub record Refusals-told : Type 0 where
   pub month : (n : ℕ) → TellsRefusals (monthText n) (monthFactsAt n)
   pub quarter : (n q : ℕ) → TellsRefusals (quarterText n q) (quarterAt n q)
   pub term : (y k : ℕ) → TellsRefusals (termText y k) (termAt y k)
+  pub conjunction : (p k : ℕ) → TellsRefusals (conjunctionText p k) (conjunctionAt p k)
+  pub next : (p d : ℕ) → TellsRefusals (nextText p d) (nextAt p d)
   pub day : (d : ℕ) → TellsRefusals (dayText d) (dateAt d)
   pub date : (y k : ℕ) (l : Bool) (m : ℕ) → TellsRefusals (dateText y k l m) (dayOfDate y k l m)
   pub move : (y k : ℕ) (l : Bool) (m : ℕ) (n : ℤ) → TellsRefusals (moveText y k l m n) (moved y k l m n)
