@@ -1,4 +1,4 @@
-// The desk program's answers of facts, put into a lent buffer: one function a query, the query already taken apart into numbers. All
+// The desk program's answers of facts and planets, put into a lent buffer: one function a query, the query already taken apart into numbers. All
 // are inner: each asks for room. A one-line answer takes 120 bytes at most, so that the caller has one need of room for all of them.
 // The answers that are `DAY` lines are the crate `founds`.
 ghost use mathlib.Core.List.{_∷_};
@@ -20,6 +20,12 @@ ghost use Rattle.told.specs.Answers.{
   quarterText,
   termLine,
   termText,
+  phaseText,
+  fieldsOfConjunction,
+  conjunctionLine,
+  conjunctionText,
+  nextLine,
+  nextText,
 };
 use facts::LeapMonth;
 use facts::MonthFacts;
@@ -30,6 +36,11 @@ use facts::SolsticeYearTold;
 use facts::TermTold;
 use facts::YearFacts;
 use facts::YearTold;
+use planets::Conjunction;
+use planets::ConjunctionTold;
+use planets::Counted;
+use planets::NextTold;
+use planets::Phase;
 use rule::Quarter;
 use rule::Reason;
 
@@ -182,5 +193,73 @@ pub fn answer_year(year: u32, out: &mut [u8], at: usize) -> usize
     match facts::year_facts(year) {
         YearTold::Is(f) => put_year_line(year as u16, f, out, at),
         YearTold::Refused(why) => put_refusal(why, out, at),
+    }
+}
+
+// A phase's letter, after a space.
+fn put_phase(f: Phase, out: &mut [u8], at: usize) -> usize
+    requires { ⌜ at + 2 ≤ length (now out) ⌝ }
+    ensures { λ r. ⌜ Put 2 (now (out .entry)) at (32 ∷ phaseText f) (now (out .exit)) r ⌝ }
+{
+    match f {
+        Phase::Morning => fields::put_bytes(b" M", out, at),
+        Phase::Evening => fields::put_bytes(b" E", out, at),
+        Phase::Neither => fields::put_bytes(b" -", out, at),
+    }
+}
+
+// A conjunction's day, parts, divisor and phase, each after a space.
+fn put_conjunction_fields(c: Conjunction, out: &mut [u8], at: usize) -> usize
+    requires { ⌜ at + 35 ≤ length (now out) ⌝ }
+    ensures { λ r. ⌜ Put 35 (now (out .entry)) at (32 ∷ joined (fieldsOfConjunction c)) (now (out .exit)) r ⌝ }
+{
+    let f = c.phase;
+    let to1 = fields::put_next(c.day, out, at);
+    let to2 = fields::put_next(c.parts, out, to1);
+    let to3 = fields::put_next(c.divisor, out, to2);
+    put_phase(f, out, to3)
+}
+
+// A `CONJUNCTION` line.
+fn put_conjunction(c: Conjunction, out: &mut [u8], at: usize) -> usize
+    requires { ⌜ at + 47 ≤ length (now out) ⌝ }
+    ensures { λ r. ⌜ Put 47 (now (out .entry)) at (conjunctionLine c) (now (out .exit)) r ⌝ }
+{
+    let to1 = fields::put_bytes(b"CONJUNCTION", out, at);
+    let to2 = put_conjunction_fields(c, out, to1);
+    fields::put_byte(10, out, to2)
+}
+
+// The answer to `CONJUNCTION planet k`.
+pub fn answer_conjunction(planet: u32, k: u32, out: &mut [u8], at: usize) -> usize
+    requires { ⌜ at + 120 ≤ length (now out) ⌝ }
+    ensures { λ r. ⌜ Put 120 (now (out .entry)) at (conjunctionText planet k) (now (out .exit)) r ⌝ }
+{
+    match planets::kth_conjunction(planet, k as u64) {
+        ConjunctionTold::Is(c) => put_conjunction(c, out, at),
+        ConjunctionTold::Refused(why) => put_refusal(why, out, at),
+    }
+}
+
+// A `NEXT` line.
+fn put_counted(n: Counted, out: &mut [u8], at: usize) -> usize
+    requires { ⌜ at + 51 ≤ length (now out) ⌝ }
+    ensures { λ r. ⌜ Put 51 (now (out .entry)) at (nextLine n) (now (out .exit)) r ⌝ }
+{
+    let c = n.conjunction;
+    let to1 = fields::put_bytes(b"NEXT", out, at);
+    let to2 = fields::put_next(n.k, out, to1);
+    let to3 = put_conjunction_fields(c, out, to2);
+    fields::put_byte(10, out, to3)
+}
+
+// The answer to `NEXT planet day`.
+pub fn answer_next(planet: u32, day: u32, out: &mut [u8], at: usize) -> usize
+    requires { ⌜ at + 120 ≤ length (now out) ⌝ }
+    ensures { λ r. ⌜ Put 120 (now (out .entry)) at (nextText planet day) (now (out .exit)) r ⌝ }
+{
+    match planets::next_conjunction(planet, day) {
+        NextTold::Is(n) => put_counted(n, out, at),
+        NextTold::Refused(why) => put_refusal(why, out, at),
     }
 }
