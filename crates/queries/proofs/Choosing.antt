@@ -20,12 +20,14 @@ use Rattle.told.specs.Answers.{
   monthText,
   quarterText,
   termText,
+  conjunctionText,
+  nextText,
   dayText,
   dateText,
   moveText,
   searchText,
 }
-use Rattle.queries.specs.Queries.{unreadable, isLeap, back, moveBy, readingIn, dayAnswer, lineAnswer, answerOf}
+use Rattle.queries.specs.Queries.{unreadable, isLeap, back, moveBy, readingIn, dayAnswer, planetAnswer, lineAnswer, answerOf}
 
 -- a line that is like a form has as many fields, and a value for each
 pub in-line : (p ks vs : List ℕ) (b : Bool) → b ≡ like p ks → b ≡ true → length vs ≡ length ks → length vs ≡ length p
@@ -54,6 +56,19 @@ module _ (ks vs : List ℕ) where
       unfolding dayAnswer
       none-chosen e = rw (not-day, not-date, e) refl
 
+  pub conjunction-chosen : like (word "Cnn") ks ≡ true → planetAnswer ks vs ≡ conjunctionText (getD vs 1 0) (getD vs 2 0)
+  unfolding planetAnswer
+  conjunction-chosen e = rw (e) refl
+
+  module _ (not-conjunction : like (word "Cnn") ks ≡ false) where
+    pub next-chosen : like (word "Nnn") ks ≡ true → planetAnswer ks vs ≡ nextText (getD vs 1 0) (getD vs 2 0)
+    unfolding planetAnswer
+    next-chosen e = rw (not-conjunction, e) refl
+
+    pub days-chosen : like (word "Nnn") ks ≡ false → planetAnswer ks vs ≡ dayAnswer ks vs
+    unfolding planetAnswer
+    days-chosen e = rw (not-conjunction, e) refl
+
   pub place-chosen : like (word "Pn") ks ≡ true → lineAnswer ks vs ≡ placeText (getD vs 1 0)
   unfolding lineAnswer
   place-chosen e = rw (e) refl
@@ -78,9 +93,9 @@ module _ (ks vs : List ℕ) where
           unfolding lineAnswer
           term-chosen e = rw (not-place, not-year, not-month, not-quarter, e) refl
 
-          pub days-chosen : like (word "Tnn") ks ≡ false → lineAnswer ks vs ≡ dayAnswer ks vs
+          pub planets-chosen : like (word "Tnn") ks ≡ false → lineAnswer ks vs ≡ planetAnswer ks vs
           unfolding lineAnswer
-          days-chosen e = rw (not-place, not-year, not-month, not-quarter, e) refl
+          planets-chosen e = rw (not-place, not-year, not-month, not-quarter, e) refl
 
   pub search-chosen : like (word "Sffgfffnn") ks ≡ true → answerOf ks vs ≡ searchText (readingIn ks vs) (getD vs 7 0) (getD vs 8 0)
   unfolding answerOf

@@ -33,6 +33,10 @@ use Rattle.told.specs.Answers.{
   quarterText,
   termLine,
   termText,
+  conjunctionLine,
+  conjunctionText,
+  nextLine,
+  nextText,
   dayLineOf,
   dayText,
   dayLine,
@@ -45,7 +49,7 @@ use Rattle.told.specs.Answers.{
 use Rattle.capped.specs.Capped.{capped, cappedMove, cappedField, cappedReading}
 use Rattle.capped.specs.Paper.{Settled, AlikeSearch, whole, both}
 use Rattle.capped.proofs.Paper.{at-most, from-one, capped-alike, capped-search}
-use Rattle.queries.specs.Queries.{isLeap, back, moveBy, fieldBy, fieldIn, readingIn, dayAnswer, lineAnswer, answerOf}
+use Rattle.queries.specs.Queries.{isLeap, back, moveBy, fieldBy, fieldIn, readingIn, dayAnswer, planetAnswer, lineAnswer, answerOf}
 
 -- a line that also says the number itself
 line-capped : {A : Type 0} (b : ℕ → Bool) → Settled b → (k : ℕ) (f : ℕ → A → List ℕ) (h : ℕ → A) (n : ℕ) → told (f (capped n)) (guard (b (capped n)) k (is (h (capped n)))) ≡ told (f n) (guard (b n) k (is (h n)))
@@ -74,6 +78,14 @@ quarter-capped n q = ap (told quarterLine) (capped-alike .quarter n q)
 term-capped : (y k : ℕ) → termText (capped y) (capped k) ≡ termText y k
 unfolding termText
 term-capped y k = ap (told termLine) (capped-alike .term y k)
+
+conjunction-capped : (p k : ℕ) → conjunctionText (capped p) (capped k) ≡ conjunctionText p k
+unfolding conjunctionText
+conjunction-capped p k = ap (told conjunctionLine) (capped-alike .conjunction p k)
+
+next-capped : (p d : ℕ) → nextText (capped p) (capped d) ≡ nextText p d
+unfolding nextText
+next-capped p d = ap (told nextLine) (capped-alike .next p d)
 
 day-capped : (d : ℕ) → dayText (capped d) ≡ dayText d
 unfolding dayText dateAt
@@ -169,11 +181,15 @@ module _ (ks vs : List ℕ) where
   unfolding dayAnswer
   days-in = rw (one dayText day-capped, date-in, move-in) refl
 
+  planets-in : planetAnswer ks cs ≡ planetAnswer ks vs
+  unfolding planetAnswer
+  planets-in = rw (two conjunctionText conjunction-capped, two nextText next-capped, days-in) refl
+
   lines-in : lineAnswer ks cs ≡ lineAnswer ks vs
   unfolding lineAnswer
   lines-in =
       rw
-      (one placeText place-capped, one yearText year-capped, one monthText month-capped, two quarterText quarter-capped, two termText term-capped, days-in)
+      (one placeText place-capped, one yearText year-capped, one monthText month-capped, two quarterText quarter-capped, two termText term-capped, planets-in)
       refl
 
   pub all-in : answerOf ks cs ≡ answerOf ks vs

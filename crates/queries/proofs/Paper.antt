@@ -23,6 +23,8 @@ use Rattle.queries.specs.Paper.{
   month,
   quarter,
   term,
+  conjunction,
+  next,
   day,
   date,
   move,
@@ -74,10 +76,12 @@ module _ (ks vs : List ℕ) where
       (cond (eqb (getD ks 0 0) 77) (month (v 1))
       (cond (eqb (getD ks 0 0) 81) (quarter (v 1) (v 2))
       (cond (eqb (getD ks 0 0) 84) (term (v 1) (v 2))
+      (cond (eqb (getD ks 0 0) 67) (conjunction (v 1) (v 2))
+      (cond (eqb (getD ks 0 0) 78) (next (v 1) (v 2))
       (cond (eqb (getD ks 0 0) 68) (day (v 1))
       (cond (eqb (getD ks 0 0) 65) (date (v 1) (v 2) (isLeap (v 3)) (v 4))
       (cond (eqb (getD ks 0 0) 86) (move (v 1) (v 2) (isLeap (v 3)) (v 4) (moveBy (getD ks 5 0) (v 5)))
-      (search (fieldAt 1) (fieldAt 2) (markBy (getD ks 3 0) (v 3)) (fieldAt 4) (fieldAt 5) (fieldAt 6) (v 7) (v 8)))))))))
+      (search (fieldAt 1) (fieldAt 2) (markBy (getD ks 3 0) (v 3)) (fieldAt 4) (fieldAt 5) (fieldAt 6) (v 7) (v 8)))))))))))
 
 mark-again : (l : MarkRead) → markBy (markKind l) (markValue l) ≡ l
 mark-again (read l) = ap read (leap-back l)
@@ -90,6 +94,8 @@ query-again (year y) = refl
 query-again (month n) = refl
 query-again (quarter n q) = refl
 query-again (term y k) = refl
+query-again (conjunction p k) = refl
+query-again (next p d) = refl
 query-again (day d) = refl
 query-again (date y k l m) = ap (λ (b : Bool). date y k b m) (leap-back l)
 query-again (move y k l m n) = ap₂ (λ (b : Bool) (z : ℤ). move y k b m z) (leap-back l) (move-back n)

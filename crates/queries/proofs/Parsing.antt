@@ -13,7 +13,7 @@ use Rattle.asked.specs.Asked.{fieldsIn, admits, like, fieldRead, kindsOf}
 use Rattle.asked.specs.Paper.{textOf}
 use Rattle.asked.proofs.Texts.{both, choose}
 use Rattle.asked.proofs.Paper.{fields-joined, read-back, never-minus-nought}
-use Rattle.queries.specs.Queries.{unreadable, isLeap, moveBy, fieldBy, dayAnswer, lineAnswer, answerOf}
+use Rattle.queries.specs.Queries.{unreadable, isLeap, moveBy, fieldBy, dayAnswer, planetAnswer, lineAnswer, answerOf}
 use Rattle.queries.specs.Paper.{
   MarkRead,
   read,
@@ -28,6 +28,8 @@ use Rattle.queries.specs.Paper.{
   month,
   quarter,
   term,
+  conjunction,
+  next as next-query,
   day,
   date,
   move,
@@ -157,6 +159,16 @@ unfolding textOf
 is-term (next {f} w (next {f = y} a (next {f = k} b end))) =
     (term (value y) (value k), and (word-at 84 f w refl) (and (number-at y a) (and (number-at k b) refl)))
 
+is-conjunction : {fs : List (List ℕ)} → Fits (word "Cnn") fs → OfQuery fs
+unfolding textOf
+is-conjunction (next {f} w (next {f = p} a (next {f = k} b end))) =
+    (conjunction (value p) (value k), and (word-at 67 f w refl) (and (number-at p a) (and (number-at k b) refl)))
+
+is-next : {fs : List (List ℕ)} → Fits (word "Nnn") fs → OfQuery fs
+unfolding textOf
+is-next (next {f} w (next {f = p} a (next {f = d} b end))) =
+    (next-query (value p) (value d), and (word-at 78 f w refl) (and (number-at p a) (and (number-at d b) refl)))
+
 is-day : {fs : List (List ℕ)} → Fits (word "Dn") fs → OfQuery fs
 unfolding textOf
 is-day (next {f} w (next {f = d} a end)) = (day (value d), and (word-at 68 f w refl) (and (number-at d a) refl))
@@ -189,7 +201,7 @@ is-search (next {f} w (next {f = g} a (next {f = h} b (next {f = l} c (next {f =
       (and (number-at x j) (and (number-at y k) refl)))))))),
 )
 
--- a line that is no query's is like none of the nine forms
+-- a line that is no query's is like none of the eleven forms
 pub no-query-else : (s : List ℕ) → ((q : Query) → s ≡ written q → ⊥) → OfQuery (fieldsIn s) → ⊥
 unfolding written
 no-query-else s no-query (q, e) = no-query q (sym (fields-joined s) ∙ ap joined e)
@@ -202,7 +214,7 @@ module _ (s : List ℕ) (no-query : (q : Query) → s ≡ written q → ⊥) whe
   none-of p found e = no-query-else s no-query (found (fits p (fieldsIn s) e))
 
   pub no-answer : (vs : List ℕ) → answerOf ks vs ≡ unreadable
-  unfolding answerOf lineAnswer dayAnswer
+  unfolding answerOf lineAnswer planetAnswer dayAnswer
   no-answer vs =
       choose P (like (word "Sffgfffnn") ks) (λ e. absurd (none-of (word "Sffgfffnn") is-search e))
       (choose P (like (word "Pn") ks) (λ e. absurd (none-of (word "Pn") is-place e))
@@ -210,10 +222,12 @@ module _ (s : List ℕ) (no-query : (q : Query) → s ≡ written q → ⊥) whe
       (choose P (like (word "Mn") ks) (λ e. absurd (none-of (word "Mn") is-month e))
       (choose P (like (word "Qnn") ks) (λ e. absurd (none-of (word "Qnn") is-quarter e))
       (choose P (like (word "Tnn") ks) (λ e. absurd (none-of (word "Tnn") is-term e))
+      (choose P (like (word "Cnn") ks) (λ e. absurd (none-of (word "Cnn") is-conjunction e))
+      (choose P (like (word "Nnn") ks) (λ e. absurd (none-of (word "Nnn") is-next e))
       (choose P (like (word "Dn") ks) (λ e. absurd (none-of (word "Dn") is-day e))
       (choose P (like (word "Annmn") ks) (λ e. absurd (none-of (word "Annmn") is-date e))
       (choose P (like (word "Vnnmns") ks) (λ e. absurd (none-of (word "Vnnmns") is-move e))
-      refl))))))))
+      refl))))))))))
     where
       P : List ℕ → Type 0
       P t = t ≡ unreadable

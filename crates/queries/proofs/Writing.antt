@@ -16,7 +16,7 @@ use Rattle.asked.specs.Asked.{fieldsIn, admits, like, kindsOf, valuesOf}
 use Rattle.asked.specs.Paper.{NoSpace, one-more, NoSpaces, no-field, field-more, Reads}
 use Rattle.asked.proofs.Texts.{spaceless, no-space, decimal-no-space}
 use Rattle.asked.proofs.Paper.{joined-parts, all-read}
-use Rattle.queries.specs.Queries.{isLeap, moveBy, fieldBy, dayAnswer, lineAnswer, answerOf, answerTo}
+use Rattle.queries.specs.Queries.{isLeap, moveBy, fieldBy, dayAnswer, planetAnswer, lineAnswer, answerOf, answerTo}
 use Rattle.queries.specs.Paper.{
   MarkRead,
   read,
@@ -32,6 +32,8 @@ use Rattle.queries.specs.Paper.{
   month,
   quarter,
   term,
+  conjunction,
+  next as next-query,
   day,
   date,
   move,
@@ -126,6 +128,8 @@ kindsFor (year y) = word "Yn"
 kindsFor (month n) = word "Mn"
 kindsFor (quarter n q) = word "Qnn"
 kindsFor (term y k) = word "Tnn"
+kindsFor (conjunction p k) = word "Cnn"
+kindsFor (next-query p d) = word "Nnn"
 kindsFor (day d) = word "Dn"
 kindsFor (date y k l m) = word "Annmn"
 kindsFor (move y k l m n) = 86 ∷ 110 ∷ 110 ∷ 109 ∷ 110 ∷ moveKind n ∷ []
@@ -138,6 +142,8 @@ valuesFor (year y) = 0 ∷ y ∷ []
 valuesFor (month n) = 0 ∷ n ∷ []
 valuesFor (quarter n q) = 0 ∷ n ∷ q ∷ []
 valuesFor (term y k) = 0 ∷ y ∷ k ∷ []
+valuesFor (conjunction p k) = 0 ∷ p ∷ k ∷ []
+valuesFor (next-query p d) = 0 ∷ p ∷ d ∷ []
 valuesFor (day d) = 0 ∷ d ∷ []
 valuesFor (date y k l m) = 0 ∷ y ∷ k ∷ markNumber l ∷ m ∷ []
 valuesFor (move y k l m n) = 0 ∷ y ∷ k ∷ markNumber l ∷ m ∷ moveValue n ∷ []
@@ -154,6 +160,8 @@ fields-are (year y) = next (is-word (word "YEAR") 89 refl (all-read .year)) (nex
 fields-are (month n) = next (is-word (word "MONTH") 77 refl (all-read .month)) (next (is-number n) end)
 fields-are (quarter n q) = next (is-word (word "QUARTER") 81 refl (all-read .quarter)) (next (is-number n) (next (is-number q) end))
 fields-are (term y k) = next (is-word (word "TERM") 84 refl (all-read .term)) (next (is-number y) (next (is-number k) end))
+fields-are (conjunction p k) = next (is-word (word "CONJUNCTION") 67 refl (all-read .conjunction)) (next (is-number p) (next (is-number k) end))
+fields-are (next-query p d) = next (is-word (word "NEXT") 78 refl (all-read .next)) (next (is-number p) (next (is-number d) end))
 fields-are (day d) = next (is-word (word "DAY") 68 refl (all-read .day)) (next (is-number d) end)
 fields-are (date y k l m) =
     next (is-word (word "DATE") 65 refl (all-read .date))
@@ -175,6 +183,8 @@ fields-in (year y) = parted (fields-are (year y))
 fields-in (month n) = parted (fields-are (month n))
 fields-in (quarter n q) = parted (fields-are (quarter n q))
 fields-in (term y k) = parted (fields-are (term y k))
+fields-in (conjunction p k) = parted (fields-are (conjunction p k))
+fields-in (next-query p d) = parted (fields-are (next-query p d))
 fields-in (day d) = parted (fields-are (day d))
 fields-in (date y k l m) = parted (fields-are (date y k l m))
 fields-in (move y k l m n) = parted (fields-are (move y k l m n))
@@ -232,12 +242,14 @@ search-like a b l c d e first last =
 
 -- the query that the table chooses
 pub chosen : (q : Query) → answerOf (kindsFor q) (valuesFor q) ≡ answered q
-unfolding answerOf lineAnswer dayAnswer like
+unfolding answerOf lineAnswer planetAnswer dayAnswer like
 chosen (place y) = refl
 chosen (year y) = refl
 chosen (month n) = refl
 chosen (quarter n q) = refl
 chosen (term y k) = refl
+chosen (conjunction p k) = refl
+chosen (next-query p d) = refl
 chosen (day d) = refl
 chosen (date y k l m) = ap (λ (b : Bool). dateText y k b m) (leap-back l)
 chosen (move y k l m n) = rw (move-like n) (ap₂ (λ (b : Bool) (z : ℤ). moveText y k b m z) (leap-back l) (move-back n))

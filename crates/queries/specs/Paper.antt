@@ -1,4 +1,4 @@
--- What a line may be, literally: the nine queries, how each is written, and that nothing else is answered. No proofs here:
+-- What a line may be, literally: the eleven queries, how each is written, and that nothing else is answered. No proofs here:
 -- proofs/Paper.antt has each under its own name.
 use Prim.Native.Nat.{ℕ, suc, _≤_, _<_}
 use mathlib.Core.Path.{_≡_}
@@ -16,6 +16,8 @@ use Rattle.told.specs.Answers.{
   monthText,
   quarterText,
   termText,
+  conjunctionText,
+  nextText,
   dayText,
   dateText,
   moveText,
@@ -35,6 +37,8 @@ pub data Query : Type 0 where
   month : (n : ℕ) → Query
   quarter : (n q : ℕ) → Query
   term : (y k : ℕ) → Query
+  conjunction : (p k : ℕ) → Query
+  next : (p d : ℕ) → Query
   day : (d : ℕ) → Query
   date : (y k : ℕ) (l : Bool) (m : ℕ) → Query
   move : (y k : ℕ) (l : Bool) (m : ℕ) (n : ℤ) → Query
@@ -66,6 +70,8 @@ fieldsOf (year y) = word "YEAR" ∷ decimal y ∷ []
 fieldsOf (month n) = word "MONTH" ∷ decimal n ∷ []
 fieldsOf (quarter n q) = word "QUARTER" ∷ decimal n ∷ decimal q ∷ []
 fieldsOf (term y k) = word "TERM" ∷ decimal y ∷ decimal k ∷ []
+fieldsOf (conjunction p k) = word "CONJUNCTION" ∷ decimal p ∷ decimal k ∷ []
+fieldsOf (next p d) = word "NEXT" ∷ decimal p ∷ decimal d ∷ []
 fieldsOf (day d) = word "DAY" ∷ decimal d ∷ []
 fieldsOf (date y k l m) = word "DATE" ∷ decimal y ∷ decimal k ∷ markText l ∷ decimal m ∷ []
 fieldsOf (move y k l m n) = word "MOVE" ∷ decimal y ∷ decimal k ∷ markText l ∷ decimal m ∷ moveNumber n ∷ []
@@ -88,6 +94,8 @@ answered (year y) = yearText y
 answered (month n) = monthText n
 answered (quarter n q) = quarterText n q
 answered (term y k) = termText y k
+answered (conjunction p k) = conjunctionText p k
+answered (next p d) = nextText p d
 answered (day d) = dayText d
 answered (date y k l m) = dateText y k l m
 answered (move y k l m n) = moveText y k l m n

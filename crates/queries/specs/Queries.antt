@@ -16,6 +16,8 @@ use Rattle.told.specs.Answers.{
   monthText,
   quarterText,
   termText,
+  conjunctionText,
+  nextText,
   dayText,
   dateText,
   moveText,
@@ -70,6 +72,13 @@ module _ (ks vs : List ℕ) where
       (cond (like (word "Vnnmns") ks) (moveText (v 1) (v 2) (isLeap (v 3)) (v 4) (moveBy (getD ks 5 0) (v 5)))
       unreadable))
 
+  -- those of the planets
+  unfoldable pub planetAnswer : List ℕ
+  planetAnswer =
+      cond (like (word "Cnn") ks) (conjunctionText (v 1) (v 2))
+      (cond (like (word "Nnn") ks) (nextText (v 1) (v 2))
+      dayAnswer)
+
   -- those whose answer is one line
   unfoldable pub lineAnswer : List ℕ
   lineAnswer =
@@ -78,9 +87,9 @@ module _ (ks vs : List ℕ) where
       (cond (like (word "Mn") ks) (monthText (v 1))
       (cond (like (word "Qnn") ks) (quarterText (v 1) (v 2))
       (cond (like (word "Tnn") ks) (termText (v 1) (v 2))
-      dayAnswer))))
+      planetAnswer))))
 
-  -- all nine
+  -- all eleven
   unfoldable pub answerOf : List ℕ
   answerOf = cond (like (word "Sffgfffnn") ks) (searchText readingIn (v 7) (v 8)) lineAnswer
 

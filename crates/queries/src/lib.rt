@@ -3,7 +3,7 @@ ghost use mathlib.Core.Path.{_≡_};
 ghost use Prim.Native.Nat.{_+_, _≤_};
 ghost use lib.ListN.{length};
 ghost use Rattle.fields.specs.Fields.{Put};
-ghost use Rattle.queries.specs.Queries.{unreadable, moveBy, fieldBy, readingIn, dayAnswer, lineAnswer, answerOf, answerTo};
+ghost use Rattle.queries.specs.Queries.{unreadable, moveBy, fieldBy, readingIn, dayAnswer, planetAnswer, lineAnswer, answerOf, answerTo};
 use reading::Field;
 use reading::Reading;
 
@@ -68,6 +68,20 @@ fn answer_days(kinds: &[u8], values: &[u32], out: &mut [u8], at: usize) -> usize
     put_unreadable(out, at)
 }
 
+// The queries of the planets, and those whose answer is a `DAY` line.
+fn answer_planets(kinds: &[u8], values: &[u32], out: &mut [u8], at: usize) -> usize
+    requires { ⌜ (length (now values) ≡ length (now kinds)) × (at + 120 ≤ length (now out)) ⌝ }
+    ensures { λ r. ⌜ Put 120 (now (out .entry)) at (planetAnswer (now (kinds .entry)) (now (values .entry))) (now (out .exit)) r ⌝ }
+{
+    if asked::is_like(b"Cnn", kinds) {
+        return answers::answer_conjunction(values[1], values[2], out, at);
+    }
+    if asked::is_like(b"Nnn", kinds) {
+        return answers::answer_next(values[1], values[2], out, at);
+    }
+    answer_days(kinds, values, out, at)
+}
+
 // The queries whose answer is one line.
 fn answer_facts(kinds: &[u8], values: &[u32], out: &mut [u8], at: usize) -> usize
     requires { ⌜ (length (now values) ≡ length (now kinds)) × (at + 120 ≤ length (now out)) ⌝ }
@@ -88,10 +102,10 @@ fn answer_facts(kinds: &[u8], values: &[u32], out: &mut [u8], at: usize) -> usiz
     if asked::is_like(b"Tnn", kinds) {
         return answers::answer_term(values[1], values[2], out, at);
     }
-    answer_days(kinds, values, out, at)
+    answer_planets(kinds, values, out, at)
 }
 
-// All nine: a search needs room for its many lines.
+// All eleven: a search needs room for its many lines.
 fn answer_fields(kinds: &[u8], values: &[u32], days: &mut [u32], out: &mut [u8], at: usize) -> usize
     requires { ⌜ (length (now values) ≡ length (now kinds)) × (27759 ≤ length (now days)) × (at + 2304014 ≤ length (now out)) ⌝ }
     ensures { λ r. ⌜ Put 2304014 (now (out .entry)) at (answerOf (now (kinds .entry)) (now (values .entry))) (now (out .exit)) r ⌝ }

@@ -4,7 +4,7 @@ use mathlib.Core.Path.{sym, _∙_}
 use Rattle.asked.proofs.Scanning.{as-long}
 use Rattle.fields.specs.Fields.{word}
 use Rattle.fields.proofs.Putting.{put-as, wide}
-use Rattle.queries.proofs.Choosing.{in-line, held, place-chosen, year-chosen, month-chosen, quarter-chosen, term-chosen, days-chosen}
+use Rattle.queries.proofs.Choosing.{in-line, held, place-chosen, year-chosen, month-chosen, quarter-chosen, term-chosen, planets-chosen}
 use borrow.Author.Needs.{needs}
 use Rattle.queries.proofs.answer_facts.Statement.{statement}
 use Rattle.queries.proofs.answer_facts.Tie as tie
@@ -16,7 +16,7 @@ use Rattle.answers.proofs.answer_quarter.Reads as answer-quarter-reads
 use Rattle.answers.proofs.answer_term.Reads as answer-term-reads
 use Rattle.answers.proofs.answer_year.Reads as answer-year-reads
 use Rattle.asked.proofs.is_like.Reads as is-like-reads
-use Rattle.queries.proofs.answer_days.Reads as answer-days-reads
+use Rattle.queries.proofs.answer_planets.Reads as answer-planets-reads
 
 slice-aggregate-is-like : tie.Need-slice-aggregate-is-like
 slice-aggregate-is-like c = search needs
@@ -114,14 +114,14 @@ same-length-5 c = search needs
 returns-5 : tie.Need-returns-5
 returns-5 c = put-as (sym (term-chosen (c .before .before .before .before .before .before .before .before .before .before .before .before .before .before .before .before .before .before .before .before .before .before .before .before .args .kinds .now) (c .before .before .before .before .before .before .before .before .before .before .before .before .before .before .before .before .before .before .before .before .before .before .before .before .args .values .now) (sym (c .before .before .before .before .before .before .before .before .before .before .before .before .before .before .before .before .before .before .before .is-like .ensures) ∙ c .before .before .before .before .before .before .before .before .before .before .before .before .before .before .before .before .before .before .if1 .left) (sym (c .before .before .before .before .before .before .before .before .before .before .before .before .before .before .before .before .is-like2 .ensures) ∙ c .before .before .before .before .before .before .before .before .before .before .before .before .before .before .before .if2 .left) (sym (c .before .before .before .before .before .before .before .before .before .before .before .before .before .is-like3 .ensures) ∙ c .before .before .before .before .before .before .before .before .before .before .before .before .if3 .left) (sym (c .before .before .before .before .before .before .before .before .before .before .is-like4 .ensures) ∙ c .before .before .before .before .before .before .before .before .before .if4 .left) (sym (c .before .before .before .before .before .before .before .is-like5 .ensures) ∙ c .before .before .before .before .before .before .if5 .taken))) (c .before .before .answer-term .ensures)
 
-answer-days-requires : tie.Need-answer-days-requires
-answer-days-requires c κs = search needs
+answer-planets-requires : tie.Need-answer-planets-requires
+answer-planets-requires c κs = search needs
 
 same-length-6 : tie.Need-same-length-6
 same-length-6 c = search needs
 
 returns-6 : tie.Need-returns-6
-returns-6 c = put-as (sym (days-chosen (c .before .before .before .before .before .before .before .before .before .before .before .before .before .before .before .before .before .before .before .before .before .before .args .kinds .now) (c .before .before .before .before .before .before .before .before .before .before .before .before .before .before .before .before .before .before .before .before .before .before .args .values .now) (sym (c .before .before .before .before .before .before .before .before .before .before .before .before .before .before .before .before .before .is-like .ensures) ∙ c .before .before .before .before .before .before .before .before .before .before .before .before .before .before .before .before .if1 .left) (sym (c .before .before .before .before .before .before .before .before .before .before .before .before .before .before .is-like2 .ensures) ∙ c .before .before .before .before .before .before .before .before .before .before .before .before .before .if2 .left) (sym (c .before .before .before .before .before .before .before .before .before .before .before .is-like3 .ensures) ∙ c .before .before .before .before .before .before .before .before .before .before .if3 .left) (sym (c .before .before .before .before .before .before .before .before .is-like4 .ensures) ∙ c .before .before .before .before .before .before .before .if4 .left) (sym (c .before .before .before .before .before .is-like5 .ensures) ∙ c .before .before .before .before .if5 .left))) (c .before .before .answer-days .ensures)
+returns-6 c = put-as (sym (planets-chosen (c .before .before .before .before .before .before .before .before .before .before .before .before .before .before .before .before .before .before .before .before .before .before .args .kinds .now) (c .before .before .before .before .before .before .before .before .before .before .before .before .before .before .before .before .before .before .before .before .before .before .args .values .now) (sym (c .before .before .before .before .before .before .before .before .before .before .before .before .before .before .before .before .before .is-like .ensures) ∙ c .before .before .before .before .before .before .before .before .before .before .before .before .before .before .before .before .if1 .left) (sym (c .before .before .before .before .before .before .before .before .before .before .before .before .before .before .is-like2 .ensures) ∙ c .before .before .before .before .before .before .before .before .before .before .before .before .before .if2 .left) (sym (c .before .before .before .before .before .before .before .before .before .before .before .is-like3 .ensures) ∙ c .before .before .before .before .before .before .before .before .before .before .if3 .left) (sym (c .before .before .before .before .before .before .before .before .is-like4 .ensures) ∙ c .before .before .before .before .before .before .before .if4 .left) (sym (c .before .before .before .before .before .is-like5 .ensures) ∙ c .before .before .before .before .if5 .left))) (c .before .before .answer-planets .ensures)
 
 pub answer-facts-spec : {M : Type 1} → statement M
 answer-facts-spec =
@@ -159,6 +159,6 @@ answer-facts-spec =
     answer-term-requires
     same-length-5
     returns-5
-    answer-days-requires
+    answer-planets-requires
     same-length-6
     returns-6)
