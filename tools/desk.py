@@ -28,13 +28,38 @@ FORMS = {
     "MONTH": [N],
     "QUARTER": [N, N],
     "TERM": [N, N],
+    "CONJUNCTION": [N, N],
+    "NEXT": [N, N],
     "DAY": [N],
     "DATE": [N, N, M, N],
     "MOVE": [N, N, M, N, S],
     "SEARCH": [F, F, G, F, F, F, N, N],
 }
 FORMS = {word: re.compile(b" ".join([word.encode(), *fields])) for word, fields in FORMS.items()}
+# request W11: conjunctions in years; Venus and Mercury have evening and morning ones by turns
+PLANETS = {1: (4327, 4725, "--"), 2: (879, 1876, "--"), 3: (9096, 9415, "--"), 4: (5830, 4661, "EM"), 5: (11908, 1889, "EM")}
 MARKS = {b"-": 1, b"L": 2, b"?": None}
+
+
+def moment(planet, k):
+    """Day, parts and divisor of the k-th conjunction."""
+    conjunctions, years, _ = PLANETS[planet]
+    return *divmod(k * years * 1461, 4 * conjunctions), 4 * conjunctions
+
+
+def first_from(planet, day):
+    """The least count whose conjunction is not before the day, by halving."""
+    low, high = 0, 1
+    while moment(planet, high)[0] < day:
+        high *= 2
+    while low < high:
+        mid = (low + high) // 2
+        low, high = (mid + 1, high) if moment(planet, mid)[0] < day else (low, mid)
+    return low
+
+
+def told(planet, k):
+    return "%d %d %d " % moment(planet, k) + PLANETS[planet][2][k % 2]
 
 
 def refused(k):
@@ -83,6 +108,19 @@ class Answers(Desk):
             return refused(1)
         return refused(15) if k > 23 else [f"TERM {487 * (24 * (y - 1) + k) // 32}"]
 
+    def conjunction(self, planet, k):
+        if planet not in PLANETS:
+            return refused(19)
+        return [f"CONJUNCTION {told(planet, k)}"] if moment(planet, k)[0] < DAYS else refused(6)
+
+    def next(self, planet, day):
+        if planet not in PLANETS:
+            return refused(19)
+        if day >= DAYS:
+            return refused(6)
+        k = first_from(planet, day)
+        return [f"NEXT {k} {told(planet, k)}"] if moment(planet, k)[0] < DAYS else refused(20)
+
     def search(self, reading, first, last):
         if not (first < DAYS and last < DAYS):
             return refused(6)
@@ -107,7 +145,7 @@ class Answers(Desk):
             return self.search(reading, int(fields[6]), int(fields[7]))
         numbers = [f == b"L" if f in (b"-", b"L") else int(f) for f in fields]
         calls = {"PLACE": self.place, "YEAR": self.year_of, "MONTH": self.month, "QUARTER": self.quarter, "TERM": self.term,
-                 "DAY": self.day, "DATE": self.date, "MOVE": self.date}
+                 "CONJUNCTION": self.conjunction, "NEXT": self.next, "DAY": self.day, "DATE": self.date, "MOVE": self.date}
         return calls[word](*numbers)
 
 
@@ -144,6 +182,112 @@ TERM 5 24
 TERM 5 300
 TERM 0 300
 TERM 41041 0
+CONJUNCTION 1 1
+CONJUNCTION 2 1
+CONJUNCTION 3 1
+CONJUNCTION 4 1
+CONJUNCTION 5 1
+CONJUNCTION 1 0
+CONJUNCTION 2 0
+CONJUNCTION 3 0
+CONJUNCTION 4 0
+CONJUNCTION 5 0
+CONJUNCTION 4 2
+CONJUNCTION 5 2
+CONJUNCTION 4 11826
+CONJUNCTION 1 37583
+CONJUNCTION 1 37584
+CONJUNCTION 2 19229
+CONJUNCTION 2 19230
+CONJUNCTION 3 39649
+CONJUNCTION 3 39650
+CONJUNCTION 4 51333
+CONJUNCTION 4 51334
+CONJUNCTION 5 258710
+CONJUNCTION 5 258711
+CONJUNCTION 3 1341063005370
+CONJUNCTION 0 0
+CONJUNCTION 6 1
+CONJUNCTION 6 37584
+CONJUNCTION 1 4294967295
+CONJUNCTION 1 4294967296
+CONJUNCTION 5 4294967296
+CONJUNCTION 4294967296 1
+CONJUNCTION 4294967296 4294967296
+CONJUNCTION 1 18446744073709551616
+CONJUNCTION 5 18446744073709551616
+CONJUNCTION 18446744073709551616 1
+CONJUNCTION 18446744073709551616 18446744073709551616
+CONJUNCTION 1 18446744073709551617
+CONJUNCTION 5 18446744073709551617
+CONJUNCTION 18446744073709551617 1
+CONJUNCTION 18446744073709551617 18446744073709551617
+CONJUNCTION 1 1234567890123456789012345678901234567890
+CONJUNCTION 5 1234567890123456789012345678901234567890
+CONJUNCTION 1234567890123456789012345678901234567890 1
+CONJUNCTION 1234567890123456789012345678901234567890 1234567890123456789012345678901234567890
+NEXT 1 0
+NEXT 2 0
+NEXT 3 0
+NEXT 4 0
+NEXT 5 0
+NEXT 1 1
+NEXT 2 1
+NEXT 3 1
+NEXT 4 1
+NEXT 5 1
+NEXT 1 398
+NEXT 1 399
+NEXT 2 779
+NEXT 2 780
+NEXT 3 378
+NEXT 3 379
+NEXT 4 292
+NEXT 4 293
+NEXT 5 57
+NEXT 5 58
+NEXT 4 3453334
+NEXT 1 3420558
+NEXT 1 14989825
+NEXT 1 14989826
+NEXT 1 14989859
+NEXT 1 14989860
+NEXT 2 14989628
+NEXT 2 14989629
+NEXT 2 14989859
+NEXT 2 14989860
+NEXT 3 14989679
+NEXT 3 14989680
+NEXT 3 14989859
+NEXT 3 14989860
+NEXT 4 14989854
+NEXT 4 14989855
+NEXT 4 14989859
+NEXT 4 14989860
+NEXT 5 14989825
+NEXT 5 14989826
+NEXT 5 14989859
+NEXT 5 14989860
+NEXT 0 0
+NEXT 6 14989859
+NEXT 6 14989860
+NEXT 1 4294967295
+NEXT 1 4294967296
+NEXT 5 4294967296
+NEXT 4294967296 0
+NEXT 4294967296 4294967296
+NEXT 1 18446744073709551616
+NEXT 5 18446744073709551616
+NEXT 18446744073709551616 0
+NEXT 18446744073709551616 18446744073709551616
+NEXT 1 18446744073709551617
+NEXT 5 18446744073709551617
+NEXT 18446744073709551617 0
+NEXT 18446744073709551617 18446744073709551617
+NEXT 1 1234567890123456789012345678901234567890
+NEXT 5 1234567890123456789012345678901234567890
+NEXT 1234567890123456789012345678901234567890 0
+NEXT 1234567890123456789012345678901234567890 1234567890123456789012345678901234567890
 DAY 0
 DAY 3420558
 DAY 14989859
@@ -198,7 +342,10 @@ WRONG = [
     "MOVE 1 11 - 1 -", "MOVE 1 11 - 1 - 1", "MOVE 1 11 - 1 -01", "MOVE 1 11 - 1 ?", "MOVE 1 11 - 1", "SEARCH ? ? ? ? ? ? 0",
     "SEARCH ? ? ? ? ? ? 0 5 6", "SEARCH ? ? ? ? ? ? ? 5", "SEARCH ? ? 1 ? ? ? 0 5", "SEARCH ? - ? ? ? ? 0 5",
     "SEARCH ?? ? ? ? ? ? 0 5", "SEARCH - ? ? ? ? ? 0 5", "FOUND 3", "UNREADABLE", "QUARTER 1", "TERM 1", "PLACE", "?", "-",
-    "L", "0",
+    "L", "0", "CONJUNCTION", "CONJUNCTION 1", "CONJUNCTION 1 1 1", "CONJUNCTION 01 1", "CONJUNCTION 1 01", "CONJUNCTION 1 -1",
+    "CONJUNCTION -1 1", "CONJUNCTION 1 ?", "CONJUNCTION 1 -", "CONJUNCTIONS 1 1", "Conjunction 1 1", "CONJUNCTION  1 1",
+    "CONJUNCTION 1 1 ", "CONJUNCTION 1 1\r", "CONJUNCTION 398 14641 17308 -", "NEXT", "NEXT 1", "NEXT 1 1 1", "NEXT 01 1", "NEXT 1 00",
+    "NEXT 1 -1", "NEXT -1 1", "NEXT ? 1", "NEXT L 1", "NEX 1 1", "NEXTS 1 1", "next 1 1", " NEXT 1 1", "NEXT 1 1 M",
 ]
 
 
@@ -225,6 +372,9 @@ def drawn(answers, draw):
         return f"QUARTER {near(MONTHS)} {draw.randint(0, 4)}"
     if word == "TERM":
         return f"TERM {near(YEARS)} {draw.randint(0, 24)}"
+    if word in ("CONJUNCTION", "NEXT"):
+        planet = draw.choice((1, 2, 3, 4, 5, 1, 2, 3, 4, 5, near(5)))
+        return f"{word} {planet} {near(DAYS if word == 'NEXT' else first_from(max(1, min(planet, 5)), DAYS))}"
     if word == "DAY":
         return f"DAY {near(DAYS)}"
     if word == "DATE":
