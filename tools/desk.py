@@ -15,7 +15,7 @@ import sys
 
 sys.dont_write_bytecode = True
 
-from expected import DAYS, MONTHS, ROOT, WORDS, YEARS, Desk, hold, mark, name
+from expected import DAYS, MONTHS, ROOT, WORDS, YEARS, Desk, conjunction, hold, last_count, mark, name, next_conjunction
 
 N = rb"(0|[1-9][0-9]*)"
 M = rb"([-L])"
@@ -36,30 +36,17 @@ FORMS = {
     "SEARCH": [F, F, G, F, F, F, N, N],
 }
 FORMS = {word: re.compile(b" ".join([word.encode(), *fields])) for word, fields in FORMS.items()}
-# request W11: conjunctions in years; Venus and Mercury have evening and morning ones by turns
-PLANETS = {1: (4327, 4725, "--"), 2: (879, 1876, "--"), 3: (9096, 9415, "--"), 4: (5830, 4661, "EM"), 5: (11908, 1889, "EM")}
 MARKS = {b"-": 1, b"L": 2, b"?": None}
 
 
-def moment(planet, k):
-    """Day, parts and divisor of the k-th conjunction."""
-    conjunctions, years, _ = PLANETS[planet]
-    return *divmod(k * years * 1461, 4 * conjunctions), 4 * conjunctions
+PHASES = {"morning": "M", "evening": "E", "-": "-"}
 
 
-def first_from(planet, day):
-    """The least count whose conjunction is not before the day, by halving."""
-    low, high = 0, 1
-    while moment(planet, high)[0] < day:
-        high *= 2
-    while low < high:
-        mid = (low + high) // 2
-        low, high = (mid + 1, high) if moment(planet, mid)[0] < day else (low, mid)
-    return low
-
-
-def told(planet, k):
-    return "%d %d %d " % moment(planet, k) + PLANETS[planet][2][k % 2]
+def planet_line(word, answer):
+    """A planet's answer by expected.py: its fields, the phase by its letter, or the reason's number."""
+    if isinstance(answer, int):
+        return refused(answer)
+    return [" ".join([word, *map(str, answer[:-1]), PHASES[answer[-1]]])]
 
 
 def refused(k):
@@ -109,17 +96,10 @@ class Answers(Desk):
         return refused(15) if k > 23 else [f"TERM {487 * (24 * (y - 1) + k) // 32}"]
 
     def conjunction(self, planet, k):
-        if planet not in PLANETS:
-            return refused(19)
-        return [f"CONJUNCTION {told(planet, k)}"] if moment(planet, k)[0] < DAYS else refused(6)
+        return planet_line("CONJUNCTION", conjunction(planet, k))
 
     def next(self, planet, day):
-        if planet not in PLANETS:
-            return refused(19)
-        if day >= DAYS:
-            return refused(6)
-        k = first_from(planet, day)
-        return [f"NEXT {k} {told(planet, k)}"] if moment(planet, k)[0] < DAYS else refused(20)
+        return planet_line("NEXT", next_conjunction(planet, day))
 
     def search(self, reading, first, last):
         if not (first < DAYS and last < DAYS):
@@ -374,7 +354,7 @@ def drawn(answers, draw):
         return f"TERM {near(YEARS)} {draw.randint(0, 24)}"
     if word in ("CONJUNCTION", "NEXT"):
         planet = draw.choice((1, 2, 3, 4, 5, 1, 2, 3, 4, 5, near(5)))
-        return f"{word} {planet} {near(DAYS if word == 'NEXT' else first_from(max(1, min(planet, 5)), DAYS))}"
+        return f"{word} {planet} {near(DAYS if word == 'NEXT' else last_count(max(1, min(planet, 5))) + 1)}"
     if word == "DAY":
         return f"DAY {near(DAYS)}"
     if word == "DATE":

@@ -5,16 +5,11 @@ use native.Mathlib.Omega.{arith}
 use mathlib.Core.Path.{_≡_, ap, sym, _∙_}
 use mathlib.Core.Bool.{Bool}
 use mathlib.Core.List.{List}
-use lib.Dec.{leb}
 use lib.IntN.{ℤ}
 use lib.ListN.{length}
-use Rattle.rule.specs.Reasons.{Answer, is, guard, within}
+use Rattle.rule.specs.Reasons.{Answer}
 use Rattle.dates.specs.Dates.{dayOfDate}
 use Rattle.moves.specs.Moves.{moved}
-use Rattle.planets.specs.declared.Conjunction.{Conjunction}
-use Rattle.planets.specs.declared.Counted.{Counted}
-use Rattle.planets.specs.declared.Pair.{Pair}
-use Rattle.planets.specs.Planets.{numbersOf, conjunctionDay, conjunctionOf, conjunctionAt, nextCount, countedOf, nextAt, pairOf, pairAt}
 use Rattle.reading.specs.declared.Reading.{Reading}
 use Rattle.reading.specs.declared.Found.{Found}
 use Rattle.reading.specs.Readings.{windowDays, fitting}
@@ -48,27 +43,6 @@ module _ (y k : ℕ) (l : Bool) (m : ℕ) {a b c : ℕ} (p : a ≡ capped y) (q 
 
   pub move-asked : (n : ℤ) → moved a b l c n ≡ moved y k l m n
   move-asked n = rw (p, q, r) (capped-alike .move y k l m n)
-
--- a planet, cut down where its count is not
-pub kth-capped : (k p : ℕ) → conjunctionAt (capped p) k ≡ conjunctionAt p k
-unfolding conjunctionAt
-kth-capped k p =
-    behind-a-test Conjunction (within 1 5) (from-one 5 (omega arith)) 19
-    (λ i. guard (leb (conjunctionDay (numbersOf i) k) 14989859) 6 (is (conjunctionOf (numbersOf i) k))) p
-
--- what stands behind both tests: 20, or the conjunction
-abbrev left : ℕ → ℕ → Answer Counted
-left i e = guard (leb (conjunctionDay (numbersOf i) (nextCount (numbersOf i) e)) 14989859) 20 (is (countedOf (numbersOf i) (nextCount (numbersOf i) e)))
-
-pub next-capped : (p d : ℕ) → nextAt (capped p) (capped d) ≡ nextAt p d
-unfolding nextAt
-next-capped p d =
-    behind-a-test Counted (within 1 5) (from-one 5 (omega arith)) 19 (λ i. guard (leb (capped d) 14989859) 6 (left i (capped d))) p
-    ∙ ap (guard (within 1 5 p) 19) (behind-a-test Counted (λ n. leb n 14989859) (at-most 14989859 (omega arith)) 6 (left p) d)
-
-pub pair-capped : (p : ℕ) → pairAt (capped p) ≡ pairAt p
-unfolding pairAt
-pair-capped p = behind-a-test Pair (within 1 5) (from-one 5 (omega arith)) 19 (λ i. is (pairOf (numbersOf i))) p
 
 -- a search: nothing was cut down, or both are refused with the same reason and the list is as it was
 search-alike :

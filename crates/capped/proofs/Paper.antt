@@ -23,7 +23,8 @@ use Rattle.facts.specs.Facts.{solsticeYear, yearFacts, monthFacts, quarterOf, s
 use Rattle.planets.specs.declared.Numbers.{Numbers}
 use Rattle.planets.specs.declared.Conjunction.{Conjunction}
 use Rattle.planets.specs.declared.Counted.{Counted}
-use Rattle.planets.specs.Planets.{numbersOf, conjunctionDay, conjunctionOf, conjunctionAt, nextCount, countedOf, nextAt}
+use Rattle.planets.specs.declared.Pair.{Pair}
+use Rattle.planets.specs.Planets.{numbersOf, conjunctionDay, conjunctionOf, conjunctionAt, nextCount, countedOf, nextAt, pairOf, pairAt}
 use Rattle.planets.specs.Paper.{Good}
 use Rattle.planets.proofs.Moments.{count-first}
 use Rattle.planets.proofs.Paper.{good-planets}
@@ -130,20 +131,28 @@ count-settled n g =
     none-behind (λ k. leb (conjunctionDay n k) 14989859)
     (λ k h. lt-leb (conjunctionDay n k) 14989859 (omega (arith, count-first n g k)))
 
-conjunction-capped : (p k : ℕ) → conjunctionAt (capped p) (capped k) ≡ conjunctionAt p k
+planet-capped : (p k : ℕ) → conjunctionAt (capped p) k ≡ conjunctionAt p k
 unfolding conjunctionAt
-conjunction-capped p k =
-    behind-a-test Conjunction (within 1 5) (from-one 5 (omega arith)) 19 (λ i. at i (capped k)) p
-    ∙ go (within 1 5 p) refl
-  where
-    at : ℕ → ℕ → Answer Conjunction
-    at i j = guard (leb (conjunctionDay (numbersOf i) j) 14989859) 6 (is (conjunctionOf (numbersOf i) j))
+planet-capped p k =
+    behind-a-test Conjunction (within 1 5) (from-one 5 (omega arith)) 19
+    (λ i. guard (leb (conjunctionDay (numbersOf i) k) 14989859) 6 (is (conjunctionOf (numbersOf i) k))) p
 
-    go : (t : Bool) → within 1 5 p ≡ t → guard t 19 (at p (capped k)) ≡ guard t 19 (at p k)
+count-capped : (p k : ℕ) → conjunctionAt p (capped k) ≡ conjunctionAt p k
+unfolding conjunctionAt
+count-capped p k = go (within 1 5 p) refl
+  where
+    at : ℕ → Answer Conjunction
+    at j = guard (leb (conjunctionDay (numbersOf p) j) 14989859) 6 (is (conjunctionOf (numbersOf p) j))
+
+    go : (t : Bool) → within 1 5 p ≡ t → guard t 19 (at (capped k)) ≡ guard t 19 (at k)
     go true e =
         behind-a-test Conjunction (λ i. leb (conjunctionDay (numbersOf p) i) 14989859)
         (count-settled (numbersOf p) (good-planets p (within-true 1 5 p .0 e))) 6 (λ i. is (conjunctionOf (numbersOf p) i)) k
     go false e = refl
+
+pair-capped : (p : ℕ) → pairAt (capped p) ≡ pairAt p
+unfolding pairAt
+pair-capped p = behind-a-test Pair (within 1 5) (from-one 5 (omega arith)) 19 (λ i. is (pairOf (numbersOf i))) p
 
 next-capped : (p d : ℕ) → nextAt (capped p) (capped d) ≡ nextAt p d
 unfolding nextAt
@@ -164,8 +173,10 @@ capped-alike =
       month = λ n. behind-a-test MonthFacts (λ i. leb i 507599) month-settled 7 (λ i. is (monthFacts i)) n;
       quarter = λ n q. two Quarter (λ i. leb i 507599) (λ i. leb i 3) month-settled (at-most 3 (omega arith)) 7 15 (λ i j. is (quarterOf i j)) n q;
       term = λ y k. two ℕ (within 1 41040) (λ i. leb i 23) year-settled (at-most 23 (omega arith)) 1 15 (λ i j. is (termDay (yearTerm i j))) y k;
-      conjunction = conjunction-capped;
+      planet = planet-capped;
+      conjunction = λ p k. planet-capped p (capped k) ∙ count-capped p k;
       next = next-capped;
+      pair = pair-capped;
     }
 
 -- a field, and a reading

@@ -8,7 +8,7 @@ use Rattle.rule.specs.Reasons.{Answer, refused, guard}
 use Rattle.dates.specs.Dates.{dateAt, dayOfDate}
 use Rattle.moves.specs.Moves.{moved}
 use Rattle.facts.specs.Facts.{solsticeYearAt, yearFactsAt, monthFactsAt, quarterAt, termAt}
-use Rattle.planets.specs.Planets.{conjunctionAt, nextAt}
+use Rattle.planets.specs.Planets.{conjunctionAt, nextAt, pairAt}
 use Rattle.reading.specs.declared.Reading.{Reading}
 use Rattle.reading.specs.Search.{searchAt}
 use Rattle.capped.specs.Capped.{capped, cappedMove, cappedReading}
@@ -34,8 +34,10 @@ pub record Capped-alike : Type 0 where
   pub month : (n : ℕ) → monthFactsAt (capped n) ≡ monthFactsAt n
   pub quarter : (n q : ℕ) → quarterAt (capped n) (capped q) ≡ quarterAt n q
   pub term : (y k : ℕ) → termAt (capped y) (capped k) ≡ termAt y k
+  pub planet : (p k : ℕ) → conjunctionAt (capped p) k ≡ conjunctionAt p k
   pub conjunction : (p k : ℕ) → conjunctionAt (capped p) (capped k) ≡ conjunctionAt p k
   pub next : (p d : ℕ) → nextAt (capped p) (capped d) ≡ nextAt p d
+  pub pair : (p : ℕ) → pairAt (capped p) ≡ pairAt p
 
 -- of a search: nothing was cut down, or both are refused with one reason, whatever list is lent
 pub data AlikeSearch (r : Reading) (first last : ℕ) : Type 0 where

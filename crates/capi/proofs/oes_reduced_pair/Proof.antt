@@ -1,8 +1,9 @@
 -- `capi::oes_reduced_pair` meets its contract. Assumes nothing.
 use mathlib.Core.Path.{ap, _∙_}
 use Rattle.planets.specs.Planets.{pairAt}
+use Rattle.capped.proofs.Paper.{capped-alike}
 use Rattle.flat.specs.Flat.{flatPair}
-use Rattle.capi.proofs.Asked.{asked-one, pair-capped}
+use Rattle.capi.proofs.Asked.{asked-one}
 use borrow.Author.Needs.{needs}
 use Rattle.capi.proofs.oes_reduced_pair.Statement.{statement}
 use Rattle.capi.proofs.oes_reduced_pair.Tie as tie
@@ -17,7 +18,7 @@ flat-pair-requires : tie.Need-flat-pair-requires
 flat-pair-requires c κs = search needs
 
 returns : tie.Need-returns
-returns c = c .flat-pair .ensures ∙ ap flatPair (c .before .reduced-pair .ensures ∙ asked-one pairAt pair-capped (c .before .before .cap .ensures))
+returns c = c .flat-pair .ensures ∙ ap flatPair (c .before .reduced-pair .ensures ∙ asked-one pairAt (capped-alike .pair) (c .before .before .cap .ensures))
 
 pub oes-reduced-pair-spec : {M : Type 1} → statement M
 oes-reduced-pair-spec =
