@@ -1,6 +1,5 @@
 -- Laws of the common divisor. Assumes nothing.
-use Prim.Native.Nat.{ℕ, _+_, _*_, _%_, _<_, _∣_}
-use native.Mathlib.Omega.{arith}
+use Prim.Native.Nat.{ℕ, _+_, _*_, _%_, _∣_}
 use native.Mathlib.Nat.{
   dvd-refl,
   dvd-zero,
@@ -9,11 +8,8 @@ use native.Mathlib.Nat.{
   dvd-mul-left,
   dvd-mul-left-of-dvd,
   dvd-add-iff-right,
-  pos-of-dvd-of-pos,
-  eq-of-mul-eq-mul-right,
-  div-mul-cancel,
 }
-use mathlib.Core.Path.{_≡_, refl, ap, sym, subst, _∙_}
+use mathlib.Core.Path.{_≡_, refl, sym, subst}
 use Rattle.planets.specs.Divisors.{CommonDivisor}
 
 -- of a number and none: the number itself
@@ -40,7 +36,3 @@ by-difference x y d u v e =
       second = dvd-mul-left d y;
       every = λ c p q. dvd-add-iff-right c (dvd-mul-left-of-dvd c q v) .1 (subst (λ (m : ℕ). c ∣ m) e (dvd-mul-left-of-dvd c p u));
     }
-
--- the two may be exchanged
-pub exchanged : (a b d : ℕ) → CommonDivisor a b d → CommonDivisor b a d
-exchanged a b d h = record { first = h .second; second = h .first; every = λ c p q. h .every c q p }

@@ -1,12 +1,12 @@
 -- What the calls make of the definitions: products that fit, and each answer where its tests lead. Assumes nothing.
-use Prim.Native.Nat.{ℕ, _+_, _-_, _*_, _%_, _≤_, _<_, _^_}
+use Prim.Native.Nat.{ℕ, _-_, _*_, _≤_, _<_, _^_}
 use native.Mathlib.Omega.{arith}
 use native.Mathlib.Nat.{mul-le-mul}
-use mathlib.Core.Path.{_≡_, refl, ap, sym, subst, _∙_}
-use mathlib.Core.Bool.{Bool, true, false}
+use mathlib.Core.Path.{_≡_, ap, sym, _∙_}
+use mathlib.Core.Bool.{true, false}
 use lib.Dec.{leb}
-use borrow.Author.Tests.{leb-true, le-leb, leb-false}
-use Rattle.rule.specs.Reasons.{Answer, is, refused, guard, within}
+use borrow.Author.Tests.{le-leb}
+use Rattle.rule.specs.Reasons.{is, refused, within}
 use Rattle.rule.proofs.Answers.{within-true, stops, passes, at-most, fails}
 use Rattle.planets.specs.declared.Numbers.{Numbers}
 use Rattle.planets.specs.declared.Conjunction.{Conjunction}

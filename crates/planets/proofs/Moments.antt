@@ -6,7 +6,6 @@ use native.Mathlib.Nat.{
   mul-comm,
   add-mul,
   suc-mul,
-  mul-pos,
   mul-le-mul-left,
   mul-le-mul-right,
   le-trans,

@@ -1,5 +1,5 @@
 -- What request W11 says of the five planets, proved, each statement under its name in small letters. Assumes nothing.
-use Prim.Native.Nat.{ℕ, zero, suc, _+_, _*_, _%_, _≤_, _<_}
+use Prim.Native.Nat.{ℕ, zero, suc, _+_, _*_, _%_, _≤_}
 use native.Mathlib.Omega.{arith}
 use mathlib.Core.Path.{_≡_, refl, ap, sym, subst, _∙_}
 use mathlib.Core.Logic.{_↔_, _⊎_, inl, inr, ⊎-elim, Iff·trans}
@@ -8,7 +8,7 @@ use lib.Dec.{eqb, leb, ltb}
 use borrow.Author.Tests.{ltb-true, ltb-false}
 use Rattle.rule.specs.Counts.{DayInRange}
 use Rattle.rule.specs.Reasons.{Answer, is, refused, within, guard, reasonOf}
-use Rattle.rule.proofs.Answers.{reason-back, within-true, at-most, holds-all, passes, fails, then-iff, test-iff, one-given, one-refused, read-back, once, given-not}
+use Rattle.rule.proofs.Answers.{reason-back, within-true, at-most, holds-all, passes, fails, test-iff, one-given, one-refused, read-back, once, given-not}
 use Rattle.planets.specs.declared.Phase.{Phase}
 use Rattle.planets.specs.declared.Phase.the-variants.{Morning, Evening, Neither}
 use Rattle.planets.specs.declared.ConjunctionTold.{ConjunctionTold}
@@ -87,6 +87,9 @@ one-common-divisor = Divisors.one-divisor
 
 pub figures-are-first : Paper.Figures-are-first
 figures-are-first = Five.figures-are-first
+
+pub common-divisor-of-004 : Paper.Common-divisor-of-004
+common-divisor-of-004 = Reducing.common-divisor-of-004
 
 pub reduction : Paper.Reduction
 reduction = Reducing.reduction

@@ -1,40 +1,50 @@
 -- The two long counts of each planet are 5,844 times its printed pair, and 5,844 is their common divisor. Assumes nothing.
-use Prim.Native.Nat.{ℕ, _+_, _*_, _<_}
+use Prim.Native.Nat.{ℕ, _*_, _<_}
 use native.Mathlib.Omega.{arith}
 use native.Mathlib.Nat.{eq-of-mul-eq-mul-right}
 use mathlib.Core.Path.{_≡_, refl, ap, sym, subst, _∙_}
 use mathlib.Core.Logic.{_↔_}
 use Rattle.planets.specs.declared.Pair.{Pair}
-use Rattle.planets.specs.Planets.{numbersOf, figuresOf, longDays, longCircle, pairOf}
+use Rattle.planets.specs.Planets.{numbersOf, figuresOf, longDays, longCircle}
 use Rattle.planets.specs.Divisors.{CommonDivisor, Reduced}
-use Rattle.planets.specs.Paper.{Planet, Reduction}
+use Rattle.planets.specs.Paper.{Planet, Common-divisor-of-004, Reduction}
 use Rattle.planets.proofs.Divisors.{by-difference, one-divisor}
 use Rattle.planets.proofs.Five.{each-planet}
 
 -- so many times their common divisor, of two numbers, is one pair
-pub one-pair : (x y d : ℕ) → 0 < d → CommonDivisor (x * d) (y * d) d → (r : Pair) → Reduced (x * d) (y * d) r ↔ (r ≡ record { years = x; conjunctions = y })
-one-pair x y d pos h r = (there, back)
+pub one-pair :
+    (a b x y d : ℕ) → 0 < d → a ≡ x * d → b ≡ y * d → CommonDivisor a b d → (r : Pair) →
+    Reduced a b r ↔ (r ≡ record { years = x; conjunctions = y })
+one-pair a b x y d pos e f h r = (there, back)
   where
-    there : Reduced (x * d) (y * d) r → r ≡ record { years = x; conjunctions = y }
+    there : Reduced a b r → r ≡ record { years = x; conjunctions = y }
     there q =
-        let e = one-divisor (x * d) (y * d) (q .common) d (q .is-common) h in
-        let a : r .years ≡ x = eq-of-mul-eq-mul-right d pos (r .years) x (sym (q .first ∙ ap (λ (c : ℕ). r .years * c) e)) in
-        let b : r .conjunctions ≡ y = eq-of-mul-eq-mul-right d pos (r .conjunctions) y (sym (q .second ∙ ap (λ (c : ℕ). r .conjunctions * c) e)) in
-        ap (λ (z : ℕ). record { years = z; conjunctions = r .conjunctions }) a ∙ ap (λ (z : ℕ). record { years = x; conjunctions = z }) b
+        let s = one-divisor a b (q .common) d (q .is-common) h in
+        let m : r .years ≡ x = eq-of-mul-eq-mul-right d pos (r .years) x (sym (ap (λ (c : ℕ). r .years * c) s) ∙ sym (q .first) ∙ e) in
+        let n : r .conjunctions ≡ y = eq-of-mul-eq-mul-right d pos (r .conjunctions) y (sym (ap (λ (c : ℕ). r .conjunctions * c) s) ∙ sym (q .second) ∙ f) in
+        ap (λ (z : ℕ). record { years = z; conjunctions = r .conjunctions }) m ∙ ap (λ (z : ℕ). record { years = x; conjunctions = z }) n
 
-    back : r ≡ record { years = x; conjunctions = y } → Reduced (x * d) (y * d) r
-    back e = subst (Reduced (x * d) (y * d)) (sym e) (record { common = d; is-common = h; first = refl; second = refl })
+    back : r ≡ record { years = x; conjunctions = y } → Reduced a b r
+    back g = subst (Reduced a b) (sym g) (record { common = d; is-common = h; first = e; second = f })
 
--- a pair whose multiples differ by one, 5,844 times
-by-one : (x y u v : ℕ) → u * (x * 5844) ≡ v * (y * 5844) + 5844 → (r : Pair) → Reduced (x * 5844) (y * 5844) r ↔ (r ≡ record { years = x; conjunctions = y })
-by-one x y u v e = one-pair x y 5844 (omega arith) (by-difference x y 5844 u v e)
+-- a multiple of the one long count and a multiple of the other differ by 5,844
+pub common-divisor-of-004 : Common-divisor-of-004
+unfolding figuresOf
+common-divisor-of-004 =
+    each-planet (λ p. CommonDivisor (longDays (figuresOf p)) (longCircle (figuresOf p)) 5844)
+    (by-difference 4725 4327 5844 3903 4262 refl)
+    (by-difference 1876 879 5844 514 1097 refl)
+    (by-difference 9415 9096 5844 5047 5224 refl)
+    (by-difference 4661 5830 5844 5441 4350 refl)
+    (by-difference 1889 11908 5844 1141 181 refl)
+
+pairs : (p : ℕ) → Planet p → (longDays (figuresOf p) ≡ numbersOf p .years * 5844) × (longCircle (figuresOf p) ≡ numbersOf p .conjunctions * 5844)
+unfolding numbersOf figuresOf
+pairs =
+    each-planet (λ p. (longDays (figuresOf p) ≡ numbersOf p .years * 5844) × (longCircle (figuresOf p) ≡ numbersOf p .conjunctions * 5844))
+    (refl, refl) (refl, refl) (refl, refl) (refl, refl) (refl, refl)
 
 pub reduction : Reduction
-unfolding numbersOf figuresOf
-reduction =
-    each-planet (λ p. (r : Pair) → Reduced (longDays (figuresOf p)) (longCircle (figuresOf p)) r ↔ (r ≡ pairOf (numbersOf p)))
-    (by-one 4725 4327 3903 4262 refl)
-    (by-one 1876 879 514 1097 refl)
-    (by-one 9415 9096 5047 5224 refl)
-    (by-one 4661 5830 5441 4350 refl)
-    (by-one 1889 11908 1141 181 refl)
+reduction p h =
+    one-pair (longDays (figuresOf p)) (longCircle (figuresOf p)) (numbersOf p .years) (numbersOf p .conjunctions) 5844 (omega arith)
+    (pairs p h .0) (pairs p h .1) (common-divisor-of-004 p h)

@@ -130,6 +130,10 @@ One-common-divisor = (a b c d : ℕ) → CommonDivisor a b c → CommonDivisor a
 abbrev pub Figures-are-first : Type 0
 Figures-are-first = (p : ℕ) → Planet p → figuresOf p ≡ figures (conjunctionDay (numbersOf p) 1) (conjunctionParts (numbersOf p) 1) (divisor (numbersOf p))
 
+-- 004's common divisor of the two long counts, the same for all five
+abbrev pub Common-divisor-of-004 : Type 0
+Common-divisor-of-004 = (p : ℕ) → Planet p → CommonDivisor (longDays (figuresOf p)) (longCircle (figuresOf p)) 5844
+
 -- "004 gets each pair by reducing two long counts against each other ..; show for all five that this yields the printed pair": whatever
 -- the two long counts are reduced to is the printed pair
 abbrev pub Reduction : Type 0

@@ -1,6 +1,6 @@
 -- The proof of the cycle of calls {common_divisor}. The measure is the second number. Assumes nothing.
 use native.Mathlib.Nat.{pos-of-ne-zero, mod-lt}
-use mathlib.Core.Path.{_≡_, sym, subst}
+use mathlib.Core.Path.{sym, subst}
 use Rattle.planets.specs.Divisors.{CommonDivisor}
 use Rattle.planets.proofs.Divisors.{with-none, of-remainder}
 use Prim.Native.Nat.{ℕ, _<_, _%_}

@@ -1,5 +1,5 @@
 -- `planets::conjunction_day` meets its contract: the formula itself, and its products fit. Assumes nothing.
-use Prim.Native.Nat.{ℕ, _≤_}
+use Prim.Native.Nat.{_≤_}
 use native.Mathlib.Omega.{arith}
 use mathlib.Core.Path.{refl}
 use Rattle.planets.specs.Planets.{conjunctionDay}
@@ -7,8 +7,6 @@ use Rattle.planets.proofs.Made.{product}
 use borrow.Author.Needs.{needs}
 use Rattle.planets.proofs.conjunction_day.Statement.{statement}
 use Rattle.planets.proofs.conjunction_day.Tie as tie
-use Rattle.planets.proofs.conjunction_day.Reads as reads
-use Rattle.planets.proofs.conjunction_day.Lts as lts
 
 cast-result : tie.Need-cast-result
 cast-result c = search needs

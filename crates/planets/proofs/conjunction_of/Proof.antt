@@ -1,5 +1,5 @@
 -- `planets::conjunction_of` meets its contract: day, parts, divisor and phase as the definitions have them. Assumes nothing.
-use Prim.Native.Nat.{ℕ, _*_, _≤_, _<_}
+use Prim.Native.Nat.{_*_, _≤_, _<_}
 use native.Mathlib.Omega.{arith}
 use native.Mathlib.Nat.{mod-lt}
 use mathlib.Core.Path.{refl}
@@ -8,10 +8,6 @@ use Rattle.planets.proofs.Made.{product}
 use borrow.Author.Needs.{needs}
 use Rattle.planets.proofs.conjunction_of.Statement.{statement}
 use Rattle.planets.proofs.conjunction_of.Tie as tie
-use Rattle.planets.proofs.conjunction_of.Reads as reads
-use Rattle.planets.proofs.conjunction_of.Lts as lts
-use Rattle.planets.proofs.conjunction_day.Reads as conjunction-day-reads
-use Rattle.planets.proofs.phase_of.Reads as phase-of-reads
 
 cast-divisor : tie.Need-cast-divisor
 cast-divisor c = search needs

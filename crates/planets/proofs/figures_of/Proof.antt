@@ -4,8 +4,6 @@ use Rattle.planets.specs.Planets.{figuresOf}
 use Rattle.planets.proofs.Five.{last}
 use Rattle.planets.proofs.figures_of.Statement.{statement}
 use Rattle.planets.proofs.figures_of.Tie as tie
-use Rattle.planets.proofs.figures_of.Reads as reads
-use Rattle.planets.proofs.figures_of.Lts as lts
 
 returns : tie.Need-returns
 unfolding figuresOf

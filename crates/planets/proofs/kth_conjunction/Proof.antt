@@ -10,12 +10,6 @@ use Rattle.planets.proofs.Made.{no-planet, too-late, count-beyond, in-t
 use borrow.Author.Needs.{needs}
 use Rattle.planets.proofs.kth_conjunction.Statement.{statement}
 use Rattle.planets.proofs.kth_conjunction.Tie as tie
-use Rattle.planets.proofs.kth_conjunction.Reads as reads
-use Rattle.planets.proofs.kth_conjunction.Lts as lts
-use Rattle.planets.proofs.conjunction_day.Reads as conjunction-day-reads
-use Rattle.planets.proofs.conjunction_of.Reads as conjunction-of-reads
-use Rattle.planets.proofs.numbers_of.Reads as numbers-of-reads
-use Rattle.rule.proofs.in_range.Reads as in-range-reads
 
 in-range-requires : tie.Need-in-range-requires
 in-range-requires c κs = search needs

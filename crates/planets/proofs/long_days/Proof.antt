@@ -5,8 +5,6 @@ use native.Mathlib.Nat.{mul-le-mul}
 use borrow.Author.Needs.{needs}
 use Rattle.planets.proofs.long_days.Statement.{statement}
 use Rattle.planets.proofs.long_days.Tie as tie
-use Rattle.planets.proofs.long_days.Reads as reads
-use Rattle.planets.proofs.long_days.Lts as lts
 
 cast-result : tie.Need-cast-result
 cast-result c = search needs

@@ -13,13 +13,6 @@ use Rattle.planets.proofs.Made.{some-years, fits-32, counted, made, nex
 use borrow.Author.Needs.{needs}
 use Rattle.planets.proofs.next_conjunction.Statement.{statement}
 use Rattle.planets.proofs.next_conjunction.Tie as tie
-use Rattle.planets.proofs.next_conjunction.Reads as reads
-use Rattle.planets.proofs.next_conjunction.Lts as lts
-use Rattle.planets.proofs.conjunction_day.Reads as conjunction-day-reads
-use Rattle.planets.proofs.conjunction_of.Reads as conjunction-of-reads
-use Rattle.planets.proofs.next_count.Reads as next-count-reads
-use Rattle.planets.proofs.numbers_of.Reads as numbers-of-reads
-use Rattle.rule.proofs.in_range.Reads as in-range-reads
 
 in-range-requires : tie.Need-in-range-requires
 in-range-requires c κs = search needs

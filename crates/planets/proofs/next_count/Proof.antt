@@ -1,5 +1,5 @@
 -- `planets::next_count` meets its contract: the formula itself, and its product fits. Assumes nothing.
-use Prim.Native.Nat.{ℕ, _*_, _≤_}
+use Prim.Native.Nat.{_*_, _≤_}
 use native.Mathlib.Omega.{arith}
 use mathlib.Core.Path.{refl}
 use Rattle.planets.specs.Planets.{nextCount}
@@ -7,8 +7,6 @@ use Rattle.planets.proofs.Made.{product}
 use borrow.Author.Needs.{needs}
 use Rattle.planets.proofs.next_count.Statement.{statement}
 use Rattle.planets.proofs.next_count.Tie as tie
-use Rattle.planets.proofs.next_count.Reads as reads
-use Rattle.planets.proofs.next_count.Lts as lts
 
 cast-step : tie.Need-cast-step
 cast-step c = search needs

@@ -8,8 +8,6 @@ use Rattle.planets.specs.declared.Phase.the-variants.{Morning, Evening, 
 use Rattle.planets.specs.Planets.{phase}
 use Rattle.planets.proofs.phase_of.Statement.{statement}
 use Rattle.planets.proofs.phase_of.Tie as tie
-use Rattle.planets.proofs.phase_of.Reads as reads
-use Rattle.planets.proofs.phase_of.Lts as lts
 
 returns : tie.Need-returns
 unfolding phase

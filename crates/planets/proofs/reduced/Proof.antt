@@ -4,9 +4,6 @@ use mathlib.Core.Path.{sym}
 use borrow.Author.Needs.{needs}
 use Rattle.planets.proofs.reduced.Statement.{statement}
 use Rattle.planets.proofs.reduced.Tie as tie
-use Rattle.planets.proofs.reduced.Reads as reads
-use Rattle.planets.proofs.reduced.Lts as lts
-use Rattle.planets.proofs.common_divisor.Reads as common-divisor-reads
 
 common-divisor-requires : tie.Need-common-divisor-requires
 common-divisor-requires c κs = search needs

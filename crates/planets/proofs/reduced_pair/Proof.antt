@@ -11,13 +11,6 @@ use Rattle.planets.proofs.Made.{pair-no-planet, pair-one}
 use borrow.Author.Needs.{needs}
 use Rattle.planets.proofs.reduced_pair.Statement.{statement}
 use Rattle.planets.proofs.reduced_pair.Tie as tie
-use Rattle.planets.proofs.reduced_pair.Reads as reads
-use Rattle.planets.proofs.reduced_pair.Lts as lts
-use Rattle.planets.proofs.figures_of.Reads as figures-of-reads
-use Rattle.planets.proofs.long_circle.Reads as long-circle-reads
-use Rattle.planets.proofs.long_days.Reads as long-days-reads
-use Rattle.planets.proofs.reduced.Reads as reduced-reads
-use Rattle.rule.proofs.in_range.Reads as in-range-reads
 
 in-range-requires : tie.Need-in-range-requires
 in-range-requires c κs = search needs
