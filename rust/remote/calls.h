@@ -60,7 +60,4 @@ struct question {
     uint8_t answer[ANSWER_BYTES];
 };
 
-/* How often a side tries to read before it sleeps until there is something. */
-#define TRIES 20
-
 #endif

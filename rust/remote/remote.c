@@ -10,7 +10,6 @@
 #define _GNU_SOURCE
 #include <errno.h>
 #include <fcntl.h>
-#include <poll.h>
 #include <pthread.h>
 #include <spawn.h>
 #include <stdio.h>
@@ -65,8 +64,6 @@ static void start(struct server *s)
     if (pipe2(to, O_CLOEXEC) != 0 || pipe2(from, O_CLOEXEC) != 0) {
         stop("no pipe", strerror(errno));
     }
-    fcntl(to[0], F_SETFL, O_NONBLOCK);
-    fcntl(from[0], F_SETFL, O_NONBLOCK);
     char *words[] = {named("OESTERWROK_RUN"), named("OESTERWROK_SERVER"), NULL};
     posix_spawn_file_actions_t actions;
     posix_spawn_file_actions_init(&actions);
@@ -137,21 +134,15 @@ static void send(struct server *s)
     }
 }
 
-/* Reads so many bytes, sleeping where there are none yet. */
+/* Reads so many bytes. */
 static void receive(struct server *s, void *to, size_t bytes)
 {
-    size_t have = 0;
-    int tries = 0;
-    while (have < bytes) {
+    for (size_t have = 0; have < bytes;) {
         ssize_t more = read(s->from, (uint8_t *)to + have, bytes - have);
-        if (more > 0) {
-            have += (size_t)more;
-        } else if (more == 0 || (errno != EAGAIN && errno != EINTR)) {
+        if (more == 0 || (more < 0 && errno != EINTR)) {
             stop(getenv("OESTERWROK_SERVER"), "the server ended");
-        } else if (++tries == TRIES) {
-            tries = 0;
-            poll(&(struct pollfd){s->from, POLLIN, 0}, 1, -1);
         }
+        have += more < 0 ? 0 : (size_t)more;
     }
 }
 

@@ -1,21 +1,12 @@
 /* Answers the questions of remote.c, from standard input to standard output, by the archive for x86-64 that it is linked with: of the
  * calls it has none itself. It ends where its input does. It declares what it asks of the C library, since the headers at hand may be
- * another machine's. No memory is shared with the side that asks: the emulator would then put a barrier at every store. */
+ * another machine's. No memory is shared with the side that asks: a program that shares memory is emulated with
+ * barriers, and far slower. */
 #include "calls.h"
-
-struct pollfd {
-    int fd;
-    short events;
-    short revents;
-};
 
 void *memcpy(void *to, const void *from, size_t bytes);
 long read(int fd, void *to, size_t bytes);
 long write(int fd, const void *from, size_t bytes);
-int poll(struct pollfd *which, unsigned long count, int milliseconds);
-
-#define READABLE 1
-#define CLOSED 16
 
 static _Alignas(64) uint8_t message[MESSAGE_BYTES];
 static uint8_t answers[ANSWERS][ANSWER_BYTES];
@@ -81,34 +72,16 @@ static bool answer(void)
     }
 }
 
-/* Reads what there is, sleeping until there is something; 0 at the end. */
-static size_t some(uint8_t *to, size_t room)
-{
-    for (;;) {
-        for (int try = 0; try < TRIES; try++) {
-            long more = read(0, to, room);
-            if (more >= 0) {
-                return (size_t)more;
-            }
-        }
-        struct pollfd input = {0, READABLE, 0};
-        poll(&input, 1, -1);
-        if ((input.revents & (READABLE | CLOSED)) == 0) {
-            return 0;
-        }
-    }
-}
-
 /* Reads one question, whole; false at the end. */
 static bool question(void)
 {
     size_t have = 0;
     while (have < sizeof *asked || have < asked->bytes) {
-        size_t more = some(message + have, sizeof message - have);
-        if (more == 0) {
+        long more = read(0, message + have, sizeof message - have);
+        if (more <= 0) {
             return false;
         }
-        have += more;
+        have += (size_t)more;
     }
     return asked->wanted <= ANSWERS;
 }
