@@ -10,4 +10,5 @@ pub mod Years
 pub mod Leap
 pub mod Eclipses
 pub mod Answers
+pub mod Pairs
 pub mod Paper

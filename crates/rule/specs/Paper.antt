@@ -2,7 +2,7 @@
 -- Assumes nothing.
 use Prim.Native.Nat.{ℕ, _+_, _-_, _*_, _/_, _%_, _≤_, _<_}
 use mathlib.Core.Path.{_≡_}
-use mathlib.Core.Logic.{_↔_, _≢_}
+use mathlib.Core.Logic.{_↔_, _≢_, _⊎_}
 use mathlib.Core.Bool.{Bool, true, false, not, _&&_}
 use mathlib.Core.List.{List, [], _∷_, map}
 use lib.ListN.{length, getD}
@@ -15,6 +15,7 @@ use Rattle.rule.specs.Rule.{
   monthStart,
   smallRemainder,
   monthLength,
+  pairStarts,
   InMonth,
   monthOfDay,
   quarterDay,
@@ -297,3 +298,39 @@ Turns-mislead = (monthLength 128 ≡ 30) × (monthLength 129 ≡ 30)
 pub record Reasons-numbered : Type 0 where
   pub in-order : map reasonNumber reasonsInOrder ≡ 1 ∷ 2 ∷ 3 ∷ 4 ∷ 5 ∷ 6 ∷ 7 ∷ 8 ∷ 9 ∷ 10 ∷ 11 ∷ 12 ∷ 13 ∷ 14 ∷ 15 ∷ 19 ∷ 20 ∷ []
   pub back : (r : Reason) → reasonOf (reasonNumber r) ≡ r
+
+-- W12, "The running pairs": over every month count, so that the month after the last is read by the same rule
+
+-- "two small months never follow each other"
+abbrev pub Never-two-small : Type 0
+Never-two-small = (n : ℕ) → (monthLength n ≡ 29) × (monthLength (n + 1) ≡ 29) → ⊥
+
+-- "three big ones never do"
+abbrev pub Never-three-big : Type 0
+Never-three-big = (n : ℕ) → (monthLength n ≡ 30) × (monthLength (n + 1) ≡ 30) × (monthLength (n + 2) ≡ 30) → ⊥
+
+-- "a big pair starts exactly where the small remainder is 882 or more"
+abbrev pub Pair-at-882 : Type 0
+Pair-at-882 = (n : ℕ) → (pairStarts n ≡ true) ↔ (882 ≤ smallRemainder n)
+
+-- 004 says it of the second month: at 441 or more and less than 499, it and the month before it are both big
+abbrev pub Pair-by-its-second : Type 0
+Pair-by-its-second = (n : ℕ) → (pairStarts n ≡ true) ↔ ((441 ≤ smallRemainder (n + 1)) × (smallRemainder (n + 1) < 499))
+
+-- after month n the next pair starts k months on, and none between
+pub record NextPair (n k : ℕ) : Type 0 where
+  pub later : 1 ≤ k
+  pub next : pairStarts (n + k) ≡ true
+  pub between : (i : ℕ) → 1 ≤ i → i < k → pairStarts (n + i) ≡ false
+
+-- "from one pair's start to the next is 15 or 17 months": after every start there is a next one
+abbrev pub Next-pair : Type 0
+Next-pair = (n : ℕ) → pairStarts n ≡ true → NextPair n 15 ⊎ NextPair n 17
+
+-- and both distances occur: pairs start with months 15, 32 and 47, and none between
+abbrev pub Both-distances : Type 0
+Both-distances = (pairStarts 15 ≡ true) × NextPair 15 17 × NextPair 32 15
+
+-- "any 940 consecutive months hold exactly 58 starts"
+abbrev pub Pairs-in-940 : Type 0
+Pairs-in-940 = (n : ℕ) → length (those pairStarts n 940) ≡ 58
