@@ -1,6 +1,6 @@
 #!/usr/bin/env python3
 """What the programs `tray` and `uses` must write, and `known` of the planets, by a computation of its own, straight from the
-sentences of the paper and of request W11.
+sentences of the paper and of requests W11 and W12.
 
 It shares nothing with the library: the calendar is walked month by month from the origin, mid-terms are looked for among all
 even terms on each month's days, numbers are given out by the paper's two sentences, and every date is found by looking it up.
@@ -83,6 +83,25 @@ class Calendar:
             else:
                 high = middle
         return low
+
+
+def pair_starts():
+    """The months with which a big pair starts, as the clerk walks them, 29 days and 499 parts a month, to 940 after the range.
+
+    It stops where a sentence of request W12 does not hold of them."""
+    months, rest, rests, big = MONTHS + 940, 0, [], []
+    for _ in range(months + 2):
+        rests.append(rest)
+        rest += 499
+        big.append(rest >= 940)
+        rest -= 940 * big[-1]
+    starts = [n for n in range(months) if big[n] and big[n + 1]]
+    assert all(big[n] or big[n + 1] for n in range(months))
+    assert not any(big[n] and big[n + 1] and big[n + 2] for n in range(months))
+    assert starts == [n for n in range(months) if rests[n] >= 882]
+    assert {after - before for before, after in zip(starts, starts[1:])} == {15, 17}
+    assert {bisect.bisect_left(starts, n + 940) - bisect.bisect_left(starts, n) for n in range(MONTHS)} == {58}
+    return starts
 
 
 def name(count, first):
@@ -483,16 +502,16 @@ def tray(desk):
     out.append(f"WRITE 1000 OF EACH: {len(full)}")
     out.append("READ IT BACK:" + spaced(len(items) for items in back) + "; LAST" + spaced(items[999] for items in back))
     out += planets_kept()
-    pairs = 0
-    for n in range(940):
-        if desk.c.length(n) == 30 and desk.c.length(n + 1) == 30:
-            pairs += 1
-            for i in (1, 15, 30):
-                day = desk.c.starts[n + 1] + i - 1
-                y, k, l, m = desk.date_fields(day)[:4]
-                assert m == i and desk.find(y, k, l, m) == day
-                out += [desk.day_line(day), desk.date_line(y, k, l, m)]
-    assert pairs == 58
+    seconds = [n + 1 for n in pair_starts() if n < 940]
+    for n in seconds:
+        assert desk.c.length(n - 1) == desk.c.length(n) == 30
+        out.append(f"SECOND OF TWO BIG {n}")
+        for i in (1, 15, 30):
+            day = desk.c.starts[n] + i - 1
+            y, k, l, m = desk.date_fields(day)[:4]
+            assert m == i and desk.find(y, k, l, m) == day
+            out += [desk.day_line(day), desk.date_line(y, k, l, m)]
+    out.append(f"SECONDS OF TWO BIG IN A BU {len(seconds)}")
     return "\n".join(out) + "\n"
 
 

@@ -169,5 +169,8 @@ fn main() {
     readings::kept();
     sheets::full();
     conjunctions::kept();
-    pairs::seconds_of_two_big();
+    let seconds = pairs::seconds_of_two_big();
+    show::text(b"SECONDS OF TWO BIG IN A BU");
+    show::next(seconds);
+    show::text(b"\n");
 }
