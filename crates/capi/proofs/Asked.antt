@@ -7,17 +7,17 @@ use mathlib.Core.Bool.{Bool}
 use mathlib.Core.List.{List}
 use lib.IntN.{ℤ}
 use lib.ListN.{length}
-use Rattle.rule.specs.Reasons.{Answer}
+use Rattle.rule.specs.Reasons.{Answer, intoRoom, afterwards}
 use Rattle.dates.specs.Dates.{dayOfDate}
 use Rattle.moves.specs.Moves.{moved}
 use Rattle.reading.specs.declared.Reading.{Reading}
 use Rattle.reading.specs.declared.Found.{Found}
 use Rattle.reading.specs.Readings.{windowDays, fitting}
-use Rattle.reading.specs.Search.{saidFound, listAfter, Searched}
+use Rattle.reading.specs.Search.{saidFound, Searched}
 use Rattle.sheet.specs.declared.HowMany.{HowMany}
 use Rattle.sheet.specs.Promises.{saidHowMany}
 use Rattle.lines.specs.Lines.{yearBlock, monthLined, monthItem, dayItem}
-use Rattle.lines.specs.Promises.{intoRoom, yearBlockAt, monthLineAt, monthItemAt, dayItemAt, Printed}
+use Rattle.lines.specs.Promises.{yearBlockAt, monthLineAt, monthItemAt, dayItemAt, Printed}
 use Rattle.capped.specs.Capped.{capped, cappedReading}
 use Rattle.capped.specs.Paper.{AlikeSearch, whole, both}
 use Rattle.capped.proofs.Paper.{behind-a-test, at-most, from-one, capped-alike, capped-search}
@@ -54,8 +54,8 @@ search-alike r first last old new f (both k g h) s =
       answered = s .answered ∙ g (length old) ∙ sym (h (length old));
       lent =
           s .lent
-          ∙ ap (λ (a : Answer ℕ). listAfter a (fitting (cappedReading r) (capped first) (windowDays (capped first) (capped last))) old) (g (length old))
-          ∙ sym (ap (λ (a : Answer ℕ). listAfter a (fitting r first (windowDays first last)) old) (h (length old)));
+          ∙ ap (λ (a : Answer ℕ). afterwards a (λ n. fitting (cappedReading r) (capped first) (windowDays (capped first) (capped last))) old) (g (length old))
+          ∙ sym (ap (λ (a : Answer ℕ). afterwards a (λ n. fitting r first (windowDays first last)) old) (h (length old)));
     }
 
 pub search-asked :

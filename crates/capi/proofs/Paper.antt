@@ -7,7 +7,7 @@ use mathlib.Core.Bool.{Bool, true, false, _&&_}
 use mathlib.Core.List.{List}
 use lib.Dec.{leb}
 use lib.ListN.{length}
-use Rattle.rule.specs.Reasons.{Answer, is, refused, refused-with, guard, andThen}
+use Rattle.rule.specs.Reasons.{Answer, is, refused, refused-with, guard, andThen, guard-with, afterwards}
 use Rattle.rule.specs.Rule.{monthStart, monthLength, monthOfDay, termDay}
 use Rattle.rule.specs.declared.Quarter.{Quarter}
 use Rattle.dates.specs.declared.Date.{Date}
@@ -34,8 +34,8 @@ use Rattle.planets.specs.Planets.{
 }
 use Rattle.reading.specs.declared.Reading.{Reading}
 use Rattle.reading.specs.Readings.{inRanges, windowDays, windowHolds, fitting}
-use Rattle.reading.specs.Search.{total, withRoom, searchAt, listAfter}
-use Rattle.sheet.specs.Sheet.{Lists, readInto, afterwards}
+use Rattle.reading.specs.Search.{total, searchAt}
+use Rattle.sheet.specs.Sheet.{Lists, readInto}
 use Rattle.sheet.specs.Promises.{counted}
 use Rattle.flat.specs.declared.CDate.{CDate}
 use Rattle.flat.specs.declared.CDay.{CDay}
@@ -198,11 +198,11 @@ counts-bare a r e no-zero = (
 
 -- a search, by its four tests
 abbrev row : Bool → Bool → Bool → Bool → ℕ → Answer ℕ
-row e w i t n = guard e 6 (guard w 13 (guard i 14 (withRoom t n)))
+row e w i t n = guard e 6 (guard w 13 (guard i 14 (guard-with t 12 n (is n))))
 
 row-bare :
     (e w i t : Bool) (n : ℕ) (days old : List ℕ) → flatFound (row e w i t n) .reason ≢ 0 →
-    BareFound n (flatFound (row e w i t n)) × (listAfter (row e w i t n) days old ≡ old)
+    BareFound n (flatFound (row e w i t n)) × (afterwards (row e w i t n) (λ n. days) old ≡ old)
 row-bare false w i t n days old h = (record { other = λ z. refl; twelve = λ z. absurd (omega (arith, z)) }, refl)
 row-bare true false i t n days old h = (record { other = λ z. refl; twelve = λ z. absurd (omega (arith, z)) }, refl)
 row-bare true true false t n days old h = (record { other = λ z. refl; twelve = λ z. absurd (omega (arith, z)) }, refl)
@@ -222,7 +222,7 @@ row-zero true true true false n = not-answered 12 (omega arith) (refused-with 12
 module _ (r : Reading) (first last n : ℕ) where
   search-bare :
       (days old : List ℕ) (a : CFound) → a ≡ flatFound (searchAt r first last n) → a .reason ≢ 0 →
-      BareFound (total r first last) a × (listAfter (searchAt r first last n) days old ≡ old)
+      BareFound (total r first last) a × (afterwards (searchAt r first last n) (λ n. days) old ≡ old)
   unfolding searchAt
   search-bare days old a e no-zero =
       rw (e)

@@ -7,7 +7,7 @@ use lib.Dec.{leb}
 use lib.IntN.{ℤ, pos, negsuc, _+ℤ_}
 use lib.ListN.{length, drop}
 use Rattle.rule.specs.Rule.{monthStart, monthLength, termDay, yearTerm}
-use Rattle.rule.specs.Reasons.{Answer, is, refused, refused-with, within, guard, andThen, reasonNumber}
+use Rattle.rule.specs.Reasons.{Answer, is, refused, refused-with, within, guard, andThen, reasonNumber, intoRoom}
 use Rattle.dates.specs.Dates.{dateOf, dateAt, monthAsked, isThere, dayInMonth, dayOfNamed, dayOfDate}
 use Rattle.moves.specs.Moves.{landed, moved}
 use Rattle.facts.specs.Facts.{
@@ -50,7 +50,7 @@ use Rattle.sheet.specs.Sheet.{
   writeInto,
 }
 use Rattle.lines.specs.Lines.{yearBlock, monthLined, monthItem, dayItem}
-use Rattle.lines.specs.Promises.{intoRoom, yearBlockAt, monthLineAt, monthItemAt, dayItemAt}
+use Rattle.lines.specs.Promises.{yearBlockAt, monthLineAt, monthItemAt, dayItemAt}
 
 -- a refusal's number is above 0
 pub data Sound {A : Type 0} : Answer A → Type 0 where

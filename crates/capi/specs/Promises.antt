@@ -6,7 +6,7 @@ use mathlib.Core.Bool.{Bool, true, false}
 use mathlib.Core.List.{List}
 use lib.IntN.{ℤ}
 use lib.ListN.{length}
-use Rattle.rule.specs.Reasons.{Answer, is, andThen}
+use Rattle.rule.specs.Reasons.{Answer, is, andThen, afterwards}
 use Rattle.dates.specs.Dates.{dateAt, dayOfDate}
 use Rattle.moves.specs.Moves.{moved}
 use Rattle.facts.specs.Facts.{solsticeYearAt, yearFactsAt, monthFactsAt, quarterAt, termAt}
@@ -15,8 +15,8 @@ use Rattle.reading.specs.declared.Field.{Field}
 use Rattle.reading.specs.declared.Field.the-variants.{Known, Unread}
 use Rattle.reading.specs.declared.Reading.{Reading}
 use Rattle.reading.specs.Readings.{windowDays, fitting}
-use Rattle.reading.specs.Search.{searchAt, listAfter}
-use Rattle.sheet.specs.Sheet.{readInto, writeInto, afterwards}
+use Rattle.reading.specs.Search.{searchAt}
+use Rattle.sheet.specs.Sheet.{readInto, writeInto}
 use Rattle.sheet.specs.Promises.{counted}
 use Rattle.lines.specs.Promises.{yearBlockAt, monthLineAt, monthItemAt, dayItemAt}
 use Rattle.flat.specs.declared.CDate.{CDate}
@@ -111,7 +111,7 @@ readingOf r =
 -- a search: the answer, and what the lent list holds then
 pub record CSearch (r : CReading) (first last : ℕ) (old : List ℕ) (a : CFound) (new : List ℕ) : Type 0 where
   pub answer : a ≡ flatFound (searchAt (readingOf r) first last (length old))
-  pub lent : new ≡ listAfter (searchAt (readingOf r) first last (length old)) (fitting (readingOf r) first (windowDays first last)) old
+  pub lent : new ≡ afterwards (searchAt (readingOf r) first last (length old)) (λ n. fitting (readingOf r) first (windowDays first last)) old
 
 -- reading the bytes s into lent lists that held y, m and d: the answer r, and what they hold then
 pub record CReadSheet (s y m d : List ℕ) (r : CSheetCounts) (y′ m′ d′ : List ℕ) : Type 0 where

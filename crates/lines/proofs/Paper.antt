@@ -26,11 +26,11 @@ use Rattle.rule.specs.Rule.{
   leapMark,
   eclipse,
 }
-use Rattle.rule.specs.Lists.{those, table, placed}
-use Rattle.rule.specs.Reasons.{Answer, is, refused, guard, within, andThen, reasonNumber}
+use Rattle.rule.specs.Lists.{those, placed}
+use Rattle.rule.specs.Reasons.{Answer, is, refused, guard, within, andThen, reasonNumber, intoRoom, afterwards}
 use Rattle.rule.specs.declared.Reason.{Reason}
 use Rattle.rule.proofs.Answers.{within-true, at-most, two-given, two-first, two-second}
-use Rattle.rule.proofs.Lists.{table-length}
+use Rattle.rule.proofs.Lists.{table, table-length}
 use Rattle.dates.specs.Dates.{dateIn, dateOf}
 use Rattle.facts.specs.Facts.{monthFacts, yearFacts}
 use Rattle.sheet.specs.declared.HowMany.{HowMany}
@@ -49,7 +49,6 @@ use Rattle.sheet.specs.Sheet.{
   monthsRead,
   sheetRead,
   readSheet,
-  afterwards,
 }
 use Rattle.fields.specs.Fields.{word, digits, decimal, mark, followed, joined, lined, each}
 use Rattle.lines.specs.Lines.{
@@ -66,7 +65,7 @@ use Rattle.lines.specs.Lines.{
   listing,
 }
 use Rattle.fields.proofs.Paper.{first-tells}
-use Rattle.lines.specs.Promises.{intoRoom, yearBlockAt, monthLineAt, monthItemAt, dayItemAt, Printed, PrintYear}
+use Rattle.lines.specs.Promises.{yearBlockAt, monthLineAt, monthItemAt, dayItemAt, Printed, PrintYear}
 use Rattle.lines.specs.Paper.{inLines}
 use Rattle.lines.specs.Paper as Paper
 

@@ -9,16 +9,15 @@ use lib.ListN.{length, take, drop}
 use lib.Seq.{take-append-seam}
 use borrow.Author.Tests.{le-leb, lt-leb}
 use Rattle.rule.specs.Lists.{placed}
-use Rattle.rule.specs.Reasons.{Answer, is, refused, guard, andThen, reasonNumber}
+use Rattle.rule.specs.Reasons.{Answer, is, refused, guard, andThen, reasonNumber, intoRoom}
 use Rattle.rule.specs.declared.Reason.{Reason}
 use Rattle.rule.specs.declared.Reason.the-variants.{LentTooShort}
 use Rattle.rule.proofs.Answers.{stops, passes}
 use Rattle.rule.proofs.Stores.{from-front}
 use Rattle.sheet.specs.declared.HowMany.{HowMany}
 use Rattle.sheet.specs.declared.HowMany.the-variants as HowMany'
-use Rattle.sheet.specs.Sheet.{afterwards}
 use Rattle.fields.specs.Fields.{Put}
-use Rattle.lines.specs.Promises.{intoRoom, Printed}
+use Rattle.lines.specs.Promises.{Printed}
 
 printed-as : {a b : Answer (List ℕ)} {o o′ : List ℕ} {r : HowMany} → a ≡ b → Printed a o r o′ → Printed b o r o′
 printed-as {o = o} {o′} {r} e p = subst (λ (x : Answer (List ℕ)). Printed x o r o′) e p

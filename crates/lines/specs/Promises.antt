@@ -5,15 +5,10 @@ use mathlib.Core.Path.{_≡_}
 use mathlib.Core.List.{List}
 use lib.Dec.{leb}
 use lib.ListN.{length}
-use Rattle.rule.specs.Reasons.{Answer, is, guard, within, andThen}
+use Rattle.rule.specs.Reasons.{Answer, is, guard, within, andThen, intoRoom, afterwards}
 use Rattle.sheet.specs.declared.HowMany.{HowMany}
 use Rattle.sheet.specs.Promises.{saidHowMany}
-use Rattle.sheet.specs.Sheet.{afterwards}
 use Rattle.lines.specs.Lines.{monthLined, yearBlock, monthItem, dayItem}
-
--- a text into a buffer of n bytes: 12 where it is too short for the whole
-abbrev pub intoRoom : ℕ → List ℕ → Answer (List ℕ)
-intoRoom n xs = guard (leb (length xs) n) 12 (is xs)
 
 -- what does not exist comes first, 12 last
 unfoldable pub yearBlockAt : ℕ → ℕ → Answer (List ℕ)

@@ -4,7 +4,7 @@ ghost use mathlib.Core.List.{[], _∷_};
 ghost use Prim.Native.Nat.{_+_, _*_, _≤_};
 ghost use lib.ListN.{length};
 ghost use Rattle.rule.specs.Counts.{YearInRange, MonthInRange, DayInRange};
-ghost use Rattle.rule.specs.Reasons.{reasonNumber};
+ghost use Rattle.rule.specs.Reasons.{reasonNumber, intoRoom};
 ghost use Rattle.rule.specs.Lists.{those};
 ghost use Rattle.rule.specs.Rule.{numberOf, leapMark};
 ghost use Rattle.fields.specs.Fields.{Put, decimal, mark, joined, each};
@@ -20,7 +20,7 @@ ghost use Rattle.lines.specs.Lines.{
   dayItem,
   refusedLine,
 };
-ghost use Rattle.lines.specs.Promises.{intoRoom, Printed, PrintYear, PrintMonthLine, PrintMonth, PrintDay};
+ghost use Rattle.lines.specs.Promises.{Printed, PrintYear, PrintMonthLine, PrintMonth, PrintDay};
 use dates::Date;
 use facts::MonthFacts;
 use facts::YearFacts;

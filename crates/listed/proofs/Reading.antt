@@ -8,7 +8,7 @@ use mathlib.Core.List.{List, [], _∷_, _++_}
 use lib.ListN.{length, getD, take, drop, length-append}
 use lib.Seq.{drop-drop}
 use Rattle.rule.specs.Lists.{placed}
-use Rattle.rule.specs.Reasons.{Answer, is, refused, refused-with, guard, andThen, reasonNumber}
+use Rattle.rule.specs.Reasons.{Answer, is, refused, refused-with, guard, andThen, reasonNumber, afterwards}
 use Rattle.rule.specs.declared.Reason.{Reason}
 use Rattle.sheet.specs.declared.Section.{Section}
 use Rattle.sheet.specs.declared.Counted.{Counted}
@@ -30,7 +30,6 @@ use Rattle.sheet.specs.Sheet.{
   readSheet,
   readInto,
   room,
-  afterwards,
 }
 use Rattle.sheet.specs.Promises.{saidCounts, counted, countsIn, ReadingSheet}
 use Rattle.sheet.specs.Paper.{InSection, GoodSection, GoodSections, GoodList, GoodLists}

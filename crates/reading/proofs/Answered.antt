@@ -8,12 +8,12 @@ use lib.Dec.{leb}
 use lib.ListN.{length}
 use borrow.Author.Tests.{leb-true, le-leb, lt-leb}
 use Rattle.rule.specs.Counts.{DayInRange}
-use Rattle.rule.specs.Reasons.{Answer, is, refused, refused-with}
+use Rattle.rule.specs.Reasons.{Answer, is, refused, refused-with, afterwards}
 use Rattle.rule.proofs.Answers.{both-true}
 use Rattle.reading.specs.declared.Reading.{Reading}
 use Rattle.reading.specs.declared.Found.{Found}
 use Rattle.reading.specs.Readings.{inRanges, windowDays, windowHolds, fitting}
-use Rattle.reading.specs.Search.{total, searchAt, saidFound, listAfter, Searched}
+use Rattle.reading.specs.Search.{total, searchAt, saidFound, Searched}
 
 -- a window: its last day is not before its first, and it has at most 27,759 days
 pub window-true : (first last : ℕ) → (windowHolds first last ≡ true) ↔ ((first ≤ last) × (windowDays first last ≤ 27759))
@@ -55,9 +55,9 @@ module _ (r : Reading) (first last room : ℕ) where
 
 -- the promise, from what is answered
 pub made : (r : Reading) (first last : ℕ) (old : List ℕ) (x : Answer ℕ) (a : Found) (new : List ℕ) →
-    searchAt r first last (length old) ≡ x → saidFound a ≡ x → new ≡ listAfter x (fitting r first (windowDays first last)) old → Searched r first last old a new
+    searchAt r first last (length old) ≡ x → saidFound a ≡ x → new ≡ afterwards x (λ n. fitting r first (windowDays first last)) old → Searched r first last old a new
 made r first last old x a new e f g =
     record {
       answered = f ∙ sym e;
-      lent = g ∙ ap (λ (y : Answer ℕ). listAfter y (fitting r first (windowDays first last)) old) (sym e);
+      lent = g ∙ ap (λ (y : Answer ℕ). afterwards y (λ n. fitting r first (windowDays first last)) old) (sym e);
     }

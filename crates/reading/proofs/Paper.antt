@@ -14,7 +14,7 @@ use borrow.Author.Tests.{eqb-true, eq-eqb, leb-true, leb-false, le-leb, lt-leb}
 use Rattle.rule.specs.Counts.{DayInRange, dayName, yearName}
 use Rattle.rule.specs.Lists.{those, placed}
 use Rattle.rule.specs.Rule.{monthStart, monthOfDay, yearOfMonth, leap, monthNumber}
-use Rattle.rule.specs.Reasons.{Answer, is, refused, refused-with, guard, reasonOf}
+use Rattle.rule.specs.Reasons.{Answer, is, refused, refused-with, guard, reasonOf, guard-with, afterwards}
 use Rattle.rule.proofs.Leap as Leaps
 use Rattle.rule.proofs.Lists.{those-same, length-all, has-place, at-place, rises, run-at}
 use Rattle.rule.proofs.Answers.{
@@ -50,7 +50,7 @@ use Rattle.reading.specs.Readings.{
   windowHolds,
   fitting,
 }
-use Rattle.reading.specs.Search.{total, withRoom, searchAt, saidFound, listAfter, Searched}
+use Rattle.reading.specs.Search.{total, searchAt, saidFound, Searched}
 use Rattle.reading.specs.Paper as Paper
 use Rattle.reading.specs.Paper.{
   sixOf,
@@ -162,7 +162,7 @@ answered-total r first last room n e =
     let c = holds-all (inRanges r) 14 _ n .0 (b .1) in
     go (leb (total r first last) room) (c .1)
   where
-    go : (t : Bool) → withRoom t (total r first last) ≡ is n → n ≡ total r first last
+    go : (t : Bool) → guard-with t 12 (total r first last) (is (total r first last)) ≡ is n → n ≡ total r first last
     go true f = let g : _≡_ {A = Answer ℕ} (is (total r first last)) (is n) = f in cc
     go false f = let g : _≡_ {A = Answer ℕ} (refused-with 12 (total r first last)) (is n) = f in absurd (let o : _≡_ {A = ℕ} 0 1 = cc in omega arith)
 
@@ -173,14 +173,14 @@ search-lists r first last n old new h s =
       days = fitting r first (windowDays first last);
       exactly = lists-exactly r first last h;
       counted = sym (answered-total r first last (length old) n (sym (s .answered)));
-      filled = s .lent ∙ ap (λ (x : Answer ℕ). listAfter x (fitting r first (windowDays first last)) old) (sym (s .answered));
+      filled = s .lent ∙ ap (λ (x : Answer ℕ). afterwards x (λ n. fitting r first (windowDays first last)) old) (sym (s .answered));
     }
 
 pub refusal-changes-nothing : Paper.Refusal-changes-nothing
 refusal-changes-nothing =
     record {
-      refused-one = λ r first last old new why s. s .lent ∙ ap (λ (x : Answer ℕ). listAfter x (fitting r first (windowDays first last)) old) (sym (s .answered));
-      too-short = λ r first last n old new s. s .lent ∙ ap (λ (x : Answer ℕ). listAfter x (fitting r first (windowDays first last)) old) (sym (s .answered));
+      refused-one = λ r first last old new why s. s .lent ∙ ap (λ (x : Answer ℕ). afterwards x (λ n. fitting r first (windowDays first last)) old) (sym (s .answered));
+      too-short = λ r first last n old new s. s .lent ∙ ap (λ (x : Answer ℕ). afterwards x (λ n. fitting r first (windowDays first last)) old) (sym (s .answered));
     }
 
 pub unread-lists-all : Paper.Unread-lists-all
@@ -266,13 +266,13 @@ module _ (r : Reading) (first last room : ℕ) where
   t = total r first last
 
   rest : Answer ℕ
-  rest = withRoom (leb t room) t
+  rest = guard-with (leb t room) 12 t (is t)
 
   never : (k : ℕ) → Beyond k rest
   unfolding rest t
   never k j = go (leb (total r first last) room)
     where
-      go : (b : Bool) → withRoom b (total r first last) ≡ refused j → k < j
+      go : (b : Bool) → guard-with b 12 (total r first last) (is (total r first last)) ≡ refused j → k < j
       go true e = let g : _≡_ {A = Answer ℕ} (is (total r first last)) (refused j) = e in absurd (let o : _≡_ {A = ℕ} 0 1 = cc in omega arith)
       go false e = let g : _≡_ {A = Answer ℕ} (refused-with 12 (total r first last)) (refused j) = e in absurd (let o : _≡_ {A = ℕ} 0 1 = cc in omega arith)
 
@@ -312,17 +312,17 @@ module _ (r : Reading) (first last room : ℕ) where
 
   short : (rest ≡ refused-with 12 t) ↔ (room < t)
   unfolding rest t
-  short = (there (leb (total r first last) room) refl, λ h. ap (λ (b : Bool). withRoom b (total r first last)) (lt-leb (total r first last) room h))
+  short = (there (leb (total r first last) room) refl, λ h. ap (λ (b : Bool). guard-with b 12 (total r first last) (is (total r first last))) (lt-leb (total r first last) room h))
     where
-      there : (b : Bool) → leb (total r first last) room ≡ b → withRoom b (total r first last) ≡ refused-with 12 (total r first last) → room < total r first last
+      there : (b : Bool) → leb (total r first last) room ≡ b → guard-with b 12 (total r first last) (is (total r first last)) ≡ refused-with 12 (total r first last) → room < total r first last
       there true e f = let g : _≡_ {A = Answer ℕ} (is (total r first last)) (refused-with 12 (total r first last)) = f in absurd (let o : _≡_ {A = ℕ} 0 1 = cc in omega arith)
       there false e f = leb-false (total r first last) room e
 
   enough : (rest ≡ is t) ↔ (t ≤ room)
   unfolding rest t
-  enough = (there (leb (total r first last) room) refl, λ h. ap (λ (b : Bool). withRoom b (total r first last)) (le-leb (total r first last) room h))
+  enough = (there (leb (total r first last) room) refl, λ h. ap (λ (b : Bool). guard-with b 12 (total r first last) (is (total r first last))) (le-leb (total r first last) room h))
     where
-      there : (b : Bool) → leb (total r first last) room ≡ b → withRoom b (total r first last) ≡ is (total r first last) → total r first last ≤ room
+      there : (b : Bool) → leb (total r first last) room ≡ b → guard-with b 12 (total r first last) (is (total r first last)) ≡ is (total r first last) → total r first last ≤ room
       there true e f = leb-true (total r first last) room e
       there false e f = let g : _≡_ {A = Answer ℕ} (refused-with 12 (total r first last)) (is (total r first last)) = f in absurd (let o : _≡_ {A = ℕ} 0 1 = cc in omega arith)
 

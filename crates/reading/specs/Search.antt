@@ -6,7 +6,7 @@ use mathlib.Core.List.{List}
 use lib.Dec.{leb}
 use lib.ListN.{length}
 use Rattle.rule.specs.Lists.{placed}
-use Rattle.rule.specs.Reasons.{Answer, is, refused, refused-with, guard, reasonNumber}
+use Rattle.rule.specs.Reasons.{Answer, is, refused, refused-with, guard, reasonNumber, guard-with, afterwards}
 use Rattle.reading.specs.declared.Reading.{Reading}
 use Rattle.reading.specs.declared.Found.{Found}
 use Rattle.reading.specs.declared.Found.the-variants.{Is, TooShort, Refused}
@@ -16,31 +16,20 @@ use Rattle.reading.specs.Readings.{inRanges, windowDays, windowHolds, fi
 unfoldable pub total : Reading → ℕ → ℕ → ℕ
 total r first last = length (fitting r first (windowDays first last))
 
--- with room for the total it is the answer; else reason 12, and the true total
-abbrev pub withRoom : Bool → ℕ → Answer ℕ
-withRoom true n = is n
-withRoom false n = refused-with 12 n
-
 -- "Search: 6 for either end, 13, 14 in field order, 12."
 unfoldable pub searchAt : Reading → ℕ → ℕ → ℕ → Answer ℕ
 searchAt r first last room =
     guard (leb first 14989859 && leb last 14989859) 6
     (guard (windowHolds first last) 13
     (guard (inRanges r) 14
-    (withRoom (leb (total r first last) room) (total r first last))))
+    (guard-with (leb (total r first last) room) 12 (total r first last) (is (total r first last)))))
 
 abbrev pub saidFound : Found → Answer ℕ
 saidFound (Is n) = is n
 saidFound (TooShort n) = refused-with 12 n
 saidFound (Refused r) = refused (reasonNumber r)
 
--- the list after the call: the days at its front where it is answered, as before where it is refused
-abbrev pub listAfter : Answer ℕ → List ℕ → List ℕ → List ℕ
-listAfter (is n) days old = placed days old
-listAfter (refused k) days old = old
-listAfter (refused-with k n) days old = old
-
 -- what a search promises
 pub record Searched (r : Reading) (first last : ℕ) (old : List ℕ) (answer : Found) (new : List ℕ) : Type 0 where
   pub answered : saidFound answer ≡ searchAt r first last (length old)
-  pub lent : new ≡ listAfter (searchAt r first last (length old)) (fitting r first (windowDays first last)) old
+  pub lent : new ≡ afterwards (searchAt r first last (length old)) (λ n. fitting r first (windowDays first last)) old

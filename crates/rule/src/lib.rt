@@ -2,7 +2,6 @@
 // All of these are inner: what asks for a range in its `requires` is called where the range has been tested.
 ghost use mathlib.Core.Path.{_≡_};
 ghost use Prim.Native.Nat.{_+_, _≤_, _<_};
-ghost use lib.ListN.{getD};
 ghost use Rattle.rule.specs.Counts.{YearInRange, DayInRange, MonthInRange, dayName, yearName, ji, bu, yearInBu, headName};
 ghost use Rattle.rule.specs.Rule.{
   monthStart,
@@ -24,7 +23,7 @@ ghost use Rattle.rule.specs.Rule.{
   numberOf,
   leapMark,
   eclipse,
-  printedList,
+  FollowsMonthRule,
 };
 ghost use Rattle.rule.specs.Reasons.{reasonNumber, within};
 
@@ -279,17 +278,25 @@ pub fn is_eclipse(n: u32) -> bool
     23 * (n + 1) % 135 < 23
 }
 
-// An entry of the printed list of a bu.
+// The printed list of a bu. That its 940 numerals follow the month rule is computed here, once for all.
+fn printed_list() -> [u16; 940]
+    ensures { λ r. ⌜ FollowsMonthRule r ⌝ }
+{
+    PRINTED
+}
+
+// An entry of the printed list.
 pub fn printed_day(k: u16) -> u16
     requires { ⌜ k < 940 ⌝ }
-    ensures { λ r. ⌜ r ≡ getD printedList k 0 ⌝ }
+    ensures { λ r. ⌜ r ≡ monthStart k ⌝ }
 {
-    PRINTED[k as usize]
+    let list = printed_list();
+    list[k as usize]
 }
 
 // The look along the printed list, which is lent: the last entry that is not after a day counted from the bu's head, found by halving.
 fn place_in(list: &[u16; 940], d: u16) -> u16
-    requires { ⌜ (now list ≡ printedList) × (d < 27759) ⌝ }
+    requires { ⌜ FollowsMonthRule (now list) × (d < 27759) ⌝ }
     ensures { λ r. ⌜ r ≡ monthOfDay d ⌝ }
 {
     let mut low: u16 = 0;
@@ -310,7 +317,8 @@ fn place_in_list(d: u16) -> u16
     requires { ⌜ d < 27759 ⌝ }
     ensures { λ r. ⌜ r ≡ monthOfDay d ⌝ }
 {
-    place_in(&PRINTED, d)
+    let list = printed_list();
+    place_in(&list, d)
 }
 
 // The month that a day is in: 940 for each whole bu before it, and its place in the printed list.

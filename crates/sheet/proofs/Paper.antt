@@ -9,7 +9,7 @@ use lib.ListN.{length, take, drop, length-append, length-drop, replicate, length
 use lib.Dec.{leb}
 use lib.Seq.{take-at}
 use borrow.Author.Tests.{le-leb, lt-leb}
-use Rattle.rule.specs.Reasons.{Answer, is, refused, refused-with, guard, andThen, reasonNumber, reasonOf}
+use Rattle.rule.specs.Reasons.{Answer, is, refused, refused-with, guard, andThen, reasonNumber, reasonOf, afterwards}
 use Rattle.rule.proofs.Answers.{reason-back, read-back, once, stops, passes}
 use Rattle.sheet.specs.declared.Section.{Section}
 use Rattle.sheet.specs.declared.Counted.{Counted}
@@ -43,7 +43,6 @@ use Rattle.sheet.specs.Sheet.{
   readSheet,
   readInto,
   room,
-  afterwards,
   itemsWritten,
   sectionWritten,
   listsWritten,

@@ -8,7 +8,7 @@ use lib.Dec.{leb}
 use lib.ListN.{length, drop}
 use lib.Seq.{sets}
 use borrow.Author.Tests.{leb-true, le-leb, lt-leb}
-use Rattle.rule.specs.Reasons.{Answer, is, refused, refused-with, guard, andThen, reasonNumber}
+use Rattle.rule.specs.Reasons.{Answer, is, refused, refused-with, guard, andThen, reasonNumber, afterwards}
 use Rattle.rule.specs.declared.Reason.{Reason}
 use Rattle.rule.proofs.Answers.{stops, passes, holds-all, failed, passed}
 use Rattle.sheet.specs.declared.Counted.{Counted}
@@ -32,7 +32,6 @@ use Rattle.sheet.specs.Sheet.{
   sheetRead,
   room,
   readInto,
-  afterwards,
   sectionWritten,
   listsWritten,
   sheetOf,

@@ -4,13 +4,13 @@ use Prim.Native.Nat.{ℕ}
 use mathlib.Core.Path.{_≡_}
 use mathlib.Core.List.{List}
 use lib.ListN.{length}
-use Rattle.rule.specs.Reasons.{Answer, is, refused, reasonNumber, andThen}
+use Rattle.rule.specs.Reasons.{Answer, is, refused, reasonNumber, andThen, afterwards}
 use Rattle.sheet.specs.declared.Counted.{Counted}
 use Rattle.sheet.specs.declared.SheetCounts.{SheetCounts}
 use Rattle.sheet.specs.declared.SheetCounts.the-variants as Counts'
 use Rattle.sheet.specs.declared.HowMany.{HowMany}
 use Rattle.sheet.specs.declared.HowMany.the-variants as HowMany'
-use Rattle.sheet.specs.Sheet.{Lists, countOf, monthsPart, daysPart, readInto, writeInto, afterwards}
+use Rattle.sheet.specs.Sheet.{Lists, countOf, monthsPart, daysPart, readInto, writeInto}
 
 abbrev pub saidCounts : SheetCounts → Answer Counted
 saidCounts (Counts'.Is c) = is c

@@ -6,7 +6,7 @@ use mathlib.Core.List.{List, [], _∷_, _++_}
 use lib.Dec.{leb}
 use lib.ListN.{length, getD, drop}
 use Rattle.rule.specs.Lists.{placed}
-use Rattle.rule.specs.Reasons.{Answer, is, refused, refused-with, guard, andThen, within, reasonNumber}
+use Rattle.rule.specs.Reasons.{Answer, is, refused, refused-with, guard, andThen, within, reasonNumber, intoRoom}
 use Rattle.rule.specs.declared.Reason.the-variants.{NoSuchYear, NoSuchMonth, NoSuchDay}
 use Rattle.sheet.specs.declared.Section.{Section}
 
@@ -131,10 +131,4 @@ writeSheet l = listsWritten l (is (sheetOf l))
 
 -- writing into a lent buffer of n bytes: 12 last
 unfoldable pub writeInto : Lists → ℕ → Answer (List ℕ)
-writeInto l n = listsWritten l (guard (leb (length (sheetOf l)) n) 12 (is (sheetOf l)))
-
--- "Both leave places beyond what they fill untouched": a lent list after the call is what the answer fills it with, and as it was where the query comes back
-abbrev pub afterwards : {A : Type 0} → Answer A → (A → List ℕ) → List ℕ → List ℕ
-afterwards (is a) f old = placed (f a) old
-afterwards (refused k) f old = old
-afterwards (refused-with k n) f old = old
+writeInto l n = listsWritten l (intoRoom n (sheetOf l))

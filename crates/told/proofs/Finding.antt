@@ -9,7 +9,7 @@ use lib.ListN.{length, getD, take, drop, length-append, List·getD-append}
 use borrow.Author.Tests.{le-leb}
 use Rattle.rule.specs.Counts.{DayInRange}
 use Rattle.rule.specs.Lists.{placed}
-use Rattle.rule.specs.Reasons.{Answer, is, refused, refused-with, guard}
+use Rattle.rule.specs.Reasons.{Answer, is, refused, refused-with, guard, guard-with, afterwards}
 use Rattle.rule.proofs.Answers.{fails-later, goes-on, holds-all, holds-with, given-not}
 use Rattle.rule.proofs.Lists.{complement, at-place}
 use Rattle.told.specs.Answers.{places}
@@ -19,7 +19,7 @@ use Rattle.reading.specs.declared.Reading.{Reading}
 use Rattle.reading.specs.declared.Found.{Found}
 use Rattle.reading.specs.declared.Found.the-variants.{Is}
 use Rattle.reading.specs.Readings.{inRanges, fits, windowDays, windowHolds, fitting}
-use Rattle.reading.specs.Search.{total, withRoom, searchAt, saidFound, listAfter, Searched}
+use Rattle.reading.specs.Search.{total, searchAt, saidFound, Searched}
 use Rattle.reading.proofs.Answered.{window-true, ends-true}
 
 -- as many days fit at most as the window has
@@ -39,12 +39,12 @@ room-enough r first last room h = ap (guard (leb first 14989859 && leb last 1498
     t = total r first last
 
     go : (b : Bool) → windowHolds first last ≡ b →
-        guard b 13 (guard (inRanges r) 14 (withRoom (leb t room) t)) ≡ guard b 13 (guard (inRanges r) 14 (withRoom (leb t places) t))
+        guard b 13 (guard (inRanges r) 14 (guard-with (leb t room) 12 t (is t))) ≡ guard b 13 (guard (inRanges r) 14 (guard-with (leb t places) 12 t (is t)))
     go false e = refl
     go true e =
         let w = window-true first last .0 e in
         let f = searched-few r first last w in
-        ap (λ (b : Bool). guard (inRanges r) 14 (withRoom b t)) (le-leb t room (omega arith) ∙ sym (le-leb t places f))
+        ap (λ (b : Bool). guard (inRanges r) 14 (guard-with b 12 t (is t))) (le-leb t room (omega arith) ∙ sym (le-leb t places f))
 
 -- and none is refused for want of a place
 pub searched-never-with : (r : Reading) (first last : ℕ) → NeverWith (searchAt r first last places)
@@ -54,7 +54,7 @@ searched-never-with r first last j n e =
     let b = holds-with (windowHolds first last) 13 j n _ .0 (a .1) in
     let c = holds-with (inRanges r) 14 j n _ .0 (b .1) in
     let f = le-leb (total r first last) places (searched-few r first last (window-true first last .0 (b .0))) in
-    never-is (total r first last) j n (ap (λ (t : Bool). withRoom t (total r first last)) (sym f) ∙ c .1)
+    never-is (total r first last) j n (ap (λ (t : Bool). guard-with t 12 (total r first last) (is (total r first last))) (sym f) ∙ c .1)
 
 pub searched-not-twelve : (r : Reading) (first last : ℕ) → searchAt r first last places ≡ refused 12 → ⊥
 unfolding searchAt
@@ -63,8 +63,8 @@ searched-not-twelve r first last e =
     let b = goes-on (windowHolds first last) 13 _ (refused 12) (other 13 (λ f. omega (arith, f))) .0 (a .1) in
     let c = goes-on (inRanges r) 14 _ (refused 12) (other 14 (λ f. omega (arith, f))) .0 (b .1) in
     let f = le-leb (total r first last) places (searched-few r first last (window-true first last .0 (b .0))) in
-    given-not (withRoom (leb (total r first last) places) (total r first last)) (total r first last) 12
-    (ap (λ (t : Bool). withRoom t (total r first last)) f) (c .1)
+    given-not (guard-with (leb (total r first last) places) 12 (total r first last) (is (total r first last))) (total r first last) 12
+    (ap (λ (t : Bool). guard-with t 12 (total r first last) (is (total r first last))) f) (c .1)
   where
     other : (k : ℕ) → (k ≡ 12 → ⊥) → _≡_ {A = Answer ℕ} (refused k) (refused 12) → ⊥
     other k n g = n (cc)
@@ -87,7 +87,7 @@ answered-with r first last room n e =
       counted = go (leb (total r first last) room) (c .1);
     }
   where
-    go : (t : Bool) → withRoom t (total r first last) ≡ is n → n ≡ total r first last
+    go : (t : Bool) → guard-with t 12 (total r first last) (is (total r first last)) ≡ is n → n ≡ total r first last
     go true f = let g : _≡_ {A = Answer ℕ} (is (total r first last)) (is n) = f in cc
     go false f = let g : _≡_ {A = Answer ℕ} (refused-with 12 (total r first last)) (is n) = f in absurd (let o : _≡_ {A = ℕ} 0 1 = cc in omega arith)
 
@@ -108,7 +108,7 @@ module _ {r : Reading} {first last : ℕ} {old new : List ℕ} {a : Found} (s : 
 
   filled : new ≡ placed days old
   unfolding days
-  filled = s .lent ∙ ap (λ (x : Answer ℕ). listAfter x (fitting r first (windowDays first last)) old) said
+  filled = s .lent ∙ ap (λ (x : Answer ℕ). afterwards x (λ n. fitting r first (windowDays first last)) old) said
 
   pub found-days : take n new ≡ fitting r first (windowDays first last)
   unfolding days

@@ -37,7 +37,7 @@ use Rattle.planets.specs.Paper.{Planet}
 use Rattle.planets.proofs.Paper as Planets
 use Rattle.reading.specs.declared.Reading.{Reading}
 use Rattle.reading.specs.Readings.{inRanges, windowDays, windowHolds, fitting}
-use Rattle.reading.specs.Search.{total, withRoom, searchAt}
+use Rattle.reading.specs.Search.{total, searchAt}
 use Rattle.reading.proofs.Paper as Searches
 use Rattle.fields.specs.Fields.{word, decimal, followed, lined, each}
 use Rattle.lines.specs.Lines.{fieldsOfYear}

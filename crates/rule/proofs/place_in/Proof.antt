@@ -8,7 +8,6 @@ use lib.ListN.{getD}
 use native.Mathlib.Omega.{arith}
 use Rattle.rule.specs.Rule.{monthStart}
 use Rattle.rule.proofs.Months.{of-day-only}
-use Rattle.rule.proofs.Paper.{printed-list-follows}
 use Rattle.rule.proofs.place_in.Statement.{statement}
 use Rattle.rule.proofs.place_in.Tie as tie
 use Rattle.rule.proofs.place_in.Reads as reads
@@ -47,7 +46,7 @@ abbrev place : tie.In-loop Inv-loop μ-loop → ℕ
 place c = c .before .loop .low + (c .before .loop .high - c .before .loop .low) / 2
 
 middle : (c : tie.In-loop Inv-loop μ-loop) → getD (now (c .before .before .args .list)) (place c) 0 ≡ monthStart (place c)
-middle c = ap (λ (l : List ℕ). getD l (place c) 0) (c .before .before .pre .0) ∙ printed-list-follows .entry (place c) (omega arith)
+middle c = c .before .before .pre .0 .entry (place c) (omega arith)
 
 loop-less : tie.Need-loop-less Inv-loop μ-loop
 loop-less c = omega arith
