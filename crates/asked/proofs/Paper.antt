@@ -11,7 +11,7 @@ use borrow.Author.Tests.{eqb-true, eqb-false, ne-eqb}
 use Rattle.fields.specs.Fields.{word, digits, decimal, followed, joined}
 use Rattle.fields.specs.Paper.{valueFrom}
 use Rattle.fields.proofs.Paper.{decimal-reads-back, one-decimal, decimal-tells}
-use Rattle.asked.specs.declared.Field.{Field}
+use Rattle.asked.specs.declared.Token.{Token}
 use Rattle.asked.specs.Asked.{inFrontOf, fieldsIn, allDigits, leads, isDecimal, like, isBack, keyword, fieldRead}
 use Rattle.asked.specs.Paper.{
   NoSpace,
@@ -116,7 +116,7 @@ read-back s =
     (choose K (like (word "SEARCH") s) (λ e. inr (exact (word "SEARCH") s refl e))
     (inl refl))))))))))))))))
   where
-    P : Field → Type 0
+    P : Token → Type 0
     P r = (r .kind ≡ 120) ⊎ (s ≡ textOf (r .kind) (r .value))
 
     K : ℕ → Type 0

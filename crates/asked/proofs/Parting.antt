@@ -9,8 +9,8 @@ use lib.Dec.{eqb}
 use lib.ListN.{length, take, drop, set, length-drop, length-set}
 use lib.Seq.{sets, drop-drop, length-sets}
 use Rattle.capped.specs.Capped.{capped}
-use Rattle.asked.specs.Asked.{firstField, inFrontOf, fieldsIn, fieldRead, cappedField, kindsOf, valuesOf, allCapped}
-use Rattle.asked.specs.declared.Field.{Field}
+use Rattle.asked.specs.Asked.{firstField, inFrontOf, fieldsIn, fieldRead, cappedToken, kindsOf, valuesOf, allCapped}
+use Rattle.asked.specs.declared.Token.{Token}
 
 -- the first field's length, its bytes, and what stands after it
 abbrev ends : List ℕ → ℕ
@@ -91,17 +91,17 @@ module _ (line : List ℕ) (from to : ℕ) (r : from ≤ length line) (e : to �
       ∙ ap₂ (λ (l k : List ℕ). l ∷ fieldsIn k) (sym the-part) (drop-drop (suc (ends (drop from line))) from line ∙ ap (λ (j : ℕ). drop j line) {x = from + suc (ends (drop from line))} {y = to + 1} (omega (arith, e)))
 
 -- the kinds and the values of a field and of those after it, put one after the other
-module _ (f : List ℕ) (fs gs : List (List ℕ)) (e : fs ≡ f ∷ gs) (q : Field) (h : q ≡ cappedField (fieldRead f)) (ks vs : List ℕ) (n : ℕ) where
+module _ (f : List ℕ) (fs gs : List (List ℕ)) (e : fs ≡ f ∷ gs) (q : Token) (h : q ≡ cappedToken (fieldRead f)) (ks vs : List ℕ) (n : ℕ) where
   pub how-many : length fs ≡ length gs + 1
   how-many = omega (arith, ap length e)
 
   pub kinds-put : sets (set ks n (q .kind)) (n + 1) (kindsOf gs) ≡ sets ks n (kindsOf fs)
   unfolding kindsOf
-  kinds-put = rw (e) (ap₂ (λ (k j : ℕ). sets (set ks n k) j (kindsOf gs)) (ap (λ (p : Field). p .kind) h) (add-one n))
+  kinds-put = rw (e) (ap₂ (λ (k j : ℕ). sets (set ks n k) j (kindsOf gs)) (ap (λ (p : Token). p .kind) h) (add-one n))
 
   pub values-put : sets (set vs n (q .value)) (n + 1) (allCapped (valuesOf gs)) ≡ sets vs n (allCapped (valuesOf fs))
   unfolding valuesOf allCapped
-  values-put = rw (e) (ap₂ (λ (k j : ℕ). sets (set vs n k) j (allCapped (valuesOf gs))) (ap (λ (p : Field). p .value) h) (add-one n))
+  values-put = rw (e) (ap₂ (λ (k j : ℕ). sets (set vs n k) j (allCapped (valuesOf gs))) (ap (λ (p : Token). p .value) h) (add-one n))
 
 -- how many there are
 pub fields-few : (s : List ℕ) → length (fieldsIn s) ≤ length s + 1

@@ -8,7 +8,7 @@ use lib.ListN.{drop}
 use Rattle.rule.specs.Reasons.{within}
 use Rattle.fields.specs.Fields.{word}
 use Rattle.fields.specs.Paper.{valueFrom}
-use Rattle.asked.specs.declared.Field.{Field}
+use Rattle.asked.specs.declared.Token.{Token}
 use Rattle.capped.specs.Capped.{capped}
 
 -- what stands before the first space, and whether there is a space
@@ -77,7 +77,7 @@ keyword s =
     (cond (like (word "SEARCH") s) 83 120))))))))))
 
 -- a field's kind and value: a number's own; of a mark 1 for ordinary and 2 for leap; of any other 0
-unfoldable pub fieldRead : List ℕ → Field
+unfoldable pub fieldRead : List ℕ → Token
 fieldRead s =
     cond (isDecimal s) (record { kind = 110; value = valueFrom 0 s })
     (cond (isBack s) (record { kind = 98; value = valueFrom 0 (drop 1 s) })
@@ -87,8 +87,8 @@ fieldRead s =
     (record { kind = keyword s; value = 0 })))))
 
 -- the same with its number cut down
-abbrev pub cappedField : Field → Field
-cappedField f = record { kind = f .kind; value = capped (f .value) }
+abbrev pub cappedToken : Token → Token
+cappedToken f = record { kind = f .kind; value = capped (f .value) }
 
 -- the kinds and the values of a line's fields
 unfoldable pub kindsOf : List (List ℕ) → List ℕ

@@ -5,7 +5,7 @@ use mathlib.Core.Bool.{cond}
 use mathlib.Core.Logic.{_⊎_}
 use mathlib.Core.List.{List, [], _∷_}
 use lib.Dec.{eqb}
-use Rattle.fields.specs.Fields.{word, decimal, joined}
+use Rattle.fields.specs.Fields.{word, decimal, leapText, joined}
 use Rattle.asked.specs.Asked.{fieldsIn, fieldRead}
 
 -- a text without a space, and such texts
@@ -29,10 +29,6 @@ Fields-without-spaces = (s : List ℕ) → NoSpaces (fieldsIn s)
 abbrev pub Joined-parts : Type 0
 Joined-parts = (f : List ℕ) (fs : List (List ℕ)) → NoSpaces (f ∷ fs) → fieldsIn (joined (f ∷ fs)) ≡ f ∷ fs
 
--- "a mark is `-` (ordinary) or `L` (leap)": 2 is leap
-abbrev pub markOf : ℕ → List ℕ
-markOf v = cond (eqb v 2) (word "L") (word "-")
-
 -- the eleven words by their letters
 abbrev pub wordOf : ℕ → List ℕ
 wordOf k =
@@ -48,12 +44,12 @@ wordOf k =
     (cond (eqb k 86) (word "MOVE")
     (cond (eqb k 83) (word "SEARCH") []))))))))))
 
--- the one text of a field of a kind and with a value: `n` is 110, `b` 98, `m` 109
+-- the one text of a field of a kind and with a value: `n` is 110, `b` 98, `m` 109; "a mark is `-` (ordinary) or `L` (leap)", 2 is leap
 unfoldable pub textOf : ℕ → ℕ → List ℕ
 textOf k v =
     cond (eqb k 110) (decimal v)
     (cond (eqb k 98) (45 ∷ decimal v)
-    (cond (eqb k 109) (markOf v)
+    (cond (eqb k 109) (leapText (eqb v 2))
     (cond (eqb k 63) (word "?")
     (wordOf k))))
 

@@ -17,14 +17,14 @@ ghost use Rattle.asked.specs.Asked.{
   isBack,
   keyword,
   fieldRead,
-  cappedField,
+  cappedToken,
   kindsOf,
   valuesOf,
   allCapped,
 };
 
 // What a field is: a letter for its kind, and its value.
-pub struct Field {
+pub struct Token {
     pub kind: u8,
     pub value: u32,
 }
@@ -174,37 +174,37 @@ fn keyword(s: &[u8]) -> u8
 }
 
 // What a field is.
-fn read_field(s: &[u8]) -> Field
-    ensures { λ r. ⌜ r ≡ cappedField (fieldRead (now (s .entry))) ⌝ }
+fn read_field(s: &[u8]) -> Token
+    ensures { λ r. ⌜ r ≡ cappedToken (fieldRead (now (s .entry))) ⌝ }
 {
     if is_decimal(s) {
-        return Field {
+        return Token {
             kind: 110,
             value: value_of(s),
         };
     }
     if is_back(s) {
-        return Field {
+        return Token {
             kind: 98,
             value: value_of(&s[1..]),
         };
     }
     if is_like(b"-", s) {
-        return Field {
+        return Token {
             kind: 109,
             value: 1,
         };
     }
     if is_like(b"L", s) {
-        return Field {
+        return Token {
             kind: 109,
             value: 2,
         };
     }
     if is_like(b"?", s) {
-        return Field { kind: 63, value: 0 };
+        return Token { kind: 63, value: 0 };
     }
-    Field {
+    Token {
         kind: keyword(s),
         value: 0,
     }

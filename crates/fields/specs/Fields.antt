@@ -34,6 +34,17 @@ abbrev pub mark : Bool → ℕ → ℕ
 mark true letter = letter
 mark false letter = 45
 
+-- the letters of the two marks: "`L` for leap", "`E` for eclipse month"
+abbrev pub letterL : ℕ
+letterL = 76
+
+abbrev pub letterE : ℕ
+letterE = 69
+
+-- the text of a leap mark
+abbrev pub leapText : Bool → List ℕ
+leapText l = mark l letterL ∷ []
+
 -- "Single spaces": fields, a space between two of them
 unfoldable pub followed : List ℕ → List (List ℕ) → List ℕ
 followed f [] = f

@@ -8,7 +8,7 @@ use mathlib.Core.List.{List, [], _∷_}
 use lib.Dec.{eqb}
 use borrow.Author.Tests.{eqb-true, eqb-false}
 use Rattle.reading.specs.declared.Field.{Field}
-use Rattle.fields.specs.Fields.{word, decimal, joined}
+use Rattle.fields.specs.Fields.{word, decimal, leapText, joined}
 use Rattle.asked.specs.Asked.{fieldsIn, admits, like, fieldRead, kindsOf}
 use Rattle.asked.specs.Paper.{textOf}
 use Rattle.asked.proofs.Texts.{both, choose}
@@ -18,7 +18,6 @@ use Rattle.queries.specs.Paper.{
   MarkRead,
   read,
   unread,
-  markText,
   moveNumber,
   fieldText,
   markReadText,
@@ -69,13 +68,9 @@ a-number : (f : List ℕ) → kind f ≡ 110 → f ≡ decimal (value f)
 unfolding textOf
 a-number f e = the-text 110 f e refl
 
-a-mark : (f : List ℕ) → kind f ≡ 109 → f ≡ markText (isLeap (value f))
+a-mark : (f : List ℕ) → kind f ≡ 109 → f ≡ leapText (isLeap (value f))
 unfolding textOf
-a-mark f e = the-text 109 f e refl ∙ go (eqb (value f) 2)
-  where
-    go : (t : Bool) → cond t (word "L") (word "-") ≡ markText t
-    go true = refl
-    go false = refl
+a-mark f e = the-text 109 f e refl
 
 an-unread : (f : List ℕ) → kind f ≡ 63 → f ≡ word "?"
 unfolding textOf
@@ -89,7 +84,7 @@ either false b e = inr e
 number-at : (f : List ℕ) → admits 110 (kind f) ≡ true → f ≡ decimal (value f)
 number-at f e = a-number f (sym (eqb-true 110 (kind f) e))
 
-mark-at : (f : List ℕ) → admits 109 (kind f) ≡ true → f ≡ markText (isLeap (value f))
+mark-at : (f : List ℕ) → admits 109 (kind f) ≡ true → f ≡ leapText (isLeap (value f))
 mark-at f e = a-mark f (sym (eqb-true 109 (kind f) e))
 
 field-at : (f : List ℕ) → admits 102 (kind f) ≡ true → f ≡ fieldText (fieldBy (kind f) (value f))

@@ -10,8 +10,8 @@ use borrow.Author.Tests.{le-leb}
 use Rattle.reading.specs.declared.Field.{Field}
 use Rattle.reading.specs.declared.Field.the-variants.{Known, Unread}
 use Rattle.reading.specs.Readings.{markNumber}
-use Rattle.fields.specs.Fields.{word, decimal, joined}
-use Rattle.asked.specs.declared.Field.{Field as Asked}
+use Rattle.fields.specs.Fields.{word, decimal, leapText, joined}
+use Rattle.asked.specs.declared.Token.{Token}
 use Rattle.asked.specs.Asked.{fieldsIn, admits, like, kindsOf, valuesOf}
 use Rattle.asked.specs.Paper.{NoSpace, one-more, NoSpaces, no-field, field-more, Reads}
 use Rattle.asked.proofs.Texts.{spaceless, no-space, decimal-no-space}
@@ -21,7 +21,6 @@ use Rattle.queries.specs.Paper.{
   MarkRead,
   read,
   unread,
-  markText,
   moveNumber,
   fieldText,
   markReadText,
@@ -61,12 +60,12 @@ no-spaces (next i a) = field-more (i .clear) (no-spaces a)
 pub kinds-are : {fs : List (List ℕ)} {ks vs : List ℕ} → Are fs ks vs → kindsOf fs ≡ ks
 unfolding kindsOf
 kinds-are end = refl
-kinds-are (next i a) = ap₂ (λ (k : ℕ) (l : List ℕ). k ∷ l) (ap (λ (q : Asked). q .kind) (i .reads)) (kinds-are a)
+kinds-are (next i a) = ap₂ (λ (k : ℕ) (l : List ℕ). k ∷ l) (ap (λ (q : Token). q .kind) (i .reads)) (kinds-are a)
 
 pub values-are : {fs : List (List ℕ)} {ks vs : List ℕ} → Are fs ks vs → valuesOf fs ≡ vs
 unfolding valuesOf
 values-are end = refl
-values-are (next i a) = ap₂ (λ (v : ℕ) (l : List ℕ). v ∷ l) (ap (λ (q : Asked). q .value) (i .reads)) (values-are a)
+values-are (next i a) = ap₂ (λ (v : ℕ) (l : List ℕ). v ∷ l) (ap (λ (q : Token). q .value) (i .reads)) (values-are a)
 
 -- a line with such fields has them, and their answer
 pub parted : {f : List ℕ} {fs : List (List ℕ)} {ks vs : List ℕ} → Are (f ∷ fs) ks vs → fieldsIn (joined (f ∷ fs)) ≡ f ∷ fs
@@ -76,7 +75,7 @@ parted {f} {fs} a = joined-parts f fs (no-spaces a)
 is-number : (n : ℕ) → Is (decimal n) 110 n
 is-number n = record { clear = decimal-no-space n; reads = all-read .number n }
 
-is-mark : (l : Bool) → Is (markText l) 109 (markNumber l)
+is-mark : (l : Bool) → Is (leapText l) 109 (markNumber l)
 unfolding spaceless
 is-mark true = record { clear = no-space (word "L") refl; reads = all-read .leap }
 is-mark false = record { clear = no-space (word "-") refl; reads = all-read .ordinary }

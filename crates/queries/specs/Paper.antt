@@ -9,7 +9,7 @@ use lib.ListN.{length, take}
 use Rattle.reading.specs.declared.Field.{Field}
 use Rattle.reading.specs.declared.Field.the-variants.{Known, Unread}
 use Rattle.reading.specs.Readings.{markNumber}
-use Rattle.fields.specs.Fields.{word, decimal, joined}
+use Rattle.fields.specs.Fields.{word, decimal, leapText, joined}
 use Rattle.told.specs.Answers.{
   placeText,
   yearText,
@@ -44,11 +44,6 @@ pub data Query : Type 0 where
   move : (y k : ℕ) (l : Bool) (m : ℕ) (n : ℤ) → Query
   search : (year-name number : Field) (l : MarkRead) (day-of-month day-name first-name : Field) (first last : ℕ) → Query
 
--- "a mark is `-` (ordinary) or `L` (leap)"
-abbrev pub markText : Bool → List ℕ
-markText true = word "L"
-markText false = word "-"
-
 -- "a move's number may start with `-`"
 abbrev pub moveNumber : ℤ → List ℕ
 moveNumber (pos n) = decimal n
@@ -60,7 +55,7 @@ fieldText (Known n) = decimal n
 fieldText Unread = word "?"
 
 abbrev pub markReadText : MarkRead → List ℕ
-markReadText (read l) = markText l
+markReadText (read l) = leapText l
 markReadText unread = word "?"
 
 -- the fields of each query, as the table shows them
@@ -73,8 +68,8 @@ fieldsOf (term y k) = word "TERM" ∷ decimal y ∷ decimal k ∷ []
 fieldsOf (conjunction p k) = word "CONJUNCTION" ∷ decimal p ∷ decimal k ∷ []
 fieldsOf (next p d) = word "NEXT" ∷ decimal p ∷ decimal d ∷ []
 fieldsOf (day d) = word "DAY" ∷ decimal d ∷ []
-fieldsOf (date y k l m) = word "DATE" ∷ decimal y ∷ decimal k ∷ markText l ∷ decimal m ∷ []
-fieldsOf (move y k l m n) = word "MOVE" ∷ decimal y ∷ decimal k ∷ markText l ∷ decimal m ∷ moveNumber n ∷ []
+fieldsOf (date y k l m) = word "DATE" ∷ decimal y ∷ decimal k ∷ leapText l ∷ decimal m ∷ []
+fieldsOf (move y k l m n) = word "MOVE" ∷ decimal y ∷ decimal k ∷ leapText l ∷ decimal m ∷ moveNumber n ∷ []
 fieldsOf (search a b l c d e first last) =
     word "SEARCH" ∷ fieldText a ∷ fieldText b ∷ markReadText l ∷ fieldText c ∷ fieldText d ∷ fieldText e ∷ decimal first ∷ decimal last ∷ []
 
