@@ -2,24 +2,40 @@
 use Prim.Native.Nat.{ℕ, _<_}
 use native.Mathlib.Omega.{arith}
 use mathlib.Core.Path.{_≡_, refl, ap, sym, _∙_}
-use mathlib.Core.Logic.{_↔_, _≢_, Iff·trans}
+use mathlib.Core.Logic.{_↔_, _≢_}
 use mathlib.Core.Bool.{Bool, true, false, _&&_}
 use mathlib.Core.List.{List}
 use lib.Dec.{leb}
-use lib.ListN.{length}
-use Rattle.rule.specs.Reasons.{Answer, is, refused, refused-with, guard, andThen, guard-with, afterwards}
-use Rattle.rule.specs.Rule.{monthStart, monthLength, monthOfDay, termDay}
+use lib.ListN.{length, getD}
+use Rattle.rule.specs.Reasons.{Answer, is, refused, refused-with, guard, andThen, reasonNumber, guard-with, afterwards}
+use Rattle.rule.specs.Lists.{those}
+use Rattle.rule.specs.Rule.{monthStart, monthLength, monthOfDay, yearOfMonth, termDay}
 use Rattle.rule.specs.declared.Quarter.{Quarter}
+use Rattle.rule.specs.declared.Reason.{Reason}
+use Rattle.rule.specs.declared.Reason.the-variants.{NoSuchDay, BadWindow, FieldOutOfRange}
 use Rattle.dates.specs.declared.Date.{Date}
-use Rattle.dates.specs.Dates.{dateAt, namedMonth, dayInMonth, dayOfNamed, dayOfDate}
+use Rattle.dates.specs.declared.Dated.{Dated}
+use Rattle.dates.specs.declared.Dated.the-variants as Dated'
+use Rattle.dates.specs.declared.DayFound.the-variants as DayFound'
+use Rattle.dates.specs.Dates.{dateIn, dateOf, dateAt, namedMonth, dayInMonth, dayOfNamed, dayOfDate}
+use Rattle.dates.specs.Promises.{saidDate, saidDay}
 use Rattle.moves.specs.Moves.{moved}
 use Rattle.facts.specs.declared.SolsticeYear.{SolsticeYear}
+use Rattle.facts.specs.declared.SolsticeYearTold.the-variants as Solstice'
 use Rattle.facts.specs.declared.YearFacts.{YearFacts}
+use Rattle.facts.specs.declared.YearTold.the-variants as Year'
 use Rattle.facts.specs.declared.MonthFacts.{MonthFacts}
+use Rattle.facts.specs.declared.MonthTold.the-variants as Month'
+use Rattle.facts.specs.declared.QuarterTold.the-variants as Quarter'
+use Rattle.facts.specs.declared.TermTold.the-variants as Term'
 use Rattle.facts.specs.Facts.{solsticeYearAt, yearFactsAt, monthFactsAt, quarterAt, termAt}
+use Rattle.facts.specs.Promises.{saidSolsticeYear, saidYear, saidMonth, saidQuarter, saidTerm}
 use Rattle.planets.specs.declared.Conjunction.{Conjunction}
+use Rattle.planets.specs.declared.ConjunctionTold.the-variants as Conjunction'
 use Rattle.planets.specs.declared.Counted.{Counted}
+use Rattle.planets.specs.declared.NextTold.the-variants as Next'
 use Rattle.planets.specs.declared.Pair.{Pair}
+use Rattle.planets.specs.declared.PairTold.the-variants as Pair'
 use Rattle.planets.specs.Planets.{
   numbersOf,
   conjunctionDay,
@@ -32,11 +48,42 @@ use Rattle.planets.specs.Planets.{
   nextAt,
   pairAt,
 }
+use Rattle.planets.specs.Promises.{saidConjunction, saidNext, saidPair}
 use Rattle.reading.specs.declared.Reading.{Reading}
-use Rattle.reading.specs.Readings.{inRanges, windowDays, windowHolds, fitting}
-use Rattle.reading.specs.Search.{total, searchAt}
-use Rattle.sheet.specs.Sheet.{Lists, readInto}
-use Rattle.sheet.specs.Promises.{counted}
+use Rattle.reading.specs.declared.Found.{Found}
+use Rattle.reading.specs.declared.Found.the-variants as Found'
+use Rattle.reading.specs.Readings.{monthFits, dayFits, fits, inRanges, windowDays, windowHolds, fitting}
+use Rattle.reading.specs.Search.{total, searchAt, saidFound}
+use Rattle.sheet.specs.declared.Counted as Counts
+use Rattle.sheet.specs.declared.SheetCounts.{SheetCounts}
+use Rattle.sheet.specs.declared.SheetCounts.the-variants as Counts'
+use Rattle.sheet.specs.declared.HowMany.{HowMany}
+use Rattle.sheet.specs.declared.HowMany.the-variants as HowMany'
+use Rattle.sheet.specs.Sheet.{
+  Lists,
+  number,
+  numbers,
+  lay,
+  layAll,
+  laySection,
+  itemsOf,
+  leftAfter,
+  listsIn,
+  sheetOf,
+  itemsRead,
+  countRead,
+  sectionRead,
+  daysRead,
+  monthsRead,
+  sheetRead,
+  readInto,
+  itemsWritten,
+  sectionWritten,
+  listsWritten,
+  writeInto,
+}
+use Rattle.sheet.specs.Promises.{counted, saidCounts, saidHowMany}
+use Rattle.lines.specs.Promises.{yearBlockAt, monthLineAt, monthItemAt, dayItemAt, Printed}
 use Rattle.flat.specs.declared.CDate.{CDate}
 use Rattle.flat.specs.declared.CDay.{CDay}
 use Rattle.flat.specs.declared.CSolstice.{CSolstice}
@@ -59,6 +106,7 @@ use Rattle.flat.specs.Flat.{
   flatDay,
   givenSolstice,
   noSolstice,
+  flatSolstice,
   givenYear,
   noYear,
   flatYear,
@@ -67,6 +115,7 @@ use Rattle.flat.specs.Flat.{
   flatMonth,
   givenQuarter,
   noQuarter,
+  flatQuarter,
   givenConjunction,
   noConjunction,
   flatConjunction,
@@ -82,6 +131,7 @@ use Rattle.flat.specs.Flat.{
   flatCounts,
   givenLength,
   noLength,
+  flatLength,
 }
 use Rattle.flat.specs.Paper.{
   BareDate,
@@ -100,9 +150,9 @@ use Rattle.flat.specs.Paper.{
 use Rattle.flat.proofs.Paper.{refusals-flat}
 use Rattle.capi.specs.Promises.{readingOf, CPrinted}
 use Rattle.capi.specs.Paper as Paper
-use Rattle.capi.specs.Paper.{Answered}
 use Rattle.capi.proofs.Sound as Sound
-use Rattle.capi.proofs.Sound.{Sound, given, numbered, numbered-with}
+use Rattle.capi.proofs.Sound.{Sound, given, numbered, none-is-0}
+use Rattle.capi.proofs.Texts.{text-said, unwritten, year-11, line-134, month-134, day-0}
 
 -- printed bytes leave one answer and one buffer
 one-printed : {x : Answer (List ℕ)} {o : List ℕ} {a b : CLength} {o₁ o₂ : List ℕ} → CPrinted x o a o₁ → CPrinted x o b o₂ → (a ≡ b) × (o₁ ≡ o₂)
@@ -142,13 +192,25 @@ module _ {A R : Type 0} (reason : R → ℕ) (gives : A → R) (bare : ℕ → R
   is-bare : (P : R → Type 0) → ((k : ℕ) → P (bare k)) → (a : Answer A) (r : R) → r ≡ flat gives bare a → reason r ≢ 0 → P r
   is-bare P h a r e no-zero = rw (e) (flat-bare P h a (λ z. no-zero (ap reason e ∙ z)))
 
-  flat-zero : ((k : ℕ) → reason (bare k) ≡ k) → (a : Answer A) → Sound a → (reason (flat gives bare a) ≡ 0) ↔ Answered a
-  flat-zero h a (given x) = (λ z. (x, refl), λ z. nought x)
-  flat-zero h a (numbered k l) = (λ z. absurd (omega (arith, h k)), λ z. absurd (let e : _≡_ {A = Answer A} (refused k) (is (z .0)) = z .1 in let o : _≡_ {A = ℕ} 0 1 = cc in omega arith))
-  flat-zero h a (numbered-with k n l) = (λ z. absurd (omega (arith, h k)), λ z. absurd (let e : _≡_ {A = Answer A} (refused-with k n) (is (z .0)) = z .1 in let o : _≡_ {A = ℕ} 0 1 = cc in omega arith))
+  -- reason 0: there is an answer x, and what is said is x laid flat
+  is-zero :
+      ((k : ℕ) → reason (bare k) ≡ k) → (a : Answer A) → Sound a → (r : R) → r ≡ flat gives bare a →
+      (reason r ≡ 0) ↔ ((x : A) × (is x ≡ a) × (r ≡ gives x))
+  is-zero h a s r e = (there a s e, λ z. ap reason (z .2) ∙ nought (z .0))
+    where
+      there : (a : Answer A) → Sound a → r ≡ flat gives bare a → reason r ≡ 0 → (x : A) × (is x ≡ a) × (r ≡ gives x)
+      there a (given x) e z = (x, refl, e)
+      there a (numbered why) e z = absurd (none-is-0 why (sym (h (reasonNumber why)) ∙ sym (ap reason e) ∙ z))
 
-  is-zero : ((k : ℕ) → reason (bare k) ≡ k) → (a : Answer A) → Sound a → (r : R) → r ≡ flat gives bare a → (reason r ≡ 0) ↔ Answered a
-  is-zero h a s r e = rw (e) (flat-zero h a s)
+-- whatever the struct: what is said of the answer a is what an answer of the call that says a is, laid flat
+module _ {A E : Type 0} (said : E → Answer A) (gives : A → E) (no : Reason → E)
+    (says : (x : A) → said (gives x) ≡ is x) (says-no : (why : Reason) → said (no why) ≡ refused (reasonNumber why)) where
+  there-is : {a : Answer A} → Sound a → (e : E) × (said e ≡ a)
+  there-is (given x) = (gives x, says x)
+  there-is (numbered why) = (no why, says-no why)
+
+  as-said : {R : Type 0} (laid : Answer A → R) {a : Answer A} → Sound a → (r : R) → (r ≡ laid a) ↔ ((e : E) × (said e ≡ a) × (r ≡ laid (said e)))
+  as-said laid s r = (λ p. (there-is s .0, there-is s .1, p ∙ sym (ap laid (there-is s .1))), λ z. z .2 ∙ ap laid (z .1))
 
 -- a length or counts said of what was answered: the lent memory is as it was where the query comes back
 module _ {A B R : Type 0} (reason : R → ℕ) (gives : B → R) (bare : ℕ → R) (nought : (x : B) → reason (gives x) ≡ 0) (f : A → B) where
@@ -160,23 +222,6 @@ module _ {A B R : Type 0} (reason : R → ℕ) (gives : B → R) (bare : ℕ →
   untouched (refused k) g old no-zero = refl
   untouched (refused-with k n) g old no-zero = refl
 
-  answered-so : (a : Answer A) → Answered (andThen a (λ x. is (f x))) ↔ Answered a
-  answered-so (is x) = (λ z. (x, refl), λ z. (f x, refl))
-  answered-so (refused k) = (
-    λ z. absurd (let e : _≡_ {A = Answer B} (refused k) (is (z .0)) = z .1 in let o : _≡_ {A = ℕ} 0 1 = cc in omega arith),
-    λ z. absurd (let e : _≡_ {A = Answer A} (refused k) (is (z .0)) = z .1 in let o : _≡_ {A = ℕ} 0 1 = cc in omega arith),
-  )
-  answered-so (refused-with k n) = (
-    λ z. absurd (let e : _≡_ {A = Answer B} (refused-with k n) (is (z .0)) = z .1 in let o : _≡_ {A = ℕ} 0 1 = cc in omega arith),
-    λ z. absurd (let e : _≡_ {A = Answer A} (refused-with k n) (is (z .0)) = z .1 in let o : _≡_ {A = ℕ} 0 1 = cc in omega arith),
-  )
-
-  said-zero : ((k : ℕ) → reason (bare k) ≡ k) → (a : Answer A) → Sound a → (r : R) → r ≡ said a → (reason r ≡ 0) ↔ Answered a
-  said-zero h a s r e =
-      Iff·trans
-      (is-zero reason gives bare nought h (andThen a (λ x. is (f x))) (Sound.sound-then (λ x. is (f x)) s (λ x. given (f x))) r e)
-      (answered-so a)
-
 -- printed bytes
 printed-bare : {a : Answer (List ℕ)} {o : List ℕ} {r : CLength} {o′ : List ℕ} → CPrinted a o r o′ → r .reason ≢ 0 → BareLength r × (o′ ≡ o)
 printed-bare {a} {o} {r} p no-zero = (
@@ -184,8 +229,32 @@ printed-bare {a} {o} {r} p no-zero = (
   p .buffer ∙ untouched (λ (x : CLength). x .reason) givenLength noLength (λ x. refl) length a (λ b. b) o (λ z. no-zero (ap (λ (x : CLength). x .reason) (p .answer) ∙ z)),
 )
 
-printed-zero : {a : Answer (List ℕ)} {o : List ℕ} {r : CLength} {o′ : List ℕ} → Sound a → CPrinted a o r o′ → (r .reason ≡ 0) ↔ Answered a
-printed-zero {a} {o} {r} s p = said-zero (λ (x : CLength). x .reason) givenLength noLength (λ x. refl) length (λ k. refl) a s r (p .answer)
+-- their length, said
+abbrev lengthOf : Answer (List ℕ) → Answer ℕ
+lengthOf a = andThen a (λ b. is (length b))
+
+module _ {a : Answer (List ℕ)} (s : Sound a) (r : CLength) where
+  length-sound : Sound (lengthOf a)
+  length-sound = Sound.sound-then (λ b. is (length b)) s (λ b. given (length b))
+
+  length-zero : r ≡ flatLength (lengthOf a) → (r .reason ≡ 0) ↔ ((n : ℕ) × (is n ≡ lengthOf a) × (r ≡ givenLength n))
+  length-zero e = is-zero (λ (x : CLength). x .reason) givenLength noLength (λ x. refl) (λ k. refl) (lengthOf a) length-sound r e
+
+  length-said : (r ≡ flatLength (lengthOf a)) ↔ ((h : HowMany) × (saidHowMany h ≡ lengthOf a) × (r ≡ flatLength (saidHowMany h)))
+  length-said = as-said saidHowMany HowMany'.Is HowMany'.Refused (λ x. refl) (λ w. refl) flatLength length-sound r
+
+module _ {a : Answer (List ℕ)} (s : Sound a) {o : List ℕ} {r : CLength} {o′ : List ℕ} where
+  printed-zero : CPrinted a o r o′ → (r .reason ≡ 0) ↔ ((n : ℕ) × Printed a o (HowMany'.Is n) o′ × (r ≡ givenLength n))
+  printed-zero p = (
+    λ z. let w = length-zero s r (p .answer) .0 z in (w .0, record { answer = w .1; buffer = p .buffer }, w .2),
+    λ w. length-zero s r (p .answer) .1 (w .0, w .1 .answer, w .2),
+  )
+
+  printed-said : CPrinted a o r o′ ↔ ((h : HowMany) × Printed a o h o′ × (r ≡ flatLength (saidHowMany h)))
+  printed-said = (
+    λ p. let w = length-said s r .0 (p .answer) in (w .0, record { answer = w .1; buffer = p .buffer }, w .2),
+    λ w. record { answer = length-said s r .1 (w .0, w .1 .answer, w .2); buffer = w .1 .buffer },
+  )
 
 -- a sheet's counts
 counts-bare :
@@ -195,6 +264,19 @@ counts-bare a r e no-zero = (
   is-bare (λ (x : CSheetCounts). x .reason) givenCounts noCounts (λ x. refl) BareCounts (λ k. refusals-flat .counts k .1) (andThen a (λ l. is (counted l))) r e no-zero,
   λ g old. untouched (λ (x : CSheetCounts). x .reason) givenCounts noCounts (λ x. refl) counted a g old (λ z. no-zero (ap (λ (x : CSheetCounts). x .reason) e ∙ z)),
 )
+
+abbrev countsOf : Answer Lists → Answer Counts.Counted
+countsOf a = andThen a (λ l. is (counted l))
+
+module _ {a : Answer Lists} (s : Sound a) (r : CSheetCounts) where
+  counts-sound : Sound (countsOf a)
+  counts-sound = Sound.sound-then (λ l. is (counted l)) s (λ l. given (counted l))
+
+  counts-zero : r ≡ flatCounts (countsOf a) → (r .reason ≡ 0) ↔ ((c : Counts.Counted) × (is c ≡ countsOf a) × (r ≡ givenCounts c))
+  counts-zero e = is-zero (λ (x : CSheetCounts). x .reason) givenCounts noCounts (λ x. refl) (λ k. refl) (countsOf a) counts-sound r e
+
+  counts-said : (r ≡ flatCounts (countsOf a)) ↔ ((c : SheetCounts) × (saidCounts c ≡ countsOf a) × (r ≡ flatCounts (saidCounts c)))
+  counts-said = as-said saidCounts Counts'.Is Counts'.Refused (λ x. refl) (λ w. refl) flatCounts counts-sound r
 
 -- a search, by its four tests
 abbrev row : Bool → Bool → Bool → Bool → ℕ → Answer ℕ
@@ -209,15 +291,21 @@ row-bare true true false t n days old h = (record { other = λ z. refl; twelve =
 row-bare true true true true n days old h = absurd (h refl)
 row-bare true true true false n days old h = (record { other = λ z. absurd (z refl); twelve = λ z. refl }, refl)
 
-not-answered : (k : ℕ) → 0 < k → (a : Answer ℕ) → ((x : ℕ) → a ≡ is x → ⊥) → (k ≡ 0) ↔ Answered a
-not-answered k l a h = (λ z. absurd (omega arith), λ z. absurd (h (z .0) (z .1)))
+row-zero :
+    (e w i t : Bool) (n : ℕ) (a : CFound) → a ≡ flatFound (row e w i t n) → a .reason ≡ 0 →
+    (m : ℕ) × (is m ≡ row e w i t n) × (a ≡ flatFound (is m))
+row-zero false w i t n a p z = absurd (omega (arith, z, ap (λ (x : CFound). x .reason) p))
+row-zero true false i t n a p z = absurd (omega (arith, z, ap (λ (x : CFound). x .reason) p))
+row-zero true true false t n a p z = absurd (omega (arith, z, ap (λ (x : CFound). x .reason) p))
+row-zero true true true true n a p z = (n, refl, p)
+row-zero true true true false n a p z = absurd (omega (arith, z, ap (λ (x : CFound). x .reason) p))
 
-row-zero : (e w i t : Bool) (n : ℕ) → (flatFound (row e w i t n) .reason ≡ 0) ↔ Answered (row e w i t n)
-row-zero false w i t n = not-answered 6 (omega arith) (refused 6) (λ x f. let o : _≡_ {A = ℕ} 0 1 = cc in omega arith)
-row-zero true false i t n = not-answered 13 (omega arith) (refused 13) (λ x f. let o : _≡_ {A = ℕ} 0 1 = cc in omega arith)
-row-zero true true false t n = not-answered 14 (omega arith) (refused 14) (λ x f. let o : _≡_ {A = ℕ} 0 1 = cc in omega arith)
-row-zero true true true true n = (λ z. (n, refl), λ z. refl)
-row-zero true true true false n = not-answered 12 (omega arith) (refused-with 12 n) (λ x f. let o : _≡_ {A = ℕ} 0 1 = cc in omega arith)
+row-found : (e w i t : Bool) (n : ℕ) → (f : Found) × (saidFound f ≡ row e w i t n)
+row-found false w i t n = (Found'.Refused NoSuchDay, refl)
+row-found true false i t n = (Found'.Refused BadWindow, refl)
+row-found true true false t n = (Found'.Refused FieldOutOfRange, refl)
+row-found true true true true n = (Found'.Is n, refl)
+row-found true true true false n = (Found'.TooShort n, refl)
 
 module _ (r : Reading) (first last n : ℕ) where
   search-bare :
@@ -229,64 +317,69 @@ module _ (r : Reading) (first last n : ℕ) where
       (row-bare (leb first 14989859 && leb last 14989859) (windowHolds first last) (inRanges r) (leb (total r first last) n) (total r first last) days old
       (λ z. no-zero (ap (λ (x : CFound). x .reason) e ∙ z)))
 
-  search-zero : (a : CFound) → a ≡ flatFound (searchAt r first last n) → (a .reason ≡ 0) ↔ Answered (searchAt r first last n)
+  search-zero :
+      (a : CFound) → a ≡ flatFound (searchAt r first last n) → a .reason ≡ 0 →
+      (m : ℕ) × (is m ≡ searchAt r first last n) × (a ≡ flatFound (is m))
   unfolding searchAt
-  search-zero a e =
-      rw (e) (row-zero (leb first 14989859 && leb last 14989859) (windowHolds first last) (inRanges r) (leb (total r first last) n) (total r first last))
+  search-zero = row-zero (leb first 14989859 && leb last 14989859) (windowHolds first last) (inRanges r) (leb (total r first last) n) (total r first last)
+
+  search-found : (f : Found) × (saidFound f ≡ searchAt r first last n)
+  unfolding searchAt
+  search-found = row-found (leb first 14989859 && leb last 14989859) (windowHolds first last) (inRanges r) (leb (total r first last) n) (total r first last)
 
 -- each struct
 date-bare : (a : Answer Date) (r : CDate) → r ≡ flat givenDate noDate a → r .reason ≢ 0 → BareDate r
 date-bare = is-bare (λ (x : CDate). x .reason) givenDate noDate (λ x. refl) BareDate (λ k. refusals-flat .date k .1)
 
-date-zero : (a : Answer Date) → Sound a → (r : CDate) → r ≡ flat givenDate noDate a → (r .reason ≡ 0) ↔ Answered a
+date-zero : (a : Answer Date) → Sound a → (r : CDate) → r ≡ flat givenDate noDate a → (r .reason ≡ 0) ↔ ((x : Date) × (is x ≡ a) × (r ≡ givenDate x))
 date-zero = is-zero (λ (x : CDate). x .reason) givenDate noDate (λ x. refl) (λ k. refl)
 
 day-bare : (a : Answer ℕ) (r : CDay) → r ≡ flat givenDay noDay a → r .reason ≢ 0 → BareDay r
 day-bare = is-bare (λ (x : CDay). x .reason) givenDay noDay (λ x. refl) BareDay (λ k. refusals-flat .day k .1)
 
-day-zero : (a : Answer ℕ) → Sound a → (r : CDay) → r ≡ flat givenDay noDay a → (r .reason ≡ 0) ↔ Answered a
+day-zero : (a : Answer ℕ) → Sound a → (r : CDay) → r ≡ flat givenDay noDay a → (r .reason ≡ 0) ↔ ((x : ℕ) × (is x ≡ a) × (r ≡ givenDay x))
 day-zero = is-zero (λ (x : CDay). x .reason) givenDay noDay (λ x. refl) (λ k. refl)
 
 solstice-bare : (a : Answer SolsticeYear) (r : CSolstice) → r ≡ flat givenSolstice noSolstice a → r .reason ≢ 0 → BareSolstice r
 solstice-bare = is-bare (λ (x : CSolstice). x .reason) givenSolstice noSolstice (λ x. refl) BareSolstice (λ k. refusals-flat .solstice k .1)
 
-solstice-zero : (a : Answer SolsticeYear) → Sound a → (r : CSolstice) → r ≡ flat givenSolstice noSolstice a → (r .reason ≡ 0) ↔ Answered a
+solstice-zero : (a : Answer SolsticeYear) → Sound a → (r : CSolstice) → r ≡ flat givenSolstice noSolstice a → (r .reason ≡ 0) ↔ ((x : SolsticeYear) × (is x ≡ a) × (r ≡ givenSolstice x))
 solstice-zero = is-zero (λ (x : CSolstice). x .reason) givenSolstice noSolstice (λ x. refl) (λ k. refl)
 
 year-bare : (a : Answer YearFacts) (r : CYear) → r ≡ flat givenYear noYear a → r .reason ≢ 0 → BareYear r
 year-bare = is-bare (λ (x : CYear). x .reason) givenYear noYear (λ x. refl) BareYear (λ k. refusals-flat .year k .1)
 
-year-zero : (a : Answer YearFacts) → Sound a → (r : CYear) → r ≡ flat givenYear noYear a → (r .reason ≡ 0) ↔ Answered a
+year-zero : (a : Answer YearFacts) → Sound a → (r : CYear) → r ≡ flat givenYear noYear a → (r .reason ≡ 0) ↔ ((x : YearFacts) × (is x ≡ a) × (r ≡ givenYear x))
 year-zero = is-zero (λ (x : CYear). x .reason) givenYear noYear (λ x. refl) (λ k. refl)
 
 month-bare : (a : Answer MonthFacts) (r : CMonth) → r ≡ flat givenMonth noMonth a → r .reason ≢ 0 → BareMonth r
 month-bare = is-bare (λ (x : CMonth). x .reason) givenMonth noMonth (λ x. refl) BareMonth (λ k. refusals-flat .month k .1)
 
-month-zero : (a : Answer MonthFacts) → Sound a → (r : CMonth) → r ≡ flat givenMonth noMonth a → (r .reason ≡ 0) ↔ Answered a
+month-zero : (a : Answer MonthFacts) → Sound a → (r : CMonth) → r ≡ flat givenMonth noMonth a → (r .reason ≡ 0) ↔ ((x : MonthFacts) × (is x ≡ a) × (r ≡ givenMonth x))
 month-zero = is-zero (λ (x : CMonth). x .reason) givenMonth noMonth (λ x. refl) (λ k. refl)
 
 quarter-bare : (a : Answer Quarter) (r : CQuarter) → r ≡ flat givenQuarter noQuarter a → r .reason ≢ 0 → BareQuarter r
 quarter-bare = is-bare (λ (x : CQuarter). x .reason) givenQuarter noQuarter (λ x. refl) BareQuarter (λ k. refusals-flat .quarter k .1)
 
-quarter-zero : (a : Answer Quarter) → Sound a → (r : CQuarter) → r ≡ flat givenQuarter noQuarter a → (r .reason ≡ 0) ↔ Answered a
+quarter-zero : (a : Answer Quarter) → Sound a → (r : CQuarter) → r ≡ flat givenQuarter noQuarter a → (r .reason ≡ 0) ↔ ((x : Quarter) × (is x ≡ a) × (r ≡ givenQuarter x))
 quarter-zero = is-zero (λ (x : CQuarter). x .reason) givenQuarter noQuarter (λ x. refl) (λ k. refl)
 
 conjunction-bare : (a : Answer Conjunction) (r : CConjunction) → r ≡ flat givenConjunction noConjunction a → r .reason ≢ 0 → BareConjunction r
 conjunction-bare = is-bare (λ (x : CConjunction). x .reason) givenConjunction noConjunction (λ x. refl) BareConjunction (λ k. refusals-flat .conjunction k .1)
 
-conjunction-zero : (a : Answer Conjunction) → Sound a → (r : CConjunction) → r ≡ flat givenConjunction noConjunction a → (r .reason ≡ 0) ↔ Answered a
+conjunction-zero : (a : Answer Conjunction) → Sound a → (r : CConjunction) → r ≡ flat givenConjunction noConjunction a → (r .reason ≡ 0) ↔ ((x : Conjunction) × (is x ≡ a) × (r ≡ givenConjunction x))
 conjunction-zero = is-zero (λ (x : CConjunction). x .reason) givenConjunction noConjunction (λ x. refl) (λ k. refl)
 
 next-bare : (a : Answer Counted) (r : CNext) → r ≡ flat givenNext noNext a → r .reason ≢ 0 → BareNext r
 next-bare = is-bare (λ (x : CNext). x .reason) givenNext noNext (λ x. refl) BareNext (λ k. refusals-flat .next k .1)
 
-next-zero : (a : Answer Counted) → Sound a → (r : CNext) → r ≡ flat givenNext noNext a → (r .reason ≡ 0) ↔ Answered a
+next-zero : (a : Answer Counted) → Sound a → (r : CNext) → r ≡ flat givenNext noNext a → (r .reason ≡ 0) ↔ ((x : Counted) × (is x ≡ a) × (r ≡ givenNext x))
 next-zero = is-zero (λ (x : CNext). x .reason) givenNext noNext (λ x. refl) (λ k. refl)
 
 pair-bare : (a : Answer Pair) (r : CPair) → r ≡ flat givenPair noPair a → r .reason ≢ 0 → BarePair r
 pair-bare = is-bare (λ (x : CPair). x .reason) givenPair noPair (λ x. refl) BarePair (λ k. refusals-flat .pair k .1)
 
-pair-zero : (a : Answer Pair) → Sound a → (r : CPair) → r ≡ flat givenPair noPair a → (r .reason ≡ 0) ↔ Answered a
+pair-zero : (a : Answer Pair) → Sound a → (r : CPair) → r ≡ flat givenPair noPair a → (r .reason ≡ 0) ↔ ((x : Pair) × (is x ≡ a) × (r ≡ givenPair x))
 pair-zero = is-zero (λ (x : CPair). x .reason) givenPair noPair (λ x. refl) (λ k. refl)
 
 pub refusal-is-bare : Paper.Refusal-is-bare
@@ -334,29 +427,145 @@ reason-0-iff-answered =
       conjunction = λ n k r p. conjunction-zero (conjunctionAt n k) (Sound.conjunction-sound n k) r p;
       next = λ n d r p. next-zero (nextAt n d) (Sound.next-sound n d) r p;
       pair = λ n r p. pair-zero (pairAt n) (Sound.pair-sound n) r p;
-      search = λ r first last old a new p. search-zero (readingOf r) first last (length old) a (p .answer);
+      search = λ r first last old a new p. (
+        λ z. let w = search-zero (readingOf r) first last (length old) a (p .answer) z in (w .0, record { answered = w .1; lent = p .lent }, w .2),
+        λ w. ap (λ (x : CFound). x .reason) (w .2),
+      );
       read-sheet = λ s y m d r y′ m′ d′ p.
-          said-zero (λ (x : CSheetCounts). x .reason) givenCounts noCounts (λ x. refl) counted (λ k. refl)
-          (readInto s (length y) (length m) (length d)) (Sound.read-sound s (length y) (length m) (length d)) r (p .answer);
-      write-sheet = λ y m d o r o′ p. printed-zero (Sound.write-sound (record { years = y; months = m; days = d }) (length o)) p;
+          let z = counts-zero (Sound.read-sound s (length y) (length m) (length d)) r (p .answer) in (
+            λ e. let w = z .0 e in (w .0, record { answer = w .1; years = p .years; months = p .months; days = p .days }, w .2),
+            λ w. z .1 (w .0, w .1 .answer, w .2),
+          );
+      write-sheet = λ y m d o r o′ p.
+          let s = Sound.write-sound (record { years = y; months = m; days = d }) (length o) in (
+            λ z. let w = length-zero s r (p .answer) .0 z in (w .0, record { answer = w .1; buffer = p .buffer }, w .2),
+            λ w. length-zero s r (p .answer) .1 (w .0, w .1 .answer, w .2),
+          );
       print-year = λ x o r o′ p. printed-zero (Sound.year-printed-sound x (length o)) p;
       print-month-line = λ x o r o′ p. printed-zero (Sound.line-printed-sound x (length o)) p;
       print-month = λ x o r o′ p. printed-zero (Sound.month-printed-sound x (length o)) p;
       print-day = λ x o r o′ p. printed-zero (Sound.day-printed-sound x (length o)) p;
     }
 
+pub says-what-the-call-says : Paper.Says-what-the-call-says
+says-what-the-call-says =
+    record {
+      date-of-day = λ d r. date-said (Sound.date-sound d) r;
+      day-of-date = λ y k l m r. as-said saidDay DayFound'.Is DayFound'.Refused (λ x. refl) (λ w. refl) flatDay (Sound.day-sound y k l m) r;
+      move-date = λ y k l m n r. date-said (Sound.move-sound y k l m n) r;
+      solstice-year = λ y r. as-said saidSolsticeYear Solstice'.Is Solstice'.Refused (λ x. refl) (λ w. refl) flatSolstice (Sound.solstice-sound y) r;
+      year-facts = λ y r. as-said saidYear Year'.Is Year'.Refused (λ x. refl) (λ w. refl) flatYear (Sound.year-sound y) r;
+      month-facts = λ n r. as-said saidMonth Month'.Is Month'.Refused (λ x. refl) (λ w. refl) flatMonth (Sound.month-sound n) r;
+      quarter = λ n q r. as-said saidQuarter Quarter'.Is Quarter'.Refused (λ x. refl) (λ w. refl) flatQuarter (Sound.quarter-sound n q) r;
+      term = λ y k r. as-said saidTerm Term'.Is Term'.Refused (λ x. refl) (λ w. refl) flatDay (Sound.term-sound y k) r;
+      conjunction = λ n k r. as-said saidConjunction Conjunction'.Is Conjunction'.Refused (λ x. refl) (λ w. refl) flatConjunction (Sound.conjunction-sound n k) r;
+      next = λ n d r. as-said saidNext Next'.Is Next'.Refused (λ x. refl) (λ w. refl) flatNext (Sound.next-sound n d) r;
+      pair = λ n r. as-said saidPair Pair'.Is Pair'.Refused (λ x. refl) (λ w. refl) flatPair (Sound.pair-sound n) r;
+      search = λ r first last old a new. (
+        λ p. let w = search-found (readingOf r) first last (length old) in
+            (w .0, record { answered = w .1; lent = p .lent }, p .answer ∙ sym (ap flatFound (w .1))),
+        λ w. record { answer = w .2 ∙ ap flatFound (w .1 .answered); lent = w .1 .lent },
+      );
+      read-sheet = λ s y m d r y′ m′ d′.
+          let c = counts-said (Sound.read-sound s (length y) (length m) (length d)) r in (
+            λ p. let w = c .0 (p .answer) in (w .0, record { answer = w .1; years = p .years; months = p .months; days = p .days }, w .2),
+            λ w. record { answer = c .1 (w .0, w .1 .answer, w .2); years = w .1 .years; months = w .1 .months; days = w .1 .days },
+          );
+      write-sheet = λ y m d o r o′.
+          let c = length-said (Sound.write-sound (record { years = y; months = m; days = d }) (length o)) r in (
+            λ p. let w = c .0 (p .answer) in (w .0, record { answer = w .1; buffer = p .buffer }, w .2),
+            λ w. record { answer = c .1 (w .0, w .1 .answer, w .2); buffer = w .1 .buffer },
+          );
+      print-year = λ x o r o′. printed-said (Sound.year-printed-sound x (length o));
+      print-month-line = λ x o r o′. printed-said (Sound.line-printed-sound x (length o));
+      print-month = λ x o r o′. printed-said (Sound.month-printed-sound x (length o));
+      print-day = λ x o r o′. printed-said (Sound.day-printed-sound x (length o));
+    }
+  where
+    date-said : {a : Answer Date} → Sound a → (r : CDate) → (r ≡ flatDate a) ↔ ((e : Dated) × (saidDate e ≡ a) × (r ≡ flatDate (saidDate e)))
+    date-said = as-said saidDate Dated'.Is Dated'.Refused (λ x. refl) (λ w. refl) flatDate
+
+-- an answer that is given is no refusal, and no other is said alike
+module _ {R : Type 0} (reason : R → ℕ) {r s : R} (p : r ≡ s) where
+  no-refusal : reason s ≡ 0 → reason r ≢ 0 → ⊥
+  no-refusal z no-zero = no-zero (ap reason p ∙ z)
+
+  not-alike : {t : R} → r ≡ t → reason s ≢ reason t → ⊥
+  not-alike q differ = differ (ap reason (sym p ∙ q))
+
+-- two lists that differ in place i
+unlike : (i : ℕ) {xs ys : List ℕ} → xs ≡ ys → getD xs i 0 ≢ getD ys i 0 → ⊥
+unlike i e differ = differ (ap (λ (l : List ℕ). getD l i 0) e)
+
 pub wrong-exported : Paper.Wrong-exported
-unfolding dateAt dayOfDate dayOfNamed dayInMonth namedMonth monthLength monthStart monthOfDay termDay monthFactsAt yearFactsAt conjunctionAt conjunctionOf numbersOf conjunctionDay conjunctionParts phase nextAt countedOf nextCount pairAt
+unfolding dateAt dateOf dateIn dayOfDate dayOfNamed dayInMonth namedMonth moved solsticeYearAt yearFactsAt monthFactsAt quarterAt termAt conjunctionAt conjunctionOf numbersOf conjunctionDay conjunctionParts phase nextAt countedOf nextCount pairAt searchAt total fitting fits monthFits dayFits inRanges those readInto sheetRead monthsRead daysRead sectionRead countRead itemsRead number listsIn itemsOf leftAfter numbers writeInto listsWritten sectionWritten itemsWritten sheetOf laySection lay layAll monthLength monthStart monthOfDay yearOfMonth termDay
 wrong-exported =
     record {
-      refusing-days = λ h. h 0 (flatDate (dateAt 0)) refl refl;
-      refusing-dates = λ h. h 1 11 false 1 (flatDay (dayOfDate 1 11 false 1)) refl refl;
-      refusing-conjunctions = λ h. h 1 0 (flatConjunction (conjunctionAt 1 0)) refl refl;
-      refusing-nexts = λ h. h 1 0 (flatNext (nextAt 1 0)) refl refl;
-      refusing-pairs = λ h. h 1 (flatPair (pairAt 1)) refl refl;
-      low-bits-of-days = λ h. let e : _≡_ {A = ℕ} 6 0 = ap (λ (x : CDate). x .reason) (h 4294967296 (flatDate (dateAt 4294967296)) refl) in omega arith;
-      low-bits-of-months = λ h. let e : _≡_ {A = ℕ} 7 0 = ap (λ (x : CMonth). x .reason) (h 4294967296 (flatMonth (monthFactsAt 4294967296)) refl) in omega arith;
-      low-bits-of-years = λ h. let e : _≡_ {A = ℕ} 1 0 = ap (λ (x : CYear). x .reason) (h 4294967297 (flatYear (yearFactsAt 4294967297)) refl) in omega arith;
-      low-bits-of-planets = λ h. let e : _≡_ {A = ℕ} 19 0 = ap (λ (x : CConjunction). x .reason) (h 257 1 (flatConjunction (conjunctionAt 257 1)) refl) in omega arith;
-      low-bits-of-counts = λ h. let e : _≡_ {A = ℕ} 6 0 = ap (λ (x : CConjunction). x .reason) (h 1 4294967297 (flatConjunction (conjunctionAt 1 4294967297)) refl) in omega arith;
+      refusing-days = λ r p. no-refusal (λ (x : CDate). x .reason) p refl;
+      refusing-dates = λ r p. no-refusal (λ (x : CDay). x .reason) p refl;
+      refusing-moves = λ r p. no-refusal (λ (x : CDate). x .reason) p refl;
+      refusing-solstices = λ r p. no-refusal (λ (x : CSolstice). x .reason) p refl;
+      refusing-years = λ r p. no-refusal (λ (x : CYear). x .reason) p refl;
+      refusing-months = λ r p. no-refusal (λ (x : CMonth). x .reason) p refl;
+      refusing-quarters = λ r p. no-refusal (λ (x : CQuarter). x .reason) p refl;
+      refusing-terms = λ r p. no-refusal (λ (x : CDay). x .reason) p refl;
+      refusing-conjunctions = λ r p. no-refusal (λ (x : CConjunction). x .reason) p refl;
+      refusing-nexts = λ r p. no-refusal (λ (x : CNext). x .reason) p refl;
+      refusing-pairs = λ r p. no-refusal (λ (x : CPair). x .reason) p refl;
+      refusing-searches = λ a new p. no-refusal (λ (x : CFound). x .reason) (p .answer) refl;
+      refusing-sheets = λ r y m d p. no-refusal (λ (x : CSheetCounts). x .reason) (p .answer) refl;
+      refusing-lists = λ r o p. no-refusal (λ (x : CLength). x .reason) (p .answer) refl;
+      refusing-year-blocks = λ o r o′ h p. no-refusal (λ (x : CLength). x .reason) (text-said year-11 o h p) refl;
+      refusing-month-lines = λ o r o′ h p. no-refusal (λ (x : CLength). x .reason) (text-said line-134 o h p) refl;
+      refusing-month-items = λ o r o′ h p. no-refusal (λ (x : CLength). x .reason) (text-said month-134 o h p) refl;
+      refusing-day-items = λ o r o′ h p. no-refusal (λ (x : CLength). x .reason) (text-said day-0 o h p) refl;
+      one-date = λ r p q. not-alike (λ (x : CDate). x .«day_of_month») p q (λ e. let f : _≡_ {A = ℕ} 29 1 = e in omega arith);
+      never-moving = λ r p q. not-alike (λ (x : CDate). x .year) p q (λ e. let f : _≡_ {A = ℕ} 1 77 = e in omega arith);
+      filling-none = λ a p. unlike 0 (p .lent) (λ e. let f : _≡_ {A = ℕ} 5 0 = e in omega arith);
+      copying-first = λ a p. unlike 1 (p .lent) (λ e. let f : _≡_ {A = ℕ} 0 1 = e in omega arith);
+      first-alone = λ a p. unlike 1 (p .lent) (λ e. let f : _≡_ {A = ℕ} 5 1 = e in omega arith);
+      inventing = λ a new p other. other (ap (λ (x : CFound). x .total) (p .answer));
+      inventing-at-12 = λ a new p other. other (ap (λ (x : CFound). x .total) (p .answer));
+      reading-none = λ r m d p. unlike 0 (p .years) (λ e. let f : _≡_ {A = ℕ} 0 11 = e in omega arith);
+      reading-first-over = λ r m d p. unlike 1 (p .years) (λ e. let f : _≡_ {A = ℕ} 11 12 = e in omega arith);
+      writing-none = λ r p. unlike 0 (p .buffer) (λ e. let f : _≡_ {A = ℕ} 0 1 = e in omega arith);
+      unwritten-year-blocks = λ o r h z p. unwritten year-11 o h (omega arith) z p;
+      unwritten-month-lines = λ o r h z p. unwritten line-134 o h (omega arith) z p;
+      unwritten-month-items = λ o r h z p. unwritten month-134 o h (omega arith) z p;
+      unwritten-day-items = λ o r h z p. unwritten day-0 o h (omega arith) z p;
     }
+
+pub wrong-low-bits : Paper.Wrong-low-bits
+unfolding dateAt dayOfDate dayOfNamed dayInMonth namedMonth moved solsticeYearAt yearFactsAt monthFactsAt quarterAt termAt conjunctionAt conjunctionOf numbersOf conjunctionDay conjunctionParts phase nextAt countedOf nextCount pairAt searchAt total fitting fits monthFits dayFits inRanges those yearBlockAt monthLineAt monthItemAt dayItemAt monthLength monthStart monthOfDay termDay
+wrong-low-bits =
+    record {
+      days = λ r p q. not-alike (λ (x : CDate). x .reason) p q (above 6 (omega arith));
+      years-of-dates = λ r p q. not-alike (λ (x : CDay). x .reason) p q (above 1 (omega arith));
+      numbers-of-dates = λ r p q. not-alike (λ (x : CDay). x .reason) p q (above 2 (omega arith));
+      days-of-dates = λ r p q. not-alike (λ (x : CDay). x .reason) p q (above 3 (omega arith));
+      years-of-moves = λ r p q. not-alike (λ (x : CDate). x .reason) p q (above 1 (omega arith));
+      numbers-of-moves = λ r p q. not-alike (λ (x : CDate). x .reason) p q (above 2 (omega arith));
+      days-of-moves = λ r p q. not-alike (λ (x : CDate). x .reason) p q (above 3 (omega arith));
+      moves = λ r p q. not-alike (λ (x : CDate). x .reason) p q (above 8 (omega arith));
+      solstices = λ r p q. not-alike (λ (x : CSolstice). x .reason) p q (above 1 (omega arith));
+      years = λ r p q. not-alike (λ (x : CYear). x .reason) p q (above 1 (omega arith));
+      months = λ r p q. not-alike (λ (x : CMonth). x .reason) p q (above 7 (omega arith));
+      months-of-quarters = λ r p q. not-alike (λ (x : CQuarter). x .reason) p q (above 7 (omega arith));
+      quarters = λ r p q. not-alike (λ (x : CQuarter). x .reason) p q (above 15 (omega arith));
+      years-of-terms = λ r p q. not-alike (λ (x : CDay). x .reason) p q (above 1 (omega arith));
+      terms = λ r p q. not-alike (λ (x : CDay). x .reason) p q (above 15 (omega arith));
+      planets = λ r p q. not-alike (λ (x : CConjunction). x .reason) p q (above 19 (omega arith));
+      counts = λ r p q. not-alike (λ (x : CConjunction). x .reason) p q (above 6 (omega arith));
+      planets-of-nexts = λ r p q. not-alike (λ (x : CNext). x .reason) p q (above 19 (omega arith));
+      days-of-nexts = λ r p q. not-alike (λ (x : CNext). x .reason) p q (above 6 (omega arith));
+      planets-of-pairs = λ r p q. not-alike (λ (x : CPair). x .reason) p q (above 19 (omega arith));
+      first-days = λ a new other p q. not-alike (λ (x : CFound). x .reason) (p .answer) (q .answer) (above 6 (omega arith));
+      last-days = λ a new other p q. not-alike (λ (x : CFound). x .reason) (p .answer) (q .answer) (above 6 (omega arith));
+      year-blocks = λ o r o₁ o₂ h p q. not-alike (λ (x : CLength). x .reason) (p .answer) (text-said year-11 o h q) (above 1 (omega arith));
+      month-lines = λ o r o₁ o₂ h p q. not-alike (λ (x : CLength). x .reason) (p .answer) (text-said line-134 o h q) (above 7 (omega arith));
+      month-items = λ o r o₁ o₂ h p q. not-alike (λ (x : CLength). x .reason) (p .answer) (text-said month-134 o h q) (above 7 (omega arith));
+      day-items = λ o r o₁ o₂ h p q. not-alike (λ (x : CLength). x .reason) (p .answer) (text-said day-0 o h q) (above 6 (omega arith));
+    }
+  where
+    above : (k : ℕ) → 0 < k → k ≢ 0
+    above k h e = omega (arith, e)
