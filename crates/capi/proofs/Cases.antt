@@ -24,11 +24,7 @@ pub day-past-32-bits : (r : CDate) → CDateOfDay 4294967296 r → r .reason ≡
 unfolding dateAt
 day-past-32-bits r p = ap (λ (x : CDate). x .reason) p
 
--- W11: "398 days and 14,641 parts of 17,308", and 004's count of Venus
-pub first-of-jupiter : (r : CConjunction) → CKthConjunction 1 1 r → r ≡ record { reason = 0; day = 398; parts = 14641; divisor = 17308; phase = 0 }
-unfolding conjunctionAt conjunctionOf numbersOf conjunctionDay conjunctionParts phase
-first-of-jupiter r p = p
-
+-- W11: 004's count of Venus
 pub venus-in-9455 : (r : CNext) → CNextConjunction 4 3453334 r → r .k ≡ 11826
 unfolding nextAt countedOf nextCount conjunctionOf numbersOf conjunctionDay conjunctionParts phase
 venus-in-9455 r p = ap (λ (x : CNext). x .k) p

@@ -39,12 +39,8 @@ use Rattle.planets.specs.declared.PairTold.the-variants as Pair'
 use Rattle.planets.specs.Planets.{
   numbersOf,
   conjunctionDay,
-  conjunctionParts,
-  phase,
-  conjunctionOf,
   conjunctionAt,
   nextCount,
-  countedOf,
   nextAt,
   pairAt,
 }
@@ -498,7 +494,7 @@ unlike : (i : ℕ) {xs ys : List ℕ} → xs ≡ ys → getD xs i 0 ≢ getD ys 
 unlike i e differ = differ (ap (λ (l : List ℕ). getD l i 0) e)
 
 pub wrong-exported : Paper.Wrong-exported
-unfolding dateAt dateOf dateIn dayOfDate dayOfNamed dayInMonth namedMonth moved solsticeYearAt yearFactsAt monthFactsAt quarterAt termAt conjunctionAt conjunctionOf numbersOf conjunctionDay conjunctionParts phase nextAt countedOf nextCount pairAt searchAt total fitting fits monthFits dayFits inRanges those readInto sheetRead monthsRead daysRead sectionRead countRead itemsRead number listsIn itemsOf leftAfter numbers writeInto listsWritten sectionWritten itemsWritten sheetOf laySection lay layAll monthLength monthStart monthOfDay yearOfMonth termDay
+unfolding dateAt dateOf dateIn dayOfDate dayOfNamed dayInMonth namedMonth moved solsticeYearAt yearFactsAt monthFactsAt quarterAt termAt conjunctionAt numbersOf conjunctionDay nextAt nextCount pairAt searchAt total fitting fits monthFits dayFits inRanges those readInto sheetRead monthsRead daysRead sectionRead countRead itemsRead number listsIn itemsOf leftAfter numbers writeInto listsWritten sectionWritten itemsWritten sheetOf laySection lay layAll monthLength monthStart monthOfDay yearOfMonth termDay
 wrong-exported =
     record {
       refusing-days = λ r p. no-refusal (λ (x : CDate). x .reason) p refl;
@@ -536,7 +532,7 @@ wrong-exported =
     }
 
 pub wrong-low-bits : Paper.Wrong-low-bits
-unfolding dateAt dayOfDate dayOfNamed dayInMonth namedMonth moved solsticeYearAt yearFactsAt monthFactsAt quarterAt termAt conjunctionAt conjunctionOf numbersOf conjunctionDay conjunctionParts phase nextAt countedOf nextCount pairAt searchAt total fitting fits monthFits dayFits inRanges those yearBlockAt monthLineAt monthItemAt dayItemAt monthLength monthStart monthOfDay termDay
+unfolding dateAt dayOfDate dayOfNamed dayInMonth namedMonth moved solsticeYearAt yearFactsAt monthFactsAt quarterAt termAt conjunctionAt numbersOf conjunctionDay nextAt nextCount pairAt searchAt total fitting fits monthFits dayFits inRanges those yearBlockAt monthLineAt monthItemAt dayItemAt monthLength monthStart monthOfDay termDay
 wrong-low-bits =
     record {
       days = λ r p q. not-alike (λ (x : CDate). x .reason) p q (above 6 (omega arith));
