@@ -8,8 +8,9 @@ use mathlib.Core.List.{List}
 use lib.Dec.{leb}
 use lib.ListN.{length, getD}
 use Rattle.rule.specs.Reasons.{Answer, is, refused, refused-with, guard, andThen, reasonNumber, guard-with, afterwards}
+use Rattle.rule.specs.Counts.{dayName, yearName}
 use Rattle.rule.specs.Lists.{those}
-use Rattle.rule.specs.Rule.{monthStart, monthLength, monthOfDay, yearOfMonth, termDay}
+use Rattle.rule.specs.Rule.{monthStart, monthLength, monthOfDay, termDay, yearOfMonth, midTermsBefore, leap, midTermNumber, monthNumber}
 use Rattle.rule.specs.declared.Quarter.{Quarter}
 use Rattle.rule.specs.declared.Reason.{Reason}
 use Rattle.rule.specs.declared.Reason.the-variants.{NoSuchDay, BadWindow, FieldOutOfRange}
@@ -532,7 +533,7 @@ wrong-exported =
     }
 
 pub wrong-low-bits : Paper.Wrong-low-bits
-unfolding dateAt dayOfDate dayOfNamed dayInMonth namedMonth moved solsticeYearAt yearFactsAt monthFactsAt quarterAt termAt conjunctionAt numbersOf conjunctionDay nextAt nextCount pairAt searchAt total fitting fits monthFits dayFits inRanges those yearBlockAt monthLineAt monthItemAt dayItemAt monthLength monthStart monthOfDay termDay
+unfolding dateAt dayOfDate dayOfNamed dayInMonth namedMonth moved solsticeYearAt yearFactsAt monthFactsAt quarterAt termAt conjunctionAt numbersOf conjunctionDay nextAt nextCount pairAt searchAt total fitting fits monthFits dayFits inRanges those yearBlockAt monthLineAt monthItemAt dayItemAt monthLength monthStart monthOfDay termDay yearOfMonth yearName dayName leap monthNumber midTermNumber midTermsBefore
 wrong-low-bits =
     record {
       days = λ r p q. not-alike (λ (x : CDate). x .reason) p q (above 6 (omega arith));
@@ -557,6 +558,12 @@ wrong-low-bits =
       planets-of-pairs = λ r p q. not-alike (λ (x : CPair). x .reason) p q (above 19 (omega arith));
       first-days = λ a new other p q. not-alike (λ (x : CFound). x .reason) (p .answer) (q .answer) (above 6 (omega arith));
       last-days = λ a new other p q. not-alike (λ (x : CFound). x .reason) (p .answer) (q .answer) (above 6 (omega arith));
+      year-names = λ a new other p q. not-alike (λ (x : CFound). x .reason) (p .answer) (q .answer) (above 14 (omega arith));
+      month-numbers = λ a new other p q. not-alike (λ (x : CFound). x .reason) (p .answer) (q .answer) (above 14 (omega arith));
+      leap-marks = λ a new other p q. not-alike (λ (x : CFound). x .reason) (p .answer) (q .answer) (above 14 (omega arith));
+      days-of-month = λ a new other p q. not-alike (λ (x : CFound). x .reason) (p .answer) (q .answer) (above 14 (omega arith));
+      day-names = λ a new other p q. not-alike (λ (x : CFound). x .reason) (p .answer) (q .answer) (above 14 (omega arith));
+      first-names = λ a new other p q. not-alike (λ (x : CFound). x .reason) (p .answer) (q .answer) (above 14 (omega arith));
       year-blocks = λ o r o₁ o₂ h p q. not-alike (λ (x : CLength). x .reason) (p .answer) (text-said year-11 o h q) (above 1 (omega arith));
       month-lines = λ o r o₁ o₂ h p q. not-alike (λ (x : CLength). x .reason) (p .answer) (text-said line-134 o h q) (above 7 (omega arith));
       month-items = λ o r o₁ o₂ h p q. not-alike (λ (x : CLength). x .reason) (p .answer) (text-said month-134 o h q) (above 7 (omega arith));

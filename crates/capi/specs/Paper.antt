@@ -3,7 +3,7 @@
 use Prim.Native.Nat.{ℕ, _+_, _≤_}
 use mathlib.Core.Path.{_≡_}
 use mathlib.Core.Logic.{_↔_, _≢_}
-use mathlib.Core.Bool.{Bool, false}
+use mathlib.Core.Bool.{Bool, true, false}
 use mathlib.Core.List.{List, [], _∷_}
 use lib.IntN.{ℤ, pos}
 use lib.ListN.{length, getD}
@@ -286,23 +286,26 @@ pub record Reason-0-iff-answered : Type 0 where
   pub print-month : ZeroPrint CPrintMonth PrintMonth
   pub print-day : ZeroPrint CPrintDay PrintDay
 
--- a slip on which nothing was read
-abbrev pub nothingRead : CReading
-nothingRead =
+-- a slip with six values, all read or none
+abbrev pub slip : Bool → ℕ → ℕ → ℕ → ℕ → ℕ → ℕ → CReading
+slip known year-name number mark day-of-month day-name first-name =
     record {
-      «year_name» = 0;
-      «month_number» = 0;
-      «leap_mark» = 0;
-      «day_of_month» = 0;
-      «day_name» = 0;
-      «first_name» = 0;
-      «year_name_known» = false;
-      «month_number_known» = false;
-      «leap_mark_known» = false;
-      «day_of_month_known» = false;
-      «day_name_known» = false;
-      «first_name_known» = false;
+      «year_name» = year-name;
+      «month_number» = number;
+      «leap_mark» = mark;
+      «day_of_month» = day-of-month;
+      «day_name» = day-name;
+      «first_name» = first-name;
+      «year_name_known» = known;
+      «month_number_known» = known;
+      «leap_mark_known» = known;
+      «day_of_month_known» = known;
+      «day_name_known» = known;
+      «first_name_known» = known;
     }
+
+abbrev pub nothingRead : CReading
+nothingRead = slip false 0 0 0 0 0 0
 
 -- of a call that prints: number x, whose text has n bytes, refused though there is room, and a buffer that begins with a nought left
 -- as it was
@@ -360,7 +363,10 @@ abbrev pub LowBitsPrinted : (ℕ → List ℕ → CLength → List ℕ → Type 
 LowBitsPrinted P x n =
     (o : List ℕ) (r : CLength) (o₁ o₂ : List ℕ) → n ≤ length o → P (x + 4294967296) o r o₁ → P x o r o₂ → ⊥
 
--- each number of each call taken by its low 32 bits, a planet by its low 8
+abbrev pub LowBitsFound : (ℕ → List ℕ → CFound → List ℕ → Type 0) → ℕ → Type 0
+LowBitsFound P x = (a : CFound) (new other : List ℕ) → P (x + 4294967296) (5 ∷ []) a new → P x (5 ∷ []) a other → ⊥
+
+-- each number of each call taken by its low 32 bits, a planet by its low 8; the six values of a slip are those of day 0
 pub record Wrong-low-bits : Type 0 where
   pub days : LowBits 4294967296 CDateOfDay 0
   pub years-of-dates : LowBits 4294967296 (λ y. CDayOfDate y 11 false 1) 1
@@ -382,8 +388,14 @@ pub record Wrong-low-bits : Type 0 where
   pub planets-of-nexts : LowBits 256 (λ p. CNextConjunction p 0) 1
   pub days-of-nexts : LowBits 4294967296 (CNextConjunction 1) 0
   pub planets-of-pairs : LowBits 256 CReducedPair 1
-  pub first-days : (a : CFound) (new other : List ℕ) → CSearch nothingRead 4294967296 0 (5 ∷ []) a new → CSearch nothingRead 0 0 (5 ∷ []) a other → ⊥
-  pub last-days : (a : CFound) (new other : List ℕ) → CSearch nothingRead 0 4294967296 (5 ∷ []) a new → CSearch nothingRead 0 0 (5 ∷ []) a other → ⊥
+  pub first-days : LowBitsFound (λ d. CSearch nothingRead d 0) 0
+  pub last-days : LowBitsFound (CSearch nothingRead 0) 0
+  pub year-names : LowBitsFound (λ v. CSearch (slip true v 11 1 1 1 1) 0 0) 17
+  pub month-numbers : LowBitsFound (λ v. CSearch (slip true 17 v 1 1 1 1) 0 0) 11
+  pub leap-marks : LowBitsFound (λ v. CSearch (slip true 17 11 v 1 1 1) 0 0) 1
+  pub days-of-month : LowBitsFound (λ v. CSearch (slip true 17 11 1 v 1 1) 0 0) 1
+  pub day-names : LowBitsFound (λ v. CSearch (slip true 17 11 1 1 v 1) 0 0) 1
+  pub first-names : LowBitsFound (λ v. CSearch (slip true 17 11 1 1 1 v) 0 0) 1
   pub year-blocks : LowBitsPrinted CPrintYear 11 235
   pub month-lines : LowBitsPrinted CPrintMonthLine 134 16
   pub month-items : LowBitsPrinted CPrintMonth 134 22
