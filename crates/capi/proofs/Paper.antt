@@ -36,6 +36,7 @@ use Rattle.planets.specs.declared.ConjunctionTold.the-variants as Conjunction'
 use Rattle.planets.specs.declared.Counted.{Counted}
 use Rattle.planets.specs.declared.NextTold.the-variants as Next'
 use Rattle.planets.specs.declared.Pair.{Pair}
+use Rattle.planets.specs.declared.PairTold.{PairTold}
 use Rattle.planets.specs.declared.PairTold.the-variants as Pair'
 use Rattle.planets.specs.Planets.{
   numbersOf,
@@ -45,7 +46,7 @@ use Rattle.planets.specs.Planets.{
   nextAt,
   pairAt,
 }
-use Rattle.planets.specs.Promises.{saidConjunction, saidNext, saidPair}
+use Rattle.planets.specs.Promises.{saidConjunction, saidNext, saidPair, ReducedPair}
 use Rattle.reading.specs.declared.Reading.{Reading}
 use Rattle.reading.specs.declared.Found.{Found}
 use Rattle.reading.specs.declared.Found.the-variants as Found'
@@ -410,6 +411,10 @@ refusal-is-bare =
       print-day = λ x o r o′ p h. printed-bare p h;
     }
 
+-- the pair that is promised is the printed one
+printed-pair : (n : ℕ) (a : PairTold) → ReducedPair n a ↔ (saidPair a ≡ pairAt n)
+printed-pair n a = (λ h. h, λ h. h)
+
 pub reason-0-iff-answered : Paper.Reason-0-iff-answered
 reason-0-iff-answered =
     record {
@@ -423,7 +428,11 @@ reason-0-iff-answered =
       term = λ y k r p. day-zero (termAt y k) (Sound.term-sound y k) r p;
       conjunction = λ n k r p. conjunction-zero (conjunctionAt n k) (Sound.conjunction-sound n k) r p;
       next = λ n d r p. next-zero (nextAt n d) (Sound.next-sound n d) r p;
-      pair = λ n r p. pair-zero (pairAt n) (Sound.pair-sound n) r p;
+      pair = λ n r p.
+          let z = pair-zero (pairAt n) (Sound.pair-sound n) r p in (
+            λ e. let w = z .0 e in (w .0, printed-pair n (Pair'.Is (w .0)) .1 (w .1), w .2),
+            λ w. z .1 (w .0, printed-pair n (Pair'.Is (w .0)) .0 (w .1), w .2),
+          );
       search = λ r first last old a new p. (
         λ z. let w = search-zero (readingOf r) first last (length old) a (p .answer) z in (w .0, record { answered = w .1; lent = p .lent }, w .2),
         λ w. ap (λ (x : CFound). x .reason) (w .2),
@@ -457,7 +466,11 @@ says-what-the-call-says =
       term = λ y k r. as-said saidTerm Term'.Is Term'.Refused (λ x. refl) (λ w. refl) flatDay (Sound.term-sound y k) r;
       conjunction = λ n k r. as-said saidConjunction Conjunction'.Is Conjunction'.Refused (λ x. refl) (λ w. refl) flatConjunction (Sound.conjunction-sound n k) r;
       next = λ n d r. as-said saidNext Next'.Is Next'.Refused (λ x. refl) (λ w. refl) flatNext (Sound.next-sound n d) r;
-      pair = λ n r. as-said saidPair Pair'.Is Pair'.Refused (λ x. refl) (λ w. refl) flatPair (Sound.pair-sound n) r;
+      pair = λ n r.
+          let c = as-said saidPair Pair'.Is Pair'.Refused (λ x. refl) (λ w. refl) flatPair (Sound.pair-sound n) r in (
+            λ p. let w = c .0 p in (w .0, printed-pair n (w .0) .1 (w .1), w .2),
+            λ w. c .1 (w .0, printed-pair n (w .0) .0 (w .1), w .2),
+          );
       search = λ r first last old a new. (
         λ p. let w = search-found (readingOf r) first last (length old) in
             (w .0, record { answered = w .1; lent = p .lent }, p .answer ∙ sym (ap flatFound (w .1))),
