@@ -1,6 +1,6 @@
 #!/usr/bin/env python3
-"""What the programs `tray` and `uses` must write, and `known` of the planets, by a computation of its own, straight from the
-sentences of the paper and of requests W11 and W12.
+"""What the programs `tray`, `uses` and `printed` must write, and `known` of the planets, by a computation of its own, straight from
+the sentences of the paper and of requests W11 and W12.
 
 It shares nothing with the library: the calendar is walked month by month from the origin, mid-terms are looked for among all
 even terms on each month's days, numbers are given out by the paper's two sentences, and every date is found by looking it up.
@@ -633,6 +633,24 @@ def known(desk):
     return by_hand + KNOWN_PLANETS + "".join(known_row(desk, *row) + "\n" for row in table_rows())
 
 
+# The program `printed`: the printed list of a bu.
+
+
+def printed():
+    """940 lines of place, day and name, as the clerk walks the months: 29 days and 499 parts a month, names round sixty from 1."""
+    out, day, rest, day_name = [], 0, 0, 1
+    for place in range(940):
+        out.append(f"{place} {day} {day_name}")
+        rest += 499
+        days = 30 if rest >= 940 else 29
+        rest -= 940 * (days - 29)
+        day += days
+        for _ in range(days):
+            day_name = day_name + 1 if day_name < 60 else 1
+    assert day == 27759 and rest == 0
+    return "\n".join(out) + "\n"
+
+
 def hold(files):
     """Write the files, or with --check say of each program whether its files stand as computed. The exit status."""
     if "--check" not in sys.argv[1:]:
@@ -649,7 +667,7 @@ def hold(files):
 
 def main():
     desk = Desk()
-    texts = {"tray": tray(desk), "uses": uses(desk), "known": known(desk)}
+    texts = {"tray": tray(desk), "uses": uses(desk), "known": known(desk), "printed": printed()}
     return hold({ROOT / "crates" / program / "stdout": text.encode() for program, text in texts.items()})
 
 
