@@ -11,7 +11,7 @@ what a Proof.antt says of its function, and the figures of a Cases.antt.
 
 usage: tools/unused.py [CRATE..]          what is found, in these crates or in all; exit status 1 if something is
        tools/unused.py --fix [CRATE..]    take out the imports, and each `pub` of proofs/ (run `rt fmt` after it, and this again); the
-                                          rest is only told
+                                          rest, and each must-fail edit whose text it took away, is only told
 """
 import collections
 import pathlib
@@ -245,6 +245,19 @@ def needless_code(files):
                 yield file, line, f"`pub {kind} {name}`: no other {'crate' if is_outer else 'file'} names it"
 
 
+def fix(file, narrow):
+    """Take out the imports that are not used and the `pub` of these lines; tell each must-fail edit that then has to be mended."""
+    lines = file.text.splitlines(keepends=True)
+    for line in narrow:
+        lines[line - 1] = re.sub(r"\bpub ", "", lines[line - 1], count=1)
+    new = file.without_unused("".join(lines))
+    file.path.write_text(new, encoding="utf8")
+    for edit in sorted((CRATES / file.crate).glob("must-fail/*.edit")):
+        for where, old in re.findall(r"^file: (.*)\nold: (.*)$", edit.read_text(encoding="utf8"), re.M):
+            if CRATES / file.crate / where == file.path and old in file.text and old not in new:
+                print(f"{edit.relative_to(ROOT)}: to be mended: `{old}` stands no longer in {where}")
+
+
 def main():
     files = [File(path) for path in sorted(CRATES.glob("*/*/**/*")) if path.suffix in (".antt", ".rt")]
     words = [word for word in sys.argv[1:] if word != "--fix"]
@@ -258,10 +271,7 @@ def main():
         print(f"{file.path.relative_to(ROOT)}:{line}: {what}")
     if "--fix" in sys.argv[1:]:
         for file in {one[0] for one in told}:
-            text = file.text.splitlines(keepends=True)
-            for _, line, _ in (one for one in narrow if one[0] is file):
-                text[line - 1] = re.sub(r"\bpub ", "", text[line - 1], count=1)
-            file.path.write_text(file.without_unused("".join(text)), encoding="utf8")
+            fix(file, [line for other, line, _ in narrow if other is file])
     by_crate = collections.Counter(one[0].crate for one in told)
     print(f"unused: {len(told)}" + "".join(f"; {crate} {n}" for crate, n in sorted(by_crate.items())))
     return 1 if told else 0
