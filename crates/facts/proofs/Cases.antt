@@ -1,8 +1,11 @@
 -- Figures of the paper at which a wrong definition shows at once. Assumes nothing.
 use mathlib.Core.Path.{_≡_, refl}
 use Rattle.rule.specs.Counts.{dayName, bu, yearInBu, headName}
+use Rattle.rule.specs.Lists.{those}
+use Rattle.rule.specs.Rule.{monthStart, firstMonth, monthsInYear, midTermsBefore, leap, midTermNumber, monthNumber}
 use Rattle.rule.specs.Reasons.{is}
-use Rattle.facts.specs.Facts.{solsticeYear, solsticeYearAt}
+use Rattle.facts.specs.declared.LeapMonth.the-variants.{With}
+use Rattle.facts.specs.Facts.{solsticeYear, solsticeYearAt, leapMonth}
 
 -- year 1 is there
 pub year-1-given : solsticeYearAt 1 ≡ is (solsticeYear 1)
@@ -13,3 +16,8 @@ year-1-given = refl
 pub head-of-77 : solsticeYear 77 .«head_name» ≡ 40
 unfolding solsticeYear dayName bu yearInBu headName
 head-of-77 = refl
+
+-- case 8: "Year 11: leap 9, month 134."
+pub leap-of-11 : leapMonth 11 ≡ With 9 134
+unfolding leapMonth those monthStart firstMonth monthsInYear midTermsBefore leap midTermNumber monthNumber
+leap-of-11 = refl

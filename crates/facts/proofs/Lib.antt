@@ -2,4 +2,6 @@
 pub mod Cases
 pub mod Leaps
 pub mod Made
+pub mod Given
+pub mod Exactly
 pub mod Paper

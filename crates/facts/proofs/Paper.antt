@@ -1,36 +1,23 @@
 -- What the paper says of these answers, proved, each statement under its name in small letters. Assumes nothing.
-use Prim.Native.Nat.{ℕ, _+_, _-_, _≤_, _<_}
+use Prim.Native.Nat.{ℕ}
 use native.Mathlib.Omega.{arith}
 use mathlib.Core.Path.{_≡_, refl, ap, sym, _∙_}
-use mathlib.Core.Bool.{Bool, true, false}
-use mathlib.Core.List.{List, [], _∷_}
+use mathlib.Core.Bool.{false≢true}
 use lib.Dec.{leb}
-use lib.ListN.{length}
-use Rattle.rule.specs.Lists.{those}
-use Rattle.rule.specs.Rule.{termDay, yearTerm, firstMonth, monthsInYear, InYear, leap, monthNumber}
-use Rattle.rule.specs.Paper.{monthsOf}
-use Rattle.rule.specs.Reasons.{within, reasonOf}
-use Rattle.rule.proofs.Years
-use Rattle.rule.proofs.Leap as Leaps
-use Rattle.rule.proofs.Lists.{empty, head-passes, hit-counts, none-pass}
-use Rattle.rule.proofs.Answers.{
-  reason-back,
-  within-true,
-  at-most,
-  one-given,
-  one-refused,
-  two-given,
-  two-first,
-  two-second,
-  read-back,
-  once,
-  given-not,
-}
+use Rattle.rule.specs.Counts.{YearInRange, MonthInRange, yearName, bu, yearInBu}
+use Rattle.rule.specs.Rule.{monthStart, monthLength, quarterDay, termDay, yearTerm, leapMark, monthAt, eclipse}
+use Rattle.rule.specs.Reasons.{Answer, is, within, reasonNumber, reasonOf}
+use Rattle.rule.proofs.Answers.{reason-back, within-true, at-most, read-back, once, given-not}
+use Rattle.rule.proofs.Leap.{mark-at}
+use Rattle.rule.proofs.Paper as Rule
+use Rattle.facts.specs.declared.SolsticeYear.{SolsticeYear}
 use Rattle.facts.specs.declared.SolsticeYearTold.{SolsticeYearTold}
 use Rattle.facts.specs.declared.SolsticeYearTold.the-variants as Solstice'
-use Rattle.facts.specs.declared.LeapMonth.the-variants.{Without, With}
+use Rattle.facts.specs.declared.LeapMonth.the-variants.{With}
+use Rattle.facts.specs.declared.YearFacts.{YearFacts}
 use Rattle.facts.specs.declared.YearTold.{YearTold}
 use Rattle.facts.specs.declared.YearTold.the-variants as Year'
+use Rattle.facts.specs.declared.MonthFacts.{MonthFacts}
 use Rattle.facts.specs.declared.MonthTold.{MonthTold}
 use Rattle.facts.specs.declared.MonthTold.the-variants as Month'
 use Rattle.facts.specs.declared.QuarterTold.{QuarterTold}
@@ -40,8 +27,6 @@ use Rattle.facts.specs.declared.TermTold.the-variants as Term'
 use Rattle.facts.specs.Facts.{
   solsticeYear,
   solsticeYearAt,
-  firstOf,
-  leapMonth,
   yearFacts,
   yearFactsAt,
   monthFacts,
@@ -50,9 +35,33 @@ use Rattle.facts.specs.Facts.{
   quarterAt,
   termAt,
 }
-use Rattle.facts.specs.Promises.{saidSolsticeYear, saidYear, saidMonth, saidQuarter, saidTerm}
+use Rattle.facts.specs.Promises.{
+  saidSolsticeYear,
+  saidYear,
+  saidMonth,
+  saidQuarter,
+  saidTerm,
+  SolsticeYearFacts,
+  MonthByCount,
+}
 use Rattle.facts.specs.Paper as Paper
-use Rattle.facts.proofs.Leaps.{found}
+use Rattle.facts.proofs.Cases.{leap-of-11}
+use Rattle.facts.proofs.Given.{
+  told-is,
+  one-literally,
+  one-reason,
+  one-only,
+  two-literally,
+  two-reason-first,
+  two-reason-second,
+  two-only,
+  solstice-year-given,
+  year-given,
+  month-given,
+  quarter-given,
+  term-given,
+}
+use Rattle.facts.proofs.Exactly.{solstice-exactly, year-exactly, month-exactly, quarter-exactly, term-exactly}
 
 pub reasons-of-facts : Paper.Reasons-of-facts
 unfolding solsticeYearAt yearFactsAt monthFactsAt quarterAt termAt
@@ -60,27 +69,27 @@ reasons-of-facts =
     record {
       years = λ y.
           record {
-            place-given = one-given (within 1 41040 y) 1 (solsticeYear y) (within-true 1 41040 y);
-            place-one = one-refused (within 1 41040 y) 1 (solsticeYear y) (within-true 1 41040 y);
-            own-given = one-given (within 1 41040 y) 1 (yearFacts y) (within-true 1 41040 y);
-            own-one = one-refused (within 1 41040 y) 1 (yearFacts y) (within-true 1 41040 y);
+            place-one = one-reason (within 1 41040 y) 1 (solsticeYear y) (within-true 1 41040 y);
+            place-only = one-only (within 1 41040 y) 1 (solsticeYear y) (within-true 1 41040 y);
+            own-one = one-reason (within 1 41040 y) 1 (yearFacts y) (within-true 1 41040 y);
+            own-only = one-only (within 1 41040 y) 1 (yearFacts y) (within-true 1 41040 y);
           };
       months = λ n.
           record {
-            given = one-given (leb n 507599) 7 (monthFacts n) (at-most n 507599);
-            seven = one-refused (leb n 507599) 7 (monthFacts n) (at-most n 507599);
+            seven = one-reason (leb n 507599) 7 (monthFacts n) (at-most n 507599);
+            only = one-only (leb n 507599) 7 (monthFacts n) (at-most n 507599);
           };
       quarters = λ n q.
           record {
-            given = two-given (leb n 507599) (leb q 3) 7 15 (omega arith) (quarterOf n q) (at-most n 507599) (at-most q 3);
-            seven = two-first (leb n 507599) (leb q 3) 7 15 (omega arith) (quarterOf n q) (at-most n 507599) (at-most q 3);
-            fifteen = two-second (leb n 507599) (leb q 3) 7 15 (omega arith) (quarterOf n q) (at-most n 507599) (at-most q 3);
+            seven = two-reason-first (leb n 507599) (leb q 3) 7 15 (omega arith) (quarterOf n q) (at-most n 507599) (at-most q 3);
+            fifteen = two-reason-second (leb n 507599) (leb q 3) 7 15 (omega arith) (quarterOf n q) (at-most n 507599) (at-most q 3);
+            only = two-only (leb n 507599) (leb q 3) 7 15 (omega arith) (quarterOf n q) (at-most n 507599) (at-most q 3);
           };
       terms = λ y k.
           record {
-            one = two-first (within 1 41040 y) (leb k 23) 1 15 (omega arith) (termDay (yearTerm y k)) (within-true 1 41040 y) (at-most k 23);
-            given = two-given (within 1 41040 y) (leb k 23) 1 15 (omega arith) (termDay (yearTerm y k)) (within-true 1 41040 y) (at-most k 23);
-            fifteen = two-second (within 1 41040 y) (leb k 23) 1 15 (omega arith) (termDay (yearTerm y k)) (within-true 1 41040 y) (at-most k 23);
+            one = two-reason-first (within 1 41040 y) (leb k 23) 1 15 (omega arith) (termDay (yearTerm y k)) (within-true 1 41040 y) (at-most k 23);
+            fifteen = two-reason-second (within 1 41040 y) (leb k 23) 1 15 (omega arith) (termDay (yearTerm y k)) (within-true 1 41040 y) (at-most k 23);
+            only = two-only (within 1 41040 y) (leb k 23) 1 15 (omega arith) (termDay (yearTerm y k)) (within-true 1 41040 y) (at-most k 23);
           };
     }
 
@@ -115,59 +124,92 @@ unique-facts =
     term (Term'.Is r) = refl
     term (Term'.Refused r) = ap Term'.Refused (reason-back r)
 
-pub refusing-all : Paper.Refusing-all
-refusing-all =
+-- the literal readings
+pub solstice-year : Paper.Solstice-year
+unfolding solsticeYearAt
+solstice-year y s =
+    one-literally (within 1 41040 y) 1 (solsticeYear y) (within-true 1 41040 y) (Paper.IsSolsticeYear y s) s (λ h. solstice-exactly y (h .0) s)
+
+pub year-facts : Paper.Year-facts
+unfolding yearFactsAt
+year-facts y f = one-literally (within 1 41040 y) 1 (yearFacts y) (within-true 1 41040 y) (Paper.IsYearFacts y f) f (λ h. year-exactly y (h .0) f)
+
+pub month-by-count : Paper.Month-by-count
+unfolding monthFactsAt
+month-by-count n f = one-literally (leb n 507599) 7 (monthFacts n) (at-most n 507599) (Paper.IsMonthFacts n f) f (λ h. month-exactly n f)
+
+pub quarter-of-month : Paper.Quarter-of-month
+unfolding quarterAt
+quarter-of-month n q r =
+    two-literally (leb n 507599) (leb q 3) 7 15 (omega arith) (quarterOf n q) (at-most n 507599) (at-most q 3) (Paper.IsQuarter n q r) r (λ h. quarter-exactly n q r)
+
+pub term-of-year : Paper.Term-of-year
+unfolding termAt
+term-of-year y k d =
+    two-literally (within 1 41040 y) (leb k 23) 1 15 (omega arith) (termDay (yearTerm y k)) (within-true 1 41040 y) (at-most k 23) (Paper.IsTerm y k d) d
+    (λ h. term-exactly y k d)
+
+-- one answer for two inputs at which some number of what is given differs
+differ : {A E : Type 0} (said : E → Answer A) (f : A → ℕ) (a : E) (x y : A) → (f x ≡ f y → ⊥) → said a ≡ is x → said a ≡ is y → ⊥
+differ said f a x y apart p q = apart (ap f (told-is y x (is y) refl (sym p ∙ q)))
+
+pub wrong-facts : Paper.Wrong-facts
+unfolding solsticeYear bu yearFacts yearName monthFacts monthStart quarterOf quarterDay termDay
+wrong-facts =
     record {
-      solstice-year = λ h. given-not (solsticeYearAt 1) (solsticeYear 1) (h 1 .0) (reasons-of-facts .years 1 .place-given .1 (omega arith)) (h 1 .1);
-      year = λ h. given-not (yearFactsAt 1) (yearFacts 1) (h 1 .0) (reasons-of-facts .years 1 .own-given .1 (omega arith)) (h 1 .1);
-      month = λ h. given-not (monthFactsAt 0) (monthFacts 0) (h 0 .0) (reasons-of-facts .months 0 .given .1 (omega arith)) (h 0 .1);
-      quarter = λ h. given-not (quarterAt 0 0) (quarterOf 0 0) (h 0 0 .0) (reasons-of-facts .quarters 0 0 .given .1 (omega arith, omega arith)) (h 0 0 .1);
-      term = λ h. given-not (termAt 1 0) (termDay (yearTerm 1 0)) (h 1 0 .0) (reasons-of-facts .terms 1 0 .given .1 ((omega arith, omega arith), omega arith)) (h 1 0 .1);
+      solstice-year-refused = λ why p. given-not (solsticeYearAt 1) (solsticeYear 1) (reasonNumber why) (solstice-year-given 1 (omega arith)) (sym p);
+      year-refused = λ why p. given-not (yearFactsAt 11) (yearFacts 11) (reasonNumber why) (year-given 11 (omega arith)) (sym p);
+      month-refused = λ why p. given-not (monthFactsAt 134) (monthFacts 134) (reasonNumber why) (month-given 134 (omega arith)) (sym p);
+      quarter-refused = λ why p. given-not (quarterAt 0 0) (quarterOf 0 0) (reasonNumber why) (quarter-given 0 0 (omega arith) (omega arith)) (sym p);
+      term-refused = λ why p. given-not (termAt 1 0) (termDay (yearTerm 1 0)) (reasonNumber why) (term-given 1 0 (omega arith) (omega arith)) (sym p);
+      solstice-year-fixed = λ a p q.
+          differ saidSolsticeYear (λ s. s .bu) a (solsticeYear 76) (solsticeYear 77) (λ e. omega arith)
+          (p ∙ solstice-year-given 76 (omega arith))
+          (q ∙ solstice-year-given 77 (omega arith));
+      year-fixed = λ a p q.
+          differ saidYear (λ f. f .name) a (yearFacts 76) (yearFacts 77) (λ e. omega arith)
+          (p ∙ year-given 76 (omega arith))
+          (q ∙ year-given 77 (omega arith));
+      month-fixed = λ a p q.
+          differ saidMonth (λ f. f .«first_day») a (monthFacts 134) (monthFacts 135) (λ e. omega arith)
+          (p ∙ month-given 134 (omega arith))
+          (q ∙ month-given 135 (omega arith));
+      quarter-fixed = λ a p q.
+          differ saidQuarter (λ r. r .day) a (quarterOf 0 0) (quarterOf 0 1) (λ e. omega arith)
+          (p ∙ quarter-given 0 0 (omega arith) (omega arith))
+          (q ∙ quarter-given 0 1 (omega arith) (omega arith));
+      term-fixed = λ a p q.
+          differ saidTerm (λ d. d) a (termDay (yearTerm 1 0)) (termDay (yearTerm 1 1)) (λ e. omega arith)
+          (p ∙ term-given 1 0 (omega arith) (omega arith))
+          (q ∙ term-given 1 1 (omega arith) (omega arith));
     }
 
--- a year's leap months are at most one
-at-most-one : (y : ℕ) → 1 ≤ y → length (monthsOf leap y) ≤ 1
-at-most-one y l = omega (arith, Leaps.year-leaps y l, Years.first-step y l, Years.first-next y l)
+-- what is told of a year and of a month
+its-place : (y : ℕ) (s : SolsticeYear) → YearInRange y → SolsticeYearFacts y (Solstice'.Is s) → s ≡ solsticeYear y
+its-place y s h = told-is (solsticeYear y) s (solsticeYearAt y) (solstice-year-given y h)
 
--- so a month of the year that is leap is the first of them
-leap-found : (y n : ℕ) → InYear y n → leap n ≡ true → leapMonth y ≡ With (monthNumber n) n
-unfolding leapMonth
-leap-found y n i h = found (firstMonth y) (monthsInYear y) (n - firstMonth y) none inside here ∙ ap (λ (m : ℕ). With (monthNumber m) m) e
-  where
-    e : firstMonth y + (n - firstMonth y) ≡ n
-    e = omega (arith, i .1)
+its-month : (n : ℕ) (f : MonthFacts) → MonthInRange n → MonthByCount n (Month'.Is f) → f ≡ monthFacts n
+its-month n f h = told-is (monthFacts n) f (monthFactsAt n) (month-given n h)
 
-    here : leap (firstMonth y + (n - firstMonth y)) ≡ true
-    here = ap leap e ∙ h
+its-eclipse : (n : ℕ) (f : MonthFacts) → MonthInRange n → MonthByCount n (Month'.Is f) → f .eclipse ≡ eclipse n
+unfolding monthFacts
+its-eclipse n f h p = ap (λ (g : MonthFacts). g .eclipse) (its-month n f h p)
 
-    inside : n - firstMonth y < monthsInYear y
-    inside = omega (arith, i .1, i .2, Years.first-next y (i .0))
-
-    none : those leap (firstMonth y) (n - firstMonth y) ≡ []
-    none = empty (those leap (firstMonth y) (n - firstMonth y)) (omega (arith, hit-counts leap (firstMonth y) (n - firstMonth y) (monthsInYear y) inside here, at-most-one y (i .0)))
-
-pub leap-month : Paper.Leap-month
-unfolding leapMonth
-leap-month y l = record { with-one = λ k n. (there k n (monthsOf leap y) refl, back k n); without = (λ e n i. none e n i (leap n) refl, all) }
-  where
-    there : (k n : ℕ) (ns : List ℕ) → monthsOf leap y ≡ ns → leapMonth y ≡ With k n → InYear y n × (leap n ≡ true) × (monthNumber n ≡ k)
-    there k n [] e f = absurd (let g : leapMonth y ≡ Without = ap firstOf e in let o : _≡_ {A = ℕ} 0 1 = cc in omega arith)
-    there k n (x ∷ xs) e f =
-        let g : With (monthNumber x) x ≡ With k n = sym (ap firstOf e) ∙ f in
-        let same : x ≡ n = cc in
-        let number : monthNumber x ≡ k = cc in
-        let h = head-passes leap (firstMonth y) (monthsInYear y) x xs e in (
-          (l, omega (arith, h .1), omega (arith, h .2, Years.first-next y l)),
-          sym (ap leap same) ∙ h .0,
-          sym (ap monthNumber same) ∙ number,
-        )
-
-    back : (k n : ℕ) → InYear y n × (leap n ≡ true) × (monthNumber n ≡ k) → leapMonth y ≡ With k n
-    back k n h = leap-found y n (h .0) (h .1) ∙ ap (λ (j : ℕ). With j n) (h .2)
-
-    none : leapMonth y ≡ Without → (n : ℕ) → InYear y n → (b : Bool) → leap n ≡ b → leap n ≡ false
-    none e n i true h = absurd (let g : leapMonth y ≡ With (monthNumber n) n = leap-found y n i h in let o : _≡_ {A = ℕ} 0 1 = cc in omega arith)
-    none e n i false h = h
-
-    all : ((n : ℕ) → InYear y n → leap n ≡ false) → leapMonth y ≡ Without
-    all h = ap firstOf (empty (monthsOf leap y) (none-pass leap (firstMonth y) (monthsInYear y) (λ i j. h (firstMonth y + i) (l, omega arith, omega (arith, Years.first-next y l)))))
+pub misleading-facts : Paper.Misleading-facts
+unfolding solsticeYear bu yearInBu yearFacts monthFacts monthLength monthStart eclipse
+misleading-facts =
+    record {
+      next-bu = λ s p e. omega (arith, ap (λ (t : SolsticeYear). t .bu) (its-place 76 s (omega arith) p));
+      year-0 = λ s p e. omega (arith, ap (λ (t : SolsticeYear). t .«year_in_bu») (its-place 76 s (omega arith) p));
+      shortcut = λ f n p e.
+          let g : f ≡ yearFacts 11 = told-is (yearFacts 11) f (yearFactsAt 11) (year-given 11 (omega arith)) p in
+          let w : With 9 134 ≡ With 8 n = sym leap-of-11 ∙ sym (ap (λ (h : YearFacts). h .«leap_month») g) ∙ e in
+          let o : _≡_ {A = ℕ} 9 8 = cc in omega arith;
+      by-instant = λ f k p e.
+          let g : f .month ≡ monthAt 32 = ap (λ (h : MonthFacts). h .month) (its-month 32 f (omega arith) p) in
+          false≢true (ap leapMark (sym e ∙ g) ∙ mark-at 32 ∙ Rule.instants-mislead .0);
+      by-turns = λ f p e. omega (arith, ap (λ (g : MonthFacts). g .«month_length») (its-month 129 f (omega arith) p));
+      not-counted = λ f p e. false≢true (sym e ∙ its-eclipse 134 f (omega arith) p);
+      starts-then = λ f p e. false≢true (sym (its-eclipse 135 f (omega arith) p) ∙ e);
+      eclipses-kept = λ f g p q e. false≢true (sym (its-eclipse 945 g (omega arith) q) ∙ sym e ∙ its-eclipse 5 f (omega arith) p);
+    }

@@ -1,62 +1,126 @@
 -- What the paper says of these answers, as statements. proofs/Paper.antt proves each under the same name in small letters.
 -- Assumes nothing.
-use Prim.Native.Nat.{ℕ, _≤_}
+use Prim.Native.Nat.{ℕ, _+_, _-_, _*_, _%_, _≤_, _<_}
 use mathlib.Core.Path.{_≡_}
-use mathlib.Core.Logic.{_↔_}
+use mathlib.Core.Logic.{_↔_, _⊎_}
 use mathlib.Core.Bool.{true, false}
-use Rattle.rule.specs.Counts.{YearInRange, MonthInRange}
-use Rattle.rule.specs.Rule.{termDay, yearTerm, InYear, leap, monthNumber}
-use Rattle.rule.specs.Reasons.{is, refused}
-use Rattle.facts.specs.declared.LeapMonth.the-variants.{Without, With}
+use Rattle.rule.specs.Counts.{YearInRange, MonthInRange, elapsed, dayName, yearName}
+use Rattle.rule.specs.Rule.{monthStart, yearTerm, firstMonth, InYear}
+use Rattle.rule.specs.Paper.{IsPlace, NoMidTerm, IsMonth}
+use Rattle.rule.specs.declared.Month.the-variants.{Ordinary, Leap}
+use Rattle.rule.specs.declared.Quarter.{Quarter}
+use Rattle.rule.specs.declared.Reason.{Reason}
+use Rattle.rule.specs.declared.Reason.the-variants.{NoSuchYear, NoSuchMonth, NoSuchTermOrQuarter}
+use Rattle.facts.specs.declared.SolsticeYear.{SolsticeYear}
 use Rattle.facts.specs.declared.SolsticeYearTold.{SolsticeYearTold}
+use Rattle.facts.specs.declared.SolsticeYearTold.the-variants as Solstice'
+use Rattle.facts.specs.declared.LeapMonth.{LeapMonth}
+use Rattle.facts.specs.declared.LeapMonth.the-variants.{Without, With}
+use Rattle.facts.specs.declared.YearFacts.{YearFacts}
 use Rattle.facts.specs.declared.YearTold.{YearTold}
+use Rattle.facts.specs.declared.YearTold.the-variants as Year'
+use Rattle.facts.specs.declared.MonthFacts.{MonthFacts}
 use Rattle.facts.specs.declared.MonthTold.{MonthTold}
+use Rattle.facts.specs.declared.MonthTold.the-variants as Month'
 use Rattle.facts.specs.declared.QuarterTold.{QuarterTold}
+use Rattle.facts.specs.declared.QuarterTold.the-variants as Quarter'
 use Rattle.facts.specs.declared.TermTold.{TermTold}
-use Rattle.facts.specs.Facts.{
-  solsticeYear,
-  solsticeYearAt,
-  leapMonth,
-  yearFacts,
-  yearFactsAt,
-  monthFacts,
-  monthFactsAt,
-  quarterOf,
-  quarterAt,
-  termAt,
-}
+use Rattle.facts.specs.declared.TermTold.the-variants as Term'
 use Rattle.facts.specs.Promises.{SolsticeYearFacts, YearOwnFacts, MonthByCount, QuarterOfMonth, TermOfYear}
 
--- a year's leap month is the month of that year that is leap, with its number; it has none where none of its months is leap
-pub record LeapMonthOf (y : ℕ) : Type 0 where
-  pub with-one : (k n : ℕ) → (leapMonth y ≡ With k n) ↔ (InYear y n × (leap n ≡ true) × (monthNumber n ≡ k))
-  pub without : (leapMonth y ≡ Without) ↔ ((n : ℕ) → InYear y n → leap n ≡ false)
+-- "Year Y begins with the month count that is the whole part of 235 × (Y − 1) divided by 19; the rest is its leap remainder. It has
+-- 13 months exactly when that is 12 or more, else 12."
+pub record YearBegins (y first rest months : ℕ) : Type 0 where
+  pub begins : 19 * first + rest ≡ 235 * elapsed y
+  pub below : rest < 19
+  pub thirteen : (months ≡ 13) ↔ (12 ≤ rest)
+  pub twelve : (months ≡ 12) ↔ (rest < 12)
 
-abbrev pub Leap-month : Type 0
-Leap-month = (y : ℕ) → 1 ≤ y → LeapMonthOf y
+-- what the facts of a solstice year are: its ji, bu and year in bu, after w whole yuan; "a bu's head name is that of its first day",
+-- the first day of the first month of its first year; its months
+pub record IsSolsticeYear (y : ℕ) (s : SolsticeYear) : Type 0 where
+  pub w : ℕ
+  pub its-place : IsPlace y w (s .ji) (s .bu) (s .«year_in_bu»)
+  pub its-head : s .«head_name» ≡ dayName (monthStart (firstMonth (y - (s .«year_in_bu» - 1))))
+  pub its-months : YearBegins y (s .«first_month») (s .«leap_remainder») (s .months)
 
--- reason 1, "year outside 1 to 41,040", for both calls of a year
+-- a solstice year's facts are given exactly in range, and are just what the paper says
+abbrev pub Solstice-year : Type 0
+Solstice-year = (y : ℕ) (s : SolsticeYear) → SolsticeYearFacts y (Solstice'.Is s) ↔ (YearInRange y × IsSolsticeYear y s)
+
+-- a year's leap month: with number k and count n exactly where month n of that year is leap with that number, and none exactly where
+-- each month of that year holds a mid-term
+pub record LeapMonthOf (y : ℕ) (l : LeapMonth) : Type 0 where
+  pub with-one : (k n : ℕ) → (l ≡ With k n) ↔ (InYear y n × IsMonth n (Leap k))
+  pub without : (l ≡ Without) ↔ ((n : ℕ) → InYear y n → NoMidTerm n → ⊥)
+
+-- what a year's own facts are: its name, the months that it lists, by its leap remainder, and its leap month
+pub record IsYearFacts (y : ℕ) (f : YearFacts) : Type 0 where
+  pub its-name : f .name ≡ yearName y
+  pub rest : ℕ
+  pub its-months : YearBegins y (f .«first_month») rest (f .months)
+  pub its-leap-month : LeapMonthOf y (f .«leap_month»)
+
+abbrev pub Year-facts : Type 0
+Year-facts = (y : ℕ) (f : YearFacts) → YearOwnFacts y (Year'.Is f) ↔ (YearInRange y × IsYearFacts y f)
+
+-- what the facts of month n are: ordinary or leap, with its number; "Month n starts on day 27,759 × n divided by 940, whole part; the
+-- rest is its small remainder. Its length runs to the next start. It is 30 exactly when the remainder is 441 or more, else 29."; the
+-- name of its first day; "an eclipse month exactly when 23 × (n + 1), divided by 135, leaves less than 23"
+pub record IsMonthFacts (n : ℕ) (f : MonthFacts) : Type 0 where
+  pub its-month : IsMonth n (f .month)
+  pub starts : 940 * f .«first_day» + f .«small_remainder» ≡ 27759 * n
+  pub below : f .«small_remainder» < 940
+  pub its-length : f .«first_day» + f .«month_length» ≡ monthStart (n + 1)
+  pub thirty : (f .«month_length» ≡ 30) ↔ (441 ≤ f .«small_remainder»)
+  pub twenty-nine : (f .«month_length» ≡ 29) ↔ (f .«small_remainder» < 441)
+  pub its-name : f .«first_name» ≡ dayName (f .«first_day»)
+  pub its-eclipse : (f .eclipse ≡ true) ↔ (23 * (n + 1) % 135 < 23)
+
+abbrev pub Month-by-count : Type 0
+Month-by-count = (n : ℕ) (f : MonthFacts) → MonthByCount n (Month'.Is f) ↔ (MonthInRange n × IsMonthFacts n f)
+
+-- "Quarter q (0 new, 1 first, 2 full, 3 last) of month n falls on the whole part of 27,759 × (4n + q) divided by 3,760; the rest, in
+-- parts of 3,760, is given too."
+pub record IsQuarter (n q : ℕ) (r : Quarter) : Type 0 where
+  pub falls : 3760 * r .day + r .parts ≡ 27759 * (4 * n + q)
+  pub below : r .parts < 3760
+
+abbrev pub Quarter-of-month : Type 0
+Quarter-of-month = (n q : ℕ) (r : Quarter) → QuarterOfMonth n q (Quarter'.Is r) ↔ (MonthInRange n × (q ≤ 3) × IsQuarter n q r)
+
+-- "Term t, counted from the origin, falls on the whole part of 487 × t divided by 32. Year Y and term k (0 to 23, 0 the solstice) mean
+-- t = 24 × (Y − 1) + k."
+pub record IsTerm (y k d : ℕ) : Type 0 where
+  pub rest : ℕ
+  pub falls : 32 * d + rest ≡ 487 * yearTerm y k
+  pub below : rest < 32
+
+abbrev pub Term-of-year : Type 0
+Term-of-year = (y k d : ℕ) → TermOfYear y k (Term'.Is d) ↔ (YearInRange y × (k ≤ 23) × IsTerm y k d)
+
+-- reason 1, "year outside 1 to 41,040", and no other, for both calls of a year
 pub record YearReasons (y : ℕ) : Type 0 where
-  pub place-given : (solsticeYearAt y ≡ is (solsticeYear y)) ↔ YearInRange y
-  pub place-one : (solsticeYearAt y ≡ refused 1) ↔ (YearInRange y → ⊥)
-  pub own-given : (yearFactsAt y ≡ is (yearFacts y)) ↔ YearInRange y
-  pub own-one : (yearFactsAt y ≡ refused 1) ↔ (YearInRange y → ⊥)
+  pub place-one : SolsticeYearFacts y (Solstice'.Refused NoSuchYear) ↔ (YearInRange y → ⊥)
+  pub place-only : (why : Reason) → SolsticeYearFacts y (Solstice'.Refused why) → why ≡ NoSuchYear
+  pub own-one : YearOwnFacts y (Year'.Refused NoSuchYear) ↔ (YearInRange y → ⊥)
+  pub own-only : (why : Reason) → YearOwnFacts y (Year'.Refused why) → why ≡ NoSuchYear
 
--- reason 7, "month count outside the range"
+-- reason 7, "month count outside the range", and no other
 pub record MonthReasons (n : ℕ) : Type 0 where
-  pub given : (monthFactsAt n ≡ is (monthFacts n)) ↔ MonthInRange n
-  pub seven : (monthFactsAt n ≡ refused 7) ↔ (MonthInRange n → ⊥)
+  pub seven : MonthByCount n (Month'.Refused NoSuchMonth) ↔ (MonthInRange n → ⊥)
+  pub only : (why : Reason) → MonthByCount n (Month'.Refused why) → why ≡ NoSuchMonth
 
--- "Term or quarter: 1 or 7, then 15"; 15 is "term above 23 or quarter above 3"
+-- "Term or quarter: 1 or 7, then 15"; 15 is "term above 23 or quarter above 3"; and no other
 pub record QuarterReasons (n q : ℕ) : Type 0 where
-  pub given : (quarterAt n q ≡ is (quarterOf n q)) ↔ (MonthInRange n × (q ≤ 3))
-  pub seven : (quarterAt n q ≡ refused 7) ↔ (MonthInRange n → ⊥)
-  pub fifteen : (quarterAt n q ≡ refused 15) ↔ (MonthInRange n × (q ≤ 3 → ⊥))
+  pub seven : QuarterOfMonth n q (Quarter'.Refused NoSuchMonth) ↔ (MonthInRange n → ⊥)
+  pub fifteen : QuarterOfMonth n q (Quarter'.Refused NoSuchTermOrQuarter) ↔ (MonthInRange n × (q ≤ 3 → ⊥))
+  pub only : (why : Reason) → QuarterOfMonth n q (Quarter'.Refused why) → (why ≡ NoSuchMonth) ⊎ (why ≡ NoSuchTermOrQuarter)
 
 pub record TermReasons (y k : ℕ) : Type 0 where
-  pub one : (termAt y k ≡ refused 1) ↔ (YearInRange y → ⊥)
-  pub given : (termAt y k ≡ is (termDay (yearTerm y k))) ↔ (YearInRange y × (k ≤ 23))
-  pub fifteen : (termAt y k ≡ refused 15) ↔ (YearInRange y × (k ≤ 23 → ⊥))
+  pub one : TermOfYear y k (Term'.Refused NoSuchYear) ↔ (YearInRange y → ⊥)
+  pub fifteen : TermOfYear y k (Term'.Refused NoSuchTermOrQuarter) ↔ (YearInRange y × (k ≤ 23 → ⊥))
+  pub only : (why : Reason) → TermOfYear y k (Term'.Refused why) → (why ≡ NoSuchYear) ⊎ (why ≡ NoSuchTermOrQuarter)
 
 pub record Reasons-of-facts : Type 0 where
   pub years : (y : ℕ) → YearReasons y
@@ -72,10 +136,32 @@ pub record Unique-facts : Type 0 where
   pub quarter : (n q : ℕ) (a b : QuarterTold) → QuarterOfMonth n q a → QuarterOfMonth n q b → a ≡ b
   pub term : (y k : ℕ) (a b : TermTold) → TermOfYear y k a → TermOfYear y k b → a ≡ b
 
--- a version that refuses all is shut out, of each call
-pub record Refusing-all : Type 0 where
-  pub solstice-year : ((y : ℕ) → (r : ℕ) × (solsticeYearAt y ≡ refused r)) → ⊥
-  pub year : ((y : ℕ) → (r : ℕ) × (yearFactsAt y ≡ refused r)) → ⊥
-  pub month : ((n : ℕ) → (r : ℕ) × (monthFactsAt n ≡ refused r)) → ⊥
-  pub quarter : ((n q : ℕ) → (r : ℕ) × (quarterAt n q ≡ refused r)) → ⊥
-  pub term : ((y k : ℕ) → (r : ℕ) × (termAt y k ≡ refused r)) → ⊥
+-- wrong versions, each shut out at a named input: of each call one that refuses all, and one fixed answer
+pub record Wrong-facts : Type 0 where
+  pub solstice-year-refused : (why : Reason) → SolsticeYearFacts 1 (Solstice'.Refused why) → ⊥
+  pub year-refused : (why : Reason) → YearOwnFacts 11 (Year'.Refused why) → ⊥
+  pub month-refused : (why : Reason) → MonthByCount 134 (Month'.Refused why) → ⊥
+  pub quarter-refused : (why : Reason) → QuarterOfMonth 0 0 (Quarter'.Refused why) → ⊥
+  pub term-refused : (why : Reason) → TermOfYear 1 0 (Term'.Refused why) → ⊥
+  pub solstice-year-fixed : (a : SolsticeYearTold) → SolsticeYearFacts 76 a → SolsticeYearFacts 77 a → ⊥
+  pub year-fixed : (a : YearTold) → YearOwnFacts 76 a → YearOwnFacts 77 a → ⊥
+  pub month-fixed : (a : MonthTold) → MonthByCount 134 a → MonthByCount 135 a → ⊥
+  pub quarter-fixed : (a : QuarterTold) → QuarterOfMonth 0 0 a → QuarterOfMonth 0 1 a → ⊥
+  pub term-fixed : (a : TermTold) → TermOfYear 1 0 a → TermOfYear 1 1 a → ⊥
+
+-- and those of "What would mislead the desk":
+-- "Dividing the inclusive year by 76, so that year 76 falls into the next bu as its year 0."
+-- "The shortcut for the leap month.": it gives leap 8 in year 11
+-- "Comparing mid-term and new moon by the instant and not by the day.": month 32 would hold a mid-term
+-- "Taking months as strictly big and small by turns; months 128 and 129 are both big."
+-- "Dating a remainderless eclipse to the month that starts then.": that of month 134 to month 135
+-- "Assuming that 27,759 days keep eclipse months.": they lead from month 5 to month 945
+pub record Misleading-facts : Type 0 where
+  pub next-bu : (s : SolsticeYear) → SolsticeYearFacts 76 (Solstice'.Is s) → s .bu ≡ 2 → ⊥
+  pub year-0 : (s : SolsticeYear) → SolsticeYearFacts 76 (Solstice'.Is s) → s .«year_in_bu» ≡ 0 → ⊥
+  pub shortcut : (f : YearFacts) (n : ℕ) → YearOwnFacts 11 (Year'.Is f) → f .«leap_month» ≡ With 8 n → ⊥
+  pub by-instant : (f : MonthFacts) (k : ℕ) → MonthByCount 32 (Month'.Is f) → f .month ≡ Ordinary k → ⊥
+  pub by-turns : (f : MonthFacts) → MonthByCount 129 (Month'.Is f) → f .«month_length» ≡ 29 → ⊥
+  pub not-counted : (f : MonthFacts) → MonthByCount 134 (Month'.Is f) → f .eclipse ≡ false → ⊥
+  pub starts-then : (f : MonthFacts) → MonthByCount 135 (Month'.Is f) → f .eclipse ≡ true → ⊥
+  pub eclipses-kept : (f g : MonthFacts) → MonthByCount 5 (Month'.Is f) → MonthByCount 945 (Month'.Is g) → f .eclipse ≡ g .eclipse → ⊥

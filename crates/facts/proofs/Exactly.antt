@@ -1,0 +1,223 @@
+-- What each call gives is exactly what the paper says of it, and nothing else is. Assumes nothing.
+use Prim.Native.Nat.{ℕ, _+_, _-_, _*_, _/_, _%_, _≤_, _<_}
+use native.Mathlib.Omega.{arith}
+use mathlib.Core.Path.{_≡_, refl, ap, sym, _∙_, subst}
+use mathlib.Core.Logic.{_↔_, ⊎-elim}
+use mathlib.Core.Bool.{Bool, true, false}
+use Rattle.rule.specs.Counts.{elapsed, dayName, ji, bu, yearInBu, headName}
+use Rattle.rule.specs.Rule.{
+  monthStart,
+  smallRemainder,
+  monthLength,
+  quarterDay,
+  quarterParts,
+  termDay,
+  yearTerm,
+  firstMonth,
+  leapRemainder,
+  monthsInYear,
+  InYear,
+  leap,
+  monthNumber,
+  monthAt,
+  numberOf,
+  leapMark,
+  eclipse,
+}
+use Rattle.rule.specs.Paper.{NoMidTerm, IsMonth}
+use Rattle.rule.specs.declared.Month.the-variants.{Leap}
+use Rattle.rule.specs.declared.Quarter.{Quarter}
+use Rattle.rule.proofs.Months
+use Rattle.rule.proofs.Years
+use Rattle.rule.proofs.Leap.{as-leap, mark-at, number-at}
+use Rattle.rule.proofs.Pairs.{lt-or-le}
+use Rattle.rule.proofs.Paper as Rule
+use Rattle.facts.specs.declared.SolsticeYear.{SolsticeYear}
+use Rattle.facts.specs.declared.LeapMonth.{LeapMonth}
+use Rattle.facts.specs.declared.LeapMonth.the-variants.{Without, With}
+use Rattle.facts.specs.declared.YearFacts.{YearFacts}
+use Rattle.facts.specs.declared.MonthFacts.{MonthFacts}
+use Rattle.facts.specs.Facts.{solsticeYear, leapMonth, yearFacts, monthFacts, quarterOf}
+use Rattle.facts.specs.Paper.{YearBegins, IsSolsticeYear, LeapMonthOf, IsYearFacts, IsMonthFacts, IsQuarter, IsTerm}
+use Rattle.facts.proofs.Leaps.{leap-found, leap-none, leap-is}
+use Rattle.facts.proofs.Made.{solstice-year-made, year-made, month-made, quarter-made}
+
+-- x is L, and nothing else is
+exactly : {A : Type 0} (L : A → Type 0) (x : A) → L x → ((a : A) → L a → a ≡ x) → (a : A) → (x ≡ a) ↔ L a
+exactly L x h only a = (λ e. subst L e h, λ l. sym (only a l))
+
+-- two tests of the same
+same-test : {P : Type 0} (a b : Bool) → ((a ≡ true) ↔ P) → ((b ≡ true) ↔ P) → a ≡ b
+same-test true b f g = sym (g .1 (f .0 refl))
+same-test false true f g = f .1 (g .0 refl)
+same-test false false f g = refl
+
+-- whole part and rest: of a year's months, a month's days, a quarter's, a term's
+year-parts : (y : ℕ) → (19 * firstMonth y + leapRemainder y ≡ 235 * elapsed y) × (leapRemainder y < 19)
+unfolding firstMonth leapRemainder
+year-parts y = (omega arith, omega arith)
+
+year-whole : (y a b : ℕ) → 19 * a + b ≡ 235 * elapsed y → b < 19 → (a ≡ firstMonth y) × (b ≡ leapRemainder y)
+unfolding firstMonth leapRemainder
+year-whole y a b e h = (omega arith, omega arith)
+
+month-parts : (n : ℕ) → (940 * monthStart n + smallRemainder n ≡ 27759 * n) × (smallRemainder n < 940)
+unfolding monthStart smallRemainder
+month-parts n = (omega arith, omega arith)
+
+month-whole : (n a b : ℕ) → 940 * a + b ≡ 27759 * n → b < 940 → (a ≡ monthStart n) × (b ≡ smallRemainder n)
+unfolding monthStart smallRemainder
+month-whole n a b e h = (omega arith, omega arith)
+
+quarter-parts : (n q : ℕ) → IsQuarter n q (quarterOf n q)
+unfolding quarterOf quarterDay quarterParts
+quarter-parts n q = omega arith
+
+quarter-whole : (n q : ℕ) (r : Quarter) → IsQuarter n q r → (r .day ≡ quarterDay n q) × (r .parts ≡ quarterParts n q)
+unfolding quarterDay quarterParts
+quarter-whole n q r h = (omega arith, omega arith)
+
+term-parts : (y k : ℕ) → IsTerm y k (termDay (yearTerm y k))
+unfolding termDay
+term-parts y k = record { rest = 487 * yearTerm y k % 32; falls = omega arith; below = omega arith }
+
+term-whole : (y k d : ℕ) → IsTerm y k d → d ≡ termDay (yearTerm y k)
+unfolding termDay
+term-whole y k d h = omega arith
+
+pub quarter-exactly : (n q : ℕ) (r : Quarter) → (quarterOf n q ≡ r) ↔ IsQuarter n q r
+quarter-exactly n q = exactly (IsQuarter n q) (quarterOf n q) (quarter-parts n q) (λ r h. quarter-made n q r (quarter-whole n q r h))
+
+pub term-exactly : (y k d : ℕ) → (termDay (yearTerm y k) ≡ d) ↔ IsTerm y k d
+term-exactly y k = exactly (IsTerm y k) (termDay (yearTerm y k)) (term-parts y k) (term-whole y k)
+
+-- a month
+month-there : (n : ℕ) → IsMonthFacts n (monthFacts n)
+unfolding monthFacts
+month-there n =
+    record {
+      its-month = Rule.month-literally n (monthAt n) .0 refl;
+      starts = month-parts n .0;
+      below = month-parts n .1;
+      its-length = sym (Months.start-next n);
+      thirty = Rule.month-lengths n .thirty;
+      twenty-nine = Rule.month-lengths n .twenty-nine;
+      its-name = refl;
+      its-eclipse = Rule.eclipse-rule n;
+    }
+
+month-only : (n : ℕ) (f : MonthFacts) → IsMonthFacts n f → f ≡ monthFacts n
+month-only n f h =
+    month-made n (f .«first_day») (f .«small_remainder») (f .«month_length») (f .«first_name») (f .month) (f .eclipse)
+    (sym (Rule.month-literally n (f .month) .1 (h .its-month)))
+    (whole .0)
+    (whole .1)
+    (omega (arith, h .its-length, whole .0, Months.start-next n))
+    (h .its-name)
+    (same-test (f .eclipse) (eclipse n) (h .its-eclipse) (Rule.eclipse-rule n))
+  where
+    whole : (f .«first_day» ≡ monthStart n) × (f .«small_remainder» ≡ smallRemainder n)
+    whole = month-whole n (f .«first_day») (f .«small_remainder») (h .starts) (h .below)
+
+pub month-exactly : (n : ℕ) (f : MonthFacts) → (monthFacts n ≡ f) ↔ IsMonthFacts n f
+month-exactly n = exactly (IsMonthFacts n) (monthFacts n) (month-there n) (month-only n)
+
+-- a year of 13 months or of 12
+module _ (y : ℕ) (l : 1 ≤ y) where
+  begins-there : YearBegins y (firstMonth y) (leapRemainder y) (monthsInYear y)
+  begins-there =
+      record {
+        begins = year-parts y .0;
+        below = year-parts y .1;
+        thirteen = Rule.thirteen-months y l .thirteen;
+        twelve = Rule.thirteen-months y l .twelve;
+      }
+
+  begins-only : (a b m : ℕ) → YearBegins y a b m → (a ≡ firstMonth y) × (b ≡ leapRemainder y) × (m ≡ monthsInYear y)
+  begins-only a b m h = (whole .0, whole .1, ⊎-elim short long (lt-or-le b 12))
+    where
+      whole : (a ≡ firstMonth y) × (b ≡ leapRemainder y)
+      whole = year-whole y a b (h .begins) (h .below)
+
+      short : b < 12 → m ≡ monthsInYear y
+      short g = omega (arith, h .twelve .1 g, Years.months-short y l (omega (arith, whole .1)))
+
+      long : 12 ≤ b → m ≡ monthsInYear y
+      long g = omega (arith, h .thirteen .1 g, Years.months-long y l (omega (arith, whole .1)))
+
+  -- its place among the years
+  solstice-there : IsSolsticeYear y (solsticeYear y)
+  unfolding solsticeYear
+  solstice-there =
+      record {
+        w = elapsed y / 4560;
+        its-place = Rule.place-of-year y;
+        its-head = Rule.head-name y l;
+        its-months = begins-there;
+      }
+
+  solstice-only : (s : SolsticeYear) → IsSolsticeYear y s → s ≡ solsticeYear y
+  solstice-only s h =
+      solstice-year-made y (s .ji) (s .bu) (s .«year_in_bu») (s .«head_name») (s .«first_month») (s .«leap_remainder») (s .months)
+      (place .0)
+      (place .1)
+      (place .2)
+      head
+      (months .0)
+      (months .1)
+      (months .2)
+    where
+      place : (s .ji ≡ ji y) × (s .bu ≡ bu y) × (s .«year_in_bu» ≡ yearInBu y)
+      place = Rule.only-one-place y (h .w) (s .ji) (s .bu) (s .«year_in_bu») (h .its-place)
+
+      head : s .«head_name» ≡ headName (s .bu)
+      head =
+          h .its-head ∙ ap (λ (i : ℕ). dayName (monthStart (firstMonth (y - (i - 1))))) (place .2)
+          ∙ sym (Rule.head-name y l) ∙ ap headName (sym (place .1))
+
+      months : (s .«first_month» ≡ firstMonth y) × (s .«leap_remainder» ≡ leapRemainder y) × (s .months ≡ monthsInYear y)
+      months = begins-only (s .«first_month») (s .«leap_remainder») (s .months) (h .its-months)
+
+  pub solstice-exactly : (s : SolsticeYear) → (solsticeYear y ≡ s) ↔ IsSolsticeYear y s
+  solstice-exactly = exactly (IsSolsticeYear y) (solsticeYear y) solstice-there solstice-only
+
+  -- its leap month
+  leap-there : LeapMonthOf y (leapMonth y)
+  leap-there = record { with-one = λ k n. (there k n, back k n); without = (none, λ h. leap-none y l (λ n i. ordinary h n i (leap n) refl)) }
+    where
+      there : (k n : ℕ) → leapMonth y ≡ With k n → InYear y n × IsMonth n (Leap k)
+      there k n f = let h = leap-is y k n l f in (h .0, Rule.month-literally n (Leap k) .0 (sym (as-leap n k (h .1) (sym (h .2)))))
+
+      back : (k n : ℕ) → InYear y n × IsMonth n (Leap k) → leapMonth y ≡ With k n
+      back k n h =
+          let e : monthAt n ≡ Leap k = Rule.month-literally n (Leap k) .1 (h .1) in
+          leap-found y n (h .0) (sym (mark-at n) ∙ ap leapMark e) ∙ ap (λ (j : ℕ). With j n) (sym (number-at n) ∙ ap numberOf e)
+
+      none : leapMonth y ≡ Without → (n : ℕ) → InYear y n → NoMidTerm n → ⊥
+      none e n i h =
+          let g : leapMonth y ≡ With (monthNumber n) n = leap-found y n i (Rule.leap-without-mid-term n .1 h) in
+          let o : _≡_ {A = ℕ} 0 1 = cc in omega arith
+
+      ordinary : ((n : ℕ) → InYear y n → NoMidTerm n → ⊥) → (n : ℕ) → InYear y n → (b : Bool) → leap n ≡ b → leap n ≡ false
+      ordinary h n i true e = absurd (h n i (Rule.leap-without-mid-term n .0 e))
+      ordinary h n i false e = e
+
+  leap-only : (m : LeapMonth) → LeapMonthOf y m → m ≡ leapMonth y
+  leap-only Without h = sym (leap-there .without .1 (h .without .0 refl))
+  leap-only (With k n) h = sym (leap-there .with-one k n .1 (h .with-one k n .0 refl))
+
+  -- its own facts
+  year-there : IsYearFacts y (yearFacts y)
+  unfolding yearFacts
+  year-there = record { its-name = refl; rest = leapRemainder y; its-months = begins-there; its-leap-month = leap-there }
+
+  year-only : (f : YearFacts) → IsYearFacts y f → f ≡ yearFacts y
+  year-only f h =
+      year-made y (f .name) (f .«first_month») (f .months) (f .«leap_month») (h .its-name) (months .0) (months .2)
+      (leap-only (f .«leap_month») (h .its-leap-month))
+    where
+      months : (f .«first_month» ≡ firstMonth y) × (h .rest ≡ leapRemainder y) × (f .months ≡ monthsInYear y)
+      months = begins-only (f .«first_month») (h .rest) (f .months) (h .its-months)
+
+  pub year-exactly : (f : YearFacts) → (yearFacts y ≡ f) ↔ IsYearFacts y f
+  year-exactly = exactly (IsYearFacts y) (yearFacts y) year-there year-only
