@@ -3,14 +3,27 @@ use mathlib.Core.Path.{_≡_, refl}
 use Rattle.rule.specs.Counts.{dayName, bu, yearInBu, headName}
 use Rattle.rule.specs.Lists.{those}
 use Rattle.rule.specs.Rule.{monthStart, firstMonth, monthsInYear, midTermsBefore, leap, midTermNumber, monthNumber}
-use Rattle.rule.specs.Reasons.{is}
+use Rattle.rule.specs.Reasons.{is, refused}
 use Rattle.facts.specs.declared.LeapMonth.the-variants.{With}
-use Rattle.facts.specs.Facts.{solsticeYear, solsticeYearAt, leapMonth}
+use Rattle.facts.specs.Facts.{solsticeYear, solsticeYearAt, leapMonth, yearFactsAt, monthFactsAt, termAt}
 
 -- year 1 is there
 pub year-1-given : solsticeYearAt 1 ≡ is (solsticeYear 1)
 unfolding solsticeYearAt
 year-1-given = refl
+
+-- a year and a month past the last are not; of a term's reasons "1 .., then 15"
+pub year-41041-refused : yearFactsAt 41041 ≡ refused 1
+unfolding yearFactsAt
+year-41041-refused = refl
+
+pub month-507600-refused : monthFactsAt 507600 ≡ refused 7
+unfolding monthFactsAt
+month-507600-refused = refl
+
+pub year-before-term : termAt 0 24 ≡ refused 1
+unfolding termAt
+year-before-term = refl
 
 -- case 4: "year 77 is year 1 of bu 2, whose head name is 40"
 pub head-of-77 : solsticeYear 77 .«head_name» ≡ 40
