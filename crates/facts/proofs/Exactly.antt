@@ -8,7 +8,6 @@ use Rattle.rule.specs.Counts.{elapsed, dayName, ji, bu, yearInBu, headName}
 use Rattle.rule.specs.Rule.{
   monthStart,
   smallRemainder,
-  monthLength,
   quarterDay,
   quarterParts,
   termDay,

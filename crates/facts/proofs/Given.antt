@@ -1,6 +1,5 @@
 -- Which answers meet a promise of one guard or of two: what is given, by what it is, and what is refused. Assumes nothing.
 use Prim.Native.Nat.{ℕ, _≤_, _<_}
-use native.Mathlib.Omega.{arith}
 use mathlib.Core.Path.{_≡_, refl, ap, sym, _∙_}
 use mathlib.Core.Logic.{_↔_, _⊎_, inl, inr}
 use mathlib.Core.Bool.{Bool, true, false}
@@ -20,6 +19,7 @@ use Rattle.rule.proofs.Answers.{
   one-refused,
   two-first,
   two-second,
+  given-not,
 }
 use Rattle.facts.specs.Facts.{
   solsticeYear,
@@ -49,9 +49,6 @@ module _ {A : Type 0} where
   same-refused : (j k : ℕ) → _≡_ {A = Answer A} (refused j) (refused k) → j ≡ k
   same-refused j k e = cc
 
-  given-not-refused : (x : A) (j : ℕ) → _≡_ {A = Answer A} (refused j) (is x) → ⊥
-  given-not-refused x j e = let o : _≡_ {A = ℕ} 0 1 = cc in omega arith
-
   -- what is told of an answer that is given
   pub told-is : (x a : A) (b : Answer A) → b ≡ is x → is a ≡ b → a ≡ x
   told-is x a b e p = sym (same-given x a .0 (sym e ∙ sym p))
@@ -72,7 +69,7 @@ module _ {A P : Type 0} (t : Bool) (k : ℕ) (x : A) (e : (t ≡ true) ↔ P) wh
   one-only why = go t
     where
       go : (b : Bool) → refused (reasonNumber why) ≡ guard b k (is x) → why ≡ reasonOf k
-      go true p = absurd (given-not-refused x (reasonNumber why) p)
+      go true p = absurd (given-not (is x) x (reasonNumber why) refl (sym p))
       go false p = numbered why k (same-refused {A = A} (reasonNumber why) k p)
 
 -- two guards, one after the other
