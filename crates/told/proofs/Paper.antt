@@ -31,7 +31,8 @@ use Rattle.facts.specs.Facts.{
   quarterAt,
   termAt,
 }
-use Rattle.facts.proofs.Paper as Facts
+use Rattle.facts.proofs.Given as Given
+use Rattle.facts.proofs.Leaps.{leap-found, leap-none}
 use Rattle.planets.specs.Planets.{numbersOf, divisor, conjunctionDay, conjunctionParts, phase, conjunctionOf, conjunctionAt, nextCount, countedOf, nextAt}
 use Rattle.planets.specs.Paper.{Planet}
 use Rattle.planets.proofs.Paper as Planets
@@ -85,7 +86,7 @@ refusal-literally r = sym (as-refusal r refl)
 
 pub place-line-literally : Paper.Place-line-literally
 unfolding placeText placeLine solsticeYear followed
-place-line-literally y h = ap (told placeLine) (Facts.reasons-of-facts .years y .place-given .1 h)
+place-line-literally y h = ap (told placeLine) (Given.solstice-year-given y h)
 
 -- a year's line by its leap month
 year-with : (y : ℕ) (l : LeapMonth) → yearFacts y .«leap_month» ≡ l → yearLine y (yearFacts y) ≡ Paper.yearWith y (leapNumber l ++ (32 ∷ leapCount l))
@@ -97,23 +98,23 @@ unfolding yearText yearFacts
 year-line-literally =
     record {
       with-leap = λ y n h i e.
-          ap (told (yearLine y)) (Facts.reasons-of-facts .years y .own-given .1 h)
-          ∙ year-with y (With _ n) (Facts.leap-month y (h .0) .with-one _ n .1 (i, e, refl));
+          ap (told (yearLine y)) (Given.year-given y h)
+          ∙ year-with y (With _ n) (leap-found y n i e);
       without = λ y h none.
-          ap (told (yearLine y)) (Facts.reasons-of-facts .years y .own-given .1 h) ∙ year-with y Without (Facts.leap-month y (h .0) .without .1 none);
+          ap (told (yearLine y)) (Given.year-given y h) ∙ year-with y Without (leap-none y (h .0) none);
     }
 
 pub month-line-literally : Paper.Month-line-literally
 unfolding monthText monthLineOf monthFacts followed
-month-line-literally n h = ap (told (monthLineOf n)) (Facts.reasons-of-facts .months n .given .1 h) ∙ rw (number-at n, mark-at n) refl
+month-line-literally n h = ap (told (monthLineOf n)) (Given.month-given n h) ∙ rw (number-at n, mark-at n) refl
 
 pub quarter-line-literally : Paper.Quarter-line-literally
 unfolding quarterText quarterLine quarterOf followed
-quarter-line-literally n q h i = ap (told quarterLine) (Facts.reasons-of-facts .quarters n q .given .1 (h, i))
+quarter-line-literally n q h i = ap (told quarterLine) (Given.quarter-given n q h i)
 
 pub term-line-literally : Paper.Term-line-literally
 unfolding termText termLine followed
-term-line-literally y k h i = ap (told termLine) (Facts.reasons-of-facts .terms y k .given .1 (h, i))
+term-line-literally y k h i = ap (told termLine) (Given.term-given y k h i)
 
 -- a phase's letter, and the planet that has it
 letter-of : {p k : ℕ} {last : List ℕ} → Paper.Letter p k last → phaseText (phase (numbersOf p) k) ≡ last
