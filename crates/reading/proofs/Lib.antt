@@ -3,4 +3,5 @@ pub mod Cases
 pub mod Runs
 pub mod Fits
 pub mod Answered
+pub mod Rows
 pub mod Paper

@@ -1,71 +1,31 @@
 -- What the paper says of readings and the search, proved, each statement under its name in small letters. Assumes nothing.
-use Prim.Native.Nat.{ℕ, _+_, _-_, _≤_, _<_}
+use Prim.Native.Nat.{ℕ, zero, suc, _+_, _-_, _≤_, _<_}
 use native.Mathlib.Omega.{arith}
-use mathlib.Core.Path.{_≡_, refl, ap, sym, _∙_, subst}
-use mathlib.Core.Logic.{_↔_, _⊎_, inl, inr, ⊎-elim, Iff·trans}
-use mathlib.Core.Bool.{Bool, true, false, _&&_}
+use mathlib.Core.Path.{_≡_, refl, ap, ap₂, sym, _∙_, subst}
+use mathlib.Core.Logic.{_↔_, _⊎_, inl, inr, ⊎-elim}
+use mathlib.Core.Bool.{true}
 use mathlib.Core.List.{List, [], _∷_}
-use lib.Dec.{leb}
-use native.Mathlib.Nat.{zero-add}
 use lib.ListN.{length, getD, drop, List·getD-append}
-use lib.Seq.{getD-drop}
-use Rattle.rule.specs.declared.Reason.{Reason}
-use borrow.Author.Tests.{eqb-true, eq-eqb, leb-true, leb-false, le-leb, lt-leb}
-use Rattle.rule.specs.Counts.{DayInRange, dayName, yearName}
+use borrow.Author.Tests.{eqb-true, eq-eqb}
+use Rattle.rule.specs.Counts.{dayName, yearName}
 use Rattle.rule.specs.Lists.{those, placed}
-use Rattle.rule.specs.Rule.{monthStart, monthOfDay, yearOfMonth, leap, monthNumber}
-use Rattle.rule.specs.Reasons.{Answer, is, refused, refused-with, guard, reasonOf, guard-with, afterwards}
+use Rattle.rule.specs.Rule.{monthStart, monthOfDay, yearOfMonth, leap, midTermsBefore, midTermNumber, monthNumber, monthAt}
+use Rattle.rule.specs.Reasons.{Answer, is, refused, refused-with, reasonNumber, reasonOf, afterwards}
 use Rattle.rule.proofs.Leap as Leaps
 use Rattle.rule.proofs.Lists.{those-same, length-all, has-place, at-place, rises, run-at}
-use Rattle.rule.proofs.Answers.{
-  reason-back,
-  one-to-one,
-  both-true,
-  within-true,
-  fails,
-  Beyond,
-  beyond-guard,
-  fails-here,
-  fails-later,
-  holds-all,
-  holds-with,
-  then-iff,
-  test-iff,
-}
+use Rattle.rule.proofs.Answers.{reason-back, one-to-one, both-true}
 use Rattle.dates.specs.Dates.{dateIn, dateOf}
 use Rattle.reading.specs.declared.Field.{Field}
 use Rattle.reading.specs.declared.Field.the-variants.{Known, Unread}
 use Rattle.reading.specs.declared.Reading.{Reading}
 use Rattle.reading.specs.declared.Found.{Found}
 use Rattle.reading.specs.declared.Found.the-variants.{Is, TooShort, Refused}
-use Rattle.reading.specs.Readings.{
-  markNumber,
-  fieldFits,
-  fieldInRange,
-  inRanges,
-  monthFits,
-  dayFits,
-  fits,
-  windowDays,
-  windowHolds,
-  fitting,
-}
+use Rattle.reading.specs.Readings.{markNumber, sixOf, fieldFits, inRanges, monthFits, dayFits, fits, windowDays, fitting}
 use Rattle.reading.specs.Search.{total, searchAt, saidFound, Searched}
 use Rattle.reading.specs.Paper as Paper
-use Rattle.reading.specs.Paper.{
-  sixOf,
-  FieldFits,
-  ReadingFits,
-  ListsExactly,
-  ReadToo,
-  allUnread,
-  FieldInRange,
-  FieldsInRange,
-  NoWindow,
-  IsWindow,
-  EndOutside,
-}
+use Rattle.reading.specs.Paper.{FieldFits, ReadingFits, SearchFault, GoodSearch, ListsExactly, SearchAnswered, SearchTooShort, ReadToo, MoreKnown, allUnread}
 use Rattle.reading.proofs.Answered
+use Rattle.reading.proofs.Rows.{refuses, tells, gives, Outcome, fault, short, given, outcome}
 
 -- a field, by its two cases
 field-fits : (f : Field) (v : ℕ) → (fieldFits f v ≡ true) ↔ FieldFits f v
@@ -139,9 +99,9 @@ listed-at r first last d h g e =
     back : first + (d - first) ≡ d
     back = omega arith
 
-lists-exactly : (r : Reading) (first last : ℕ) → first ≤ last → ListsExactly r first last (fitting r first (windowDays first last))
+lists-exactly : (r : Reading) (first last : ℕ) → ListsExactly r first last (fitting r first (windowDays first last))
 unfolding fitting
-lists-exactly r first last h =
+lists-exactly r first last =
     record {
       listed = λ d. listed-at r first last d;
       only = λ i l.
@@ -153,205 +113,127 @@ lists-exactly r first last h =
       rising = rises (fits r) first (windowDays first last);
     }
 
--- what is answered is the total
-answered-total : (r : Reading) (first last room n : ℕ) → searchAt r first last room ≡ is n → n ≡ total r first last
-unfolding searchAt
-answered-total r first last room n e =
-    let a = holds-all (leb first 14989859 && leb last 14989859) 6 _ n .0 e in
-    let b = holds-all (windowHolds first last) 13 _ n .0 (a .1) in
-    let c = holds-all (inRanges r) 14 _ n .0 (b .1) in
-    go (leb (total r first last) room) (c .1)
+-- two lists that rise and have the same members are one
+abbrev Rising : List ℕ → Type 0
+Rising xs = (i j : ℕ) → i < j → j < length xs → getD xs i 0 < getD xs j 0
+
+abbrev Among : List ℕ → List ℕ → Type 0
+Among xs ys = (i : ℕ) → i < length xs → (j : ℕ) × (j < length ys) × (getD ys j 0 ≡ getD xs i 0)
+
+-- a member that is not the first is among the rest
+among-rest : (x y : ℕ) (xs ys : List ℕ) → x ≡ y → Rising (x ∷ xs) → Among (x ∷ xs) (y ∷ ys) → Among xs ys
+among-rest x y xs ys e p a i h =
+    let w = a (suc i) (omega arith) in
+    go (w .0) (w .1) (w .2)
   where
-    go : (t : Bool) → guard-with t 12 (total r first last) (is (total r first last)) ≡ is n → n ≡ total r first last
-    go true f = let g : _≡_ {A = Answer ℕ} (is (total r first last)) (is n) = f in cc
-    go false f = let g : _≡_ {A = Answer ℕ} (refused-with 12 (total r first last)) (is n) = f in absurd (let o : _≡_ {A = ℕ} 0 1 = cc in omega arith)
+    go : (j : ℕ) → j < length (y ∷ ys) → getD (y ∷ ys) j 0 ≡ getD xs i 0 → (k : ℕ) × (k < length ys) × (getD ys k 0 ≡ getD xs i 0)
+    go zero l g = absurd (omega (arith, e, g, p 0 (suc i) (omega arith) (omega arith)))
+    go (suc j) l g = (j, omega arith, g)
+
+-- the first member of one is not before the first of the other
+not-before : (x y : ℕ) (xs ys : List ℕ) → Rising (y ∷ ys) → Among (x ∷ xs) (y ∷ ys) → y ≤ x
+not-before x y xs ys q a = let w = a 0 (omega arith) in go (w .0) (w .1) (w .2)
+  where
+    go : (j : ℕ) → j < length (y ∷ ys) → getD (y ∷ ys) j 0 ≡ x → y ≤ x
+    go zero l g = omega (arith, g)
+    go (suc j) l g = omega (arith, g, q 0 (suc j) (omega arith) l)
+
+one-rising : (xs ys : List ℕ) → Rising xs → Rising ys → Among xs ys → Among ys xs → xs ≡ ys
+one-rising [] [] p q a b = refl
+one-rising [] (y ∷ ys) p q a b = absurd (omega (arith, b 0 (omega arith) .1))
+one-rising (x ∷ xs) [] p q a b = absurd (omega (arith, a 0 (omega arith) .1))
+one-rising (x ∷ xs) (y ∷ ys) p q a b =
+    let e : x ≡ y = omega (arith, not-before x y xs ys q a, not-before y x ys xs p b) in
+    ap₂ _∷_ e
+    (one-rising xs ys (λ i j h l. p (suc i) (suc j) (omega arith) (omega arith)) (λ i j h l. q (suc i) (suc j) (omega arith) (omega arith))
+    (among-rest x y xs ys e p a) (among-rest y x ys xs (sym e) q b))
+
+pub one-list : Paper.One-list
+one-list r first last xs ys p q = one-rising xs ys (p .rising) (q .rising) (among xs ys p q) (among ys xs q p)
+  where
+    among : (us vs : List ℕ) → ListsExactly r first last us → ListsExactly r first last vs → Among us vs
+    among us vs u v i h = let o = u .only i h in v .listed (getD us i 0) (o .0) (o .1) (o .2)
+
+-- the promise by the answer that is said
+module _ (r : Reading) (first last : ℕ) (old : List ℕ) (new : List ℕ) where
+  left : (a : Found) → Searched r first last old a new → new ≡ afterwards (saidFound a) (λ n. fitting r first (windowDays first last)) old
+  left a s = s .lent ∙ ap (λ (x : Answer ℕ). afterwards x (λ n. fitting r first (windowDays first last)) old) (sym (s .answered))
+
+  kept : (a : Found) → searchAt r first last (length old) ≡ saidFound a → new ≡ afterwards (saidFound a) (λ n. fitting r first (windowDays first last)) old → Searched r first last old a new
+  kept a e g = Answered.made r first last old (saidFound a) a new e refl g
+
+  -- a list that holds exactly the fitting days is theirs
+  the-days : (days : List ℕ) → ListsExactly r first last days → days ≡ fitting r first (windowDays first last)
+  the-days days e = one-list r first last days (fitting r first (windowDays first last)) e (lists-exactly r first last)
 
 pub search-lists : Paper.Search-lists
 unfolding total
-search-lists r first last n old new h s =
-    record {
-      days = fitting r first (windowDays first last);
-      exactly = lists-exactly r first last h;
-      counted = sym (answered-total r first last (length old) n (sym (s .answered)));
-      filled = s .lent ∙ ap (λ (x : Answer ℕ). afterwards x (λ n. fitting r first (windowDays first last)) old) (sym (s .answered));
-    }
+search-lists r first last n old new = (λ s. there s (outcome r first last (length old)), λ h. back (h .0) (h .1))
+  where
+    there : Searched r first last old (Is n) new → Outcome r first last (length old) → GoodSearch r first last × SearchAnswered r first last n old new
+    there s (fault why h e) = absurd (let g : _≡_ {A = Answer ℕ} (is n) (refused (reasonNumber why)) = s .answered ∙ e in let o : _≡_ {A = ℕ} 0 1 = cc in omega arith)
+    there s (short h l e) = absurd (let g : _≡_ {A = Answer ℕ} (is n) (refused-with 12 (total r first last)) = s .answered ∙ e in let o : _≡_ {A = ℕ} 0 1 = cc in omega arith)
+    there s (given h l e) =
+        let g : _≡_ {A = Answer ℕ} (is n) (is (total r first last)) = s .answered ∙ e in
+        let t : n ≡ total r first last = cc in (
+          h,
+          record {
+            days = fitting r first (windowDays first last);
+            exactly = lists-exactly r first last;
+            counted = sym t;
+            room = omega (arith, t, l);
+            filled = left r first last old new (Is n) s;
+          },
+        )
+
+    back : GoodSearch r first last → SearchAnswered r first last n old new → Searched r first last old (Is n) new
+    back g h =
+        let e = the-days r first last old new (h .days) (h .exactly) in
+        let t : total r first last ≡ n = sym (ap length e) ∙ h .counted in
+        kept r first last old new (Is n) (gives r first last (length old) g (omega (arith, t, h .room)) ∙ ap is t) (h .filled ∙ ap (λ (l : List ℕ). placed l old) e)
+
+pub too-short-says-the-total : Paper.Too-short-says-the-total
+unfolding total
+too-short-says-the-total r first last n old new = (λ s. there s (outcome r first last (length old)), λ h. back (h .0) (h .1))
+  where
+    there : Searched r first last old (TooShort n) new → Outcome r first last (length old) → GoodSearch r first last × SearchTooShort r first last n old new
+    there s (fault why h e) = absurd (let g : _≡_ {A = Answer ℕ} (refused-with 12 n) (refused (reasonNumber why)) = s .answered ∙ e in let o : _≡_ {A = ℕ} 0 1 = cc in omega arith)
+    there s (given h l e) = absurd (let g : _≡_ {A = Answer ℕ} (refused-with 12 n) (is (total r first last)) = s .answered ∙ e in let o : _≡_ {A = ℕ} 0 1 = cc in omega arith)
+    there s (short h l e) =
+        let g : _≡_ {A = Answer ℕ} (refused-with 12 n) (refused-with 12 (total r first last)) = s .answered ∙ e in
+        let t : n ≡ total r first last = cc in (
+          h,
+          record {
+            days = fitting r first (windowDays first last);
+            exactly = lists-exactly r first last;
+            counted = sym t;
+            short = omega (arith, t, l);
+            unchanged = left r first last old new (TooShort n) s;
+          },
+        )
+
+    back : GoodSearch r first last → SearchTooShort r first last n old new → Searched r first last old (TooShort n) new
+    back g h =
+        let e = the-days r first last old new (h .days) (h .exactly) in
+        let t : total r first last ≡ n = sym (ap length e) ∙ h .counted in
+        kept r first last old new (TooShort n) (tells r first last (length old) g (omega (arith, t, h .short)) ∙ ap (refused-with 12) t) (h .unchanged)
+
+pub reasons-of-a-search : Paper.Reasons-of-a-search
+reasons-of-a-search r first last old new why = (λ s. (there s (outcome r first last (length old)), left r first last old new (Refused why) s), λ h. kept r first last old new (Refused why) (refuses r first last (length old) why (h .0)) (h .1))
+  where
+    there : Searched r first last old (Refused why) new → Outcome r first last (length old) → SearchFault r first last why
+    there s (fault w h e) =
+        let g : _≡_ {A = Answer ℕ} (refused (reasonNumber why)) (refused (reasonNumber w)) = s .answered ∙ e in
+        let n : reasonNumber w ≡ reasonNumber why = cc in
+        subst (SearchFault r first last) (one-to-one reasonNumber reasonOf reason-back w why n) h
+    there s (short h l e) = absurd (let g : _≡_ {A = Answer ℕ} (refused (reasonNumber why)) (refused-with 12 (total r first last)) = s .answered ∙ e in let o : _≡_ {A = ℕ} 0 1 = cc in omega arith)
+    there s (given h l e) = absurd (let g : _≡_ {A = Answer ℕ} (refused (reasonNumber why)) (is (total r first last)) = s .answered ∙ e in let o : _≡_ {A = ℕ} 0 1 = cc in omega arith)
 
 pub refusal-changes-nothing : Paper.Refusal-changes-nothing
 refusal-changes-nothing =
     record {
-      refused-one = λ r first last old new why s. s .lent ∙ ap (λ (x : Answer ℕ). afterwards x (λ n. fitting r first (windowDays first last)) old) (sym (s .answered));
-      too-short = λ r first last n old new s. s .lent ∙ ap (λ (x : Answer ℕ). afterwards x (λ n. fitting r first (windowDays first last)) old) (sym (s .answered));
-    }
-
-pub unread-lists-all : Paper.Unread-lists-all
-unread-lists-all =
-    record {
-      counted = λ first k. ap length (all-fit first k) ∙ length-all first k;
-      each = λ first k i h. ap (λ (l : List ℕ). getD l i 0) (all-fit first k) ∙ run-at first k i h;
-    }
-
--- a field read in more is fitted by fewer
-read-too : (f g : Field) (v : ℕ) → ReadToo f g → FieldFits g v → FieldFits f v
-read-too f g v h e = ⊎-elim inl (λ (s : f ≡ g). subst (λ (x : Field). FieldFits x v) (sym s) e) h
-
-pub more-known-never-adds : Paper.More-known-never-adds
-more-known-never-adds r s d m h =
-    record {
-      year-name = read-too (r .«year_name») (s .«year_name») _ (m .year-name) (h .year-name);
-      month-number = read-too (r .«month_number») (s .«month_number») _ (m .month-number) (h .month-number);
-      leap-mark = read-too (r .«leap_mark») (s .«leap_mark») _ (m .leap-mark) (h .leap-mark);
-      day-of-month = read-too (r .«day_of_month») (s .«day_of_month») _ (m .day-of-month) (h .day-of-month);
-      day-name = read-too (r .«day_name») (s .«day_name») _ (m .day-name) (h .day-name);
-      first-name = read-too (r .«first_name») (s .«first_name») _ (m .first-name) (h .first-name);
-    }
-
-pub second-of-two-big-listed : Paper.Second-of-two-big-listed
-second-of-two-big-listed n d r first last big also inside e h g = listed-at r first last d h g e
-
--- a known field in its range
-field-range : (f : Field) (most : ℕ) → (fieldInRange f most ≡ true) ↔ FieldInRange f most
-field-range (Known k) most = (
-  λ e j g. let i : k ≡ j = cc in let h = within-true 1 most k .0 e in (omega (arith, h .0), omega (arith, h .1)),
-  λ h. within-true 1 most k .1 (h k refl),
-)
-field-range Unread most = (λ e j g. absurd (let o : _≡_ {A = ℕ} 0 1 = cc in omega arith), λ h. refl)
-
-in-ranges : (r : Reading) → (inRanges r ≡ true) ↔ FieldsInRange r
-unfolding inRanges
-in-ranges r = (
-  λ e. let h = six .0 e in record { year-name = h .0 .0 .0 .0 .0; month-number = h .0 .0 .0 .0 .1; leap-mark = h .0 .0 .0 .1; day-of-month = h .0 .0 .1; day-name = h .0 .1; first-name = h .1 },
-  λ h. six .1 (((((h .year-name, h .month-number), h .leap-mark), h .day-of-month), h .day-name), h .first-name),
-)
-  where
-    a : Bool
-    a = fieldInRange (r .«year_name») 60
-
-    b : Bool
-    b = fieldInRange (r .«month_number») 12
-
-    c : Bool
-    c = fieldInRange (r .«leap_mark») 2
-
-    d : Bool
-    d = fieldInRange (r .«day_of_month») 30
-
-    e : Bool
-    e = fieldInRange (r .«day_name») 60
-
-    f : Bool
-    f = fieldInRange (r .«first_name») 60
-
-    six : ((a && b && c && d && e && f) ≡ true)
-        ↔ (((((FieldInRange (r .«year_name») 60 × FieldInRange (r .«month_number») 12) × FieldInRange (r .«leap_mark») 2) × FieldInRange (r .«day_of_month») 30) × FieldInRange (r .«day_name») 60) × FieldInRange (r .«first_name») 60)
-    six =
-        both-true (a && b && c && d && e) f
-        (both-true (a && b && c && d) e
-        (both-true (a && b && c) d
-        (both-true (a && b) c (both-true a b (field-range (r .«year_name») 60) (field-range (r .«month_number») 12)) (field-range (r .«leap_mark») 2))
-        (field-range (r .«day_of_month») 30))
-        (field-range (r .«day_name») 60))
-        (field-range (r .«first_name») 60)
-
--- what fails, said as the paper says it
-either : (a b c d : ℕ) → (((a ≤ b) × (c ≤ d)) → ⊥) ↔ ((b < a) ⊎ (d < c))
-either a b c d = (λ n. go n (leb a b) refl, λ s h. ⊎-elim (λ (x : b < a). omega (arith, h .0)) (λ (x : d < c). omega (arith, h .1)) s)
-  where
-    go : (((a ≤ b) × (c ≤ d)) → ⊥) → (t : Bool) → leb a b ≡ t → (b < a) ⊎ (d < c)
-    go n true e = let o : ¬ (c ≤ d) = λ h. n (leb-true a b e, h) in inr (omega arith)
-    go n false e = inl (leb-false a b e)
-
--- the row of tests of a search
-module _ (r : Reading) (first last room : ℕ) where
-  t : ℕ
-  t = total r first last
-
-  rest : Answer ℕ
-  rest = guard-with (leb t room) 12 t (is t)
-
-  never : (k : ℕ) → Beyond k rest
-  unfolding rest t
-  never k j = go (leb (total r first last) room)
-    where
-      go : (b : Bool) → guard-with b 12 (total r first last) (is (total r first last)) ≡ refused j → k < j
-      go true e = let g : _≡_ {A = Answer ℕ} (is (total r first last)) (refused j) = e in absurd (let o : _≡_ {A = ℕ} 0 1 = cc in omega arith)
-      go false e = let g : _≡_ {A = Answer ℕ} (refused-with 12 (total r first last)) (refused j) = e in absurd (let o : _≡_ {A = ℕ} 0 1 = cc in omega arith)
-
-  ends : Bool
-  ends = leb first 14989859 && leb last 14989859
-
-  six : (searchAt r first last room ≡ refused 6) ↔ EndOutside first last
-  unfolding searchAt ends rest t
-  six =
-      Iff·trans
-      (Iff·trans
-      (fails-here ends 6 _
-      (beyond-guard (windowHolds first last) 6 13 (guard (inRanges r) 14 rest) (omega arith)
-      (beyond-guard (inRanges r) 6 14 rest (omega arith) (never 6))))
-      (fails ends (Answered.ends-true first last)))
-      (either first 14989859 last 14989859)
-
-  thirteen : (searchAt r first last room ≡ refused 13) ↔ ((DayInRange first × DayInRange last) × NoWindow first last)
-  unfolding searchAt ends rest t
-  thirteen =
-      test-iff (then-iff (fails-later ends 6 13 _ (omega arith))
-      (Iff·trans
-      (Iff·trans
-      (fails-here (windowHolds first last) 13 (guard (inRanges r) 14 rest) (beyond-guard (inRanges r) 13 14 rest (omega arith) (never 13)))
-      (fails (windowHolds first last) (Answered.window-true first last)))
-      (either first last (windowDays first last) 27759)))
-      (Answered.ends-true first last)
-
-  fourteen : (searchAt r first last room ≡ refused 14) ↔ ((DayInRange first × DayInRange last) × (IsWindow first last × (FieldsInRange r → ⊥)))
-  unfolding searchAt ends rest t
-  fourteen =
-      test-iff (then-iff (fails-later ends 6 14 _ (omega arith))
-      (test-iff (then-iff (fails-later (windowHolds first last) 13 14 (guard (inRanges r) 14 rest) (omega arith))
-      (Iff·trans (fails-here (inRanges r) 14 rest (never 14)) (fails (inRanges r) (in-ranges r))))
-      (Answered.window-true first last)))
-      (Answered.ends-true first last)
-
-  short : (rest ≡ refused-with 12 t) ↔ (room < t)
-  unfolding rest t
-  short = (there (leb (total r first last) room) refl, λ h. ap (λ (b : Bool). guard-with b 12 (total r first last) (is (total r first last))) (lt-leb (total r first last) room h))
-    where
-      there : (b : Bool) → leb (total r first last) room ≡ b → guard-with b 12 (total r first last) (is (total r first last)) ≡ refused-with 12 (total r first last) → room < total r first last
-      there true e f = let g : _≡_ {A = Answer ℕ} (is (total r first last)) (refused-with 12 (total r first last)) = f in absurd (let o : _≡_ {A = ℕ} 0 1 = cc in omega arith)
-      there false e f = leb-false (total r first last) room e
-
-  enough : (rest ≡ is t) ↔ (t ≤ room)
-  unfolding rest t
-  enough = (there (leb (total r first last) room) refl, λ h. ap (λ (b : Bool). guard-with b 12 (total r first last) (is (total r first last))) (le-leb (total r first last) room h))
-    where
-      there : (b : Bool) → leb (total r first last) room ≡ b → guard-with b 12 (total r first last) (is (total r first last)) ≡ is (total r first last) → total r first last ≤ room
-      there true e f = leb-true (total r first last) room e
-      there false e f = let g : _≡_ {A = Answer ℕ} (refused-with 12 (total r first last)) (is (total r first last)) = f in absurd (let o : _≡_ {A = ℕ} 0 1 = cc in omega arith)
-
-  twelve : (searchAt r first last room ≡ refused-with 12 (total r first last)) ↔ ((DayInRange first × DayInRange last) × (IsWindow first last × (FieldsInRange r × (room < total r first last))))
-  unfolding searchAt ends rest t
-  twelve =
-      test-iff (then-iff (holds-with ends 6 12 (total r first last) _)
-      (test-iff (then-iff (holds-with (windowHolds first last) 13 12 (total r first last) (guard (inRanges r) 14 rest))
-      (test-iff (then-iff (holds-with (inRanges r) 14 12 (total r first last) rest) short) (in-ranges r)))
-      (Answered.window-true first last)))
-      (Answered.ends-true first last)
-
-  given : (searchAt r first last room ≡ is (total r first last)) ↔ ((DayInRange first × DayInRange last) × (IsWindow first last × (FieldsInRange r × (total r first last ≤ room))))
-  unfolding searchAt ends rest t
-  given =
-      test-iff (then-iff (holds-all ends 6 _ (total r first last))
-      (test-iff (then-iff (holds-all (windowHolds first last) 13 (guard (inRanges r) 14 rest) (total r first last))
-      (test-iff (then-iff (holds-all (inRanges r) 14 rest (total r first last)) enough) (in-ranges r)))
-      (Answered.window-true first last)))
-      (Answered.ends-true first last)
-
-pub reasons-of-a-search : Paper.Reasons-of-a-search
-reasons-of-a-search r first last room =
-    record {
-      six = six r first last room;
-      thirteen = thirteen r first last room;
-      fourteen = fourteen r first last room;
-      twelve = twelve r first last room;
-      given = given r first last room;
+      refused-one = λ r first last old new why. left r first last old new (Refused why);
+      too-short = λ r first last n old new. left r first last old new (TooShort n);
     }
 
 -- an answer can be read back from what it says
@@ -370,58 +252,74 @@ unique-search r first last old a b new other p q =
     again (TooShort n) = refl
     again (Refused w) = ap Refused (reason-back w)
 
-all-free : inRanges allUnread ≡ true
-unfolding inRanges
-all-free = refl
+-- what stands at place i of the list after the call
+front : (r : Reading) (first last n : ℕ) (old new : List ℕ) (h : SearchAnswered r first last n old new) (i : ℕ) → i < n → getD new i 0 ≡ getD (h .days) i 0
+front r first last n old new h i l =
+    ap (λ (m : List ℕ). getD m i 0) (h .filled) ∙ List·getD-append (h .days) (drop (length (h .days)) old) 0 i (omega (arith, h .counted))
 
--- a search of the first n days with nothing read, into a list with room
-whole : (n : ℕ) (old : List ℕ) → 1 ≤ n → n ≤ 27759 → n ≤ length old → Searched allUnread 0 (n - 1) old (Is n) (placed (fitting allUnread 0 n) old)
-unfolding total
-whole n old l h g = Answered.made allUnread 0 (n - 1) old (is n) (Is n) (placed (fitting allUnread 0 n) old) answer refl (ap (λ (k : ℕ). placed (fitting allUnread 0 k) old) (sym days))
+pub unread-lists-all : Paper.Unread-lists-all
+unread-lists-all = record { counted = number; each = at-place }
   where
-    days : n - 1 + 1 - 0 ≡ n
-    days = omega arith
+    run : (first last n : ℕ) (old new : List ℕ) (h : SearchAnswered allUnread first last n old new) → h .days ≡ those (λ d. true) first (windowDays first last)
+    run first last n old new h = the-days allUnread first last old new (h .days) (h .exactly) ∙ all-fit first (windowDays first last)
 
-    all : total allUnread 0 (n - 1) ≡ n
-    all = ap (λ (k : ℕ). length (fitting allUnread 0 k)) days ∙ unread-lists-all .counted 0 n
+    number : (first last n : ℕ) (old new : List ℕ) → Searched allUnread first last old (Is n) new → n ≡ windowDays first last
+    number first last n old new s =
+        let h = search-lists allUnread first last n old new .0 s .1 in
+        sym (h .counted) ∙ ap length (run first last n old new h) ∙ length-all first (windowDays first last)
 
-    answer : searchAt allUnread 0 (n - 1) (length old) ≡ is n
-    answer = reasons-of-a-search allUnread 0 (n - 1) (length old) .given .1 ((omega arith, omega arith), ((omega arith, omega arith), (in-ranges allUnread .0 all-free, omega (arith, all)))) ∙ ap is all
+    at-place : (first last n : ℕ) (old new : List ℕ) (i : ℕ) → Searched allUnread first last old (Is n) new → i < n → getD new i 0 ≡ first + i
+    at-place first last n old new i s l =
+        let h = search-lists allUnread first last n old new .0 s .1 in
+        front allUnread first last n old new h i l
+        ∙ ap (λ (m : List ℕ). getD m i 0) (run first last n old new h)
+        ∙ run-at first (windowDays first last) i (omega (arith, number first last n old new s))
 
--- its first day, and its second, stand in the list
-day-at : (n i : ℕ) (old : List ℕ) → i < n → getD (placed (fitting allUnread 0 n) old) i 0 ≡ i
-day-at n i old h =
-    List·getD-append (fitting allUnread 0 n) (drop (length (fitting allUnread 0 n)) old) 0 i (omega (arith, unread-lists-all .counted 0 n))
-    ∙ unread-lists-all .each 0 n i h ∙ zero-add i
+-- a field read in more is fitted by fewer
+read-too : (f g : Field) (v : ℕ) → ReadToo f g → FieldFits g v → FieldFits f v
+read-too f g v h e = ⊎-elim inl (λ (s : f ≡ g). subst (λ (x : Field). FieldFits x v) (sym s) e) h
+
+fewer : (r s : Reading) (d : ℕ) → MoreKnown r s → ReadingFits s d → ReadingFits r d
+fewer r s d m h =
+    record {
+      year-name = read-too (r .«year_name») (s .«year_name») _ (m .year-name) (h .year-name);
+      month-number = read-too (r .«month_number») (s .«month_number») _ (m .month-number) (h .month-number);
+      leap-mark = read-too (r .«leap_mark») (s .«leap_mark») _ (m .leap-mark) (h .leap-mark);
+      day-of-month = read-too (r .«day_of_month») (s .«day_of_month») _ (m .day-of-month) (h .day-of-month);
+      day-name = read-too (r .«day_name») (s .«day_name») _ (m .day-name) (h .day-name);
+      first-name = read-too (r .«first_name») (s .«first_name») _ (m .first-name) (h .first-name);
+    }
+
+-- a fitting day of the window stands in the list after a call that is answered
+found : (r : Reading) (first last k : ℕ) (old new : List ℕ) (d : ℕ) → Searched r first last old (Is k) new → first ≤ d → d ≤ last → ReadingFits r d → (i : ℕ) × (i < k) × (getD new i 0 ≡ d)
+found r first last k old new d s h g e =
+    let a = search-lists r first last k old new .0 s .1 in
+    let w = a .exactly .listed d h g e in
+    let l : w .0 < k = omega (arith, w .1, a .counted) in
+    (w .0, l, front r first last k old new a (w .0) l ∙ w .2)
+
+pub more-known-never-adds : Paper.More-known-never-adds
+more-known-never-adds r s first last n m old new old′ new′ i k p q l =
+    let a = search-lists s first last m old′ new′ .0 q .1 in
+    let o = a .exactly .only i (omega (arith, a .counted)) in
+    let w = found r first last n old new (getD (a .days) i 0) p (o .0) (o .1) (fewer r s (getD (a .days) i 0) k (o .2)) in
+    (w .0, w .1, w .2 ∙ sym (front s first last m old′ new′ a i l))
+
+pub second-of-two-big-listed : Paper.Second-of-two-big-listed
+second-of-two-big-listed n d r first last k old new big also inside e h g s = found r first last k old new d s h g e
 
 pub wrong-searches : Paper.Wrong-searches
-wrong-searches = record { refusing-all = all; filling-none = none; inventing = invented; first-only = one }
-  where
-    one-day : Searched allUnread 0 0 (5 ∷ 5 ∷ []) (Is 1) (placed (fitting allUnread 0 1) (5 ∷ 5 ∷ []))
-    one-day = whole 1 (5 ∷ 5 ∷ []) (omega arith) (omega arith) (omega arith)
-
-    two-days : Searched allUnread 0 1 (5 ∷ 5 ∷ []) (Is 2) (placed (fitting allUnread 0 2) (5 ∷ 5 ∷ []))
-    two-days = whole 2 (5 ∷ 5 ∷ []) (omega arith) (omega arith) (omega arith)
-
-    all : ((r : Reading) (first last : ℕ) (old : List ℕ) → (why : Reason) × Searched r first last old (Refused why) old) → ⊥
-    all h =
-        let w = h allUnread 0 0 (5 ∷ 5 ∷ []) in
-        let e : Refused (w .0) ≡ Is 1 = unique-search allUnread 0 0 (5 ∷ 5 ∷ []) (Refused (w .0)) (Is 1) _ _ (w .1) one-day .0 in
-        let o : _≡_ {A = ℕ} 0 1 = cc in
-        omega arith
-
-    none : ((r : Reading) (first last n : ℕ) (old new : List ℕ) → Searched r first last old (Is n) new → new ≡ old) → ⊥
-    none h = omega (arith, day-at 1 0 (5 ∷ 5 ∷ []) (omega arith), ap (λ (l : List ℕ). getD l 0 0) (h allUnread 0 0 1 (5 ∷ 5 ∷ []) _ one-day))
-
-    invented : (n : ℕ) → ((r : Reading) (first last m : ℕ) (old new : List ℕ) → Searched r first last old (Is m) new → m ≡ n) → ⊥
-    invented n h = omega (arith, h allUnread 0 0 1 (5 ∷ 5 ∷ []) _ one-day, h allUnread 0 1 2 (5 ∷ 5 ∷ []) _ two-days)
-
-    one : ((r : Reading) (first last n : ℕ) (old new : List ℕ) → Searched r first last old (Is n) new → drop 1 new ≡ drop 1 old) → ⊥
-    one h =
-        let new : List ℕ = placed (fitting allUnread 0 2) (5 ∷ 5 ∷ []) in
-        omega (
-          arith,
-          day-at 2 1 (5 ∷ 5 ∷ []) (omega arith),
-          getD-drop 1 new 0 0,
-          ap (λ (l : List ℕ). getD l 0 0) (h allUnread 0 1 2 (5 ∷ 5 ∷ []) new two-days),
-        )
+unfolding searchAt total fitting those fits monthFits dayFits inRanges sixOf dateOf dateIn monthAt monthStart monthOfDay yearOfMonth monthNumber midTermNumber midTermsBefore leap dayName yearName
+wrong-searches =
+    record {
+      refusing-all = λ why new s. let e : _≡_ {A = Answer ℕ} (refused (reasonNumber why)) (is 1) = s .answered in let o : _≡_ {A = ℕ} 0 1 = cc in omega arith;
+      short-for-all = λ n new s. let e : _≡_ {A = Answer ℕ} (refused-with 12 n) (is 1) = s .answered in let o : _≡_ {A = ℕ} 0 1 = cc in omega arith;
+      filling-none = λ a s. let e : _≡_ {A = List ℕ} (5 ∷ []) (0 ∷ []) = s .lent in omega (arith, ap (λ (l : List ℕ). getD l 0 0) e);
+      inventing = λ n new h s. h (let e : _≡_ {A = Answer ℕ} (is n) (is 2) = s .answered in cc);
+      inventing-at-12 = λ n new h s. h (let e : _≡_ {A = Answer ℕ} (refused-with 12 n) (refused-with 12 2) = s .answered in cc);
+      copying-first = λ a s. let e : _≡_ {A = List ℕ} (3 ∷ 3 ∷ []) (3 ∷ 4 ∷ []) = s .lent in omega (arith, ap (λ (l : List ℕ). getD l 1 0) e);
+      first-alone = λ a s. let e : _≡_ {A = List ℕ} (3 ∷ 0 ∷ []) (3 ∷ 4 ∷ []) = s .lent in omega (arith, ap (λ (l : List ℕ). getD l 1 0) e);
+      written-before-refusal = λ a x h s. h (let e : _≡_ {A = List ℕ} (x ∷ []) (0 ∷ []) = s .lent in ap (λ (l : List ℕ). getD l 0 0) e);
+      tail-cleared = λ a x h s. h (let e : _≡_ {A = List ℕ} (3 ∷ 4 ∷ x ∷ []) (3 ∷ 4 ∷ 5 ∷ []) = s .lent in ap (λ (l : List ℕ). getD l 2 0) e);
+      second-big-left-out = λ a s. let e : _≡_ {A = List ℕ} (0 ∷ []) (3838 ∷ []) = s .lent in omega (arith, ap (λ (l : List ℕ). getD l 0 0) e);
+    }

@@ -1,14 +1,14 @@
 -- Runs of days: a month's part of a window, a list filled place by place. Assumes nothing.
-use Prim.Native.Nat.{ℕ, suc, _+_, _-_, _≤_, _<_, min, max}
-use native.Mathlib.Nat.{add-zero, zero-add, sub-self}
+use Prim.Native.Nat.{ℕ, _+_, _-_, _≤_, _<_, min, max}
+use native.Mathlib.Nat.{sub-self}
 use native.Mathlib.Omega.{arith}
 use mathlib.Core.Path.{_≡_, ap, sym, _∙_}
 use mathlib.Core.Bool.{Bool, true, false, _&&_}
 use mathlib.Core.List.{List, [], _∷_, _++_, append-nil}
-use lib.ListN.{length, drop, set, length-append}
-use lib.Seq.{sets, sets-eq}
+use lib.ListN.{length, set, length-append}
+use lib.Seq.{sets}
 use Rattle.rule.specs.Counts.{MonthInRange}
-use Rattle.rule.specs.Lists.{kept, those, placed}
+use Rattle.rule.specs.Lists.{kept, those}
 use Rattle.rule.specs.Rule.{monthStart, monthOfDay}
 use Rattle.rule.proofs.Lists.{bit, complement, length-kept, those-same, none-pass, empty, from-to, one-more}
 use Rattle.rule.proofs.Stores.{sets-append}

@@ -6,8 +6,9 @@ use mathlib.Core.List.{List}
 use lib.Dec.{eqb, leb}
 use Rattle.rule.specs.Counts.{MonthInRange, dayName, yearName}
 use Rattle.rule.specs.Lists.{those}
-use Rattle.rule.specs.Rule.{monthStart, monthOfDay, yearOfMonth, leap, monthNumber}
+use Rattle.rule.specs.Rule.{monthStart, monthOfDay, yearOfMonth, leap, monthNumber, numberOf, leapMark}
 use Rattle.rule.specs.Reasons.{within}
+use Rattle.dates.specs.Dates.{dateOf}
 use Rattle.reading.specs.declared.Field.{Field}
 use Rattle.reading.specs.declared.Field.the-variants.{Known, Unread}
 use Rattle.reading.specs.declared.Reading.{Reading}
@@ -16,6 +17,27 @@ use Rattle.reading.specs.declared.Reading.{Reading}
 abbrev pub markNumber : Bool → ℕ
 markNumber false = 1
 markNumber true = 2
+
+-- the six values of a day, "in this order: year name, month number, leap mark, day of month, day name, name of the month's first
+-- day": what its date has, and the last
+pub record Six : Type 0 where
+  pub year-name : ℕ
+  pub month-number : ℕ
+  pub leap-mark : ℕ
+  pub day-of-month : ℕ
+  pub day-name : ℕ
+  pub first-name : ℕ
+
+unfoldable pub sixOf : ℕ → Six
+sixOf d =
+    record {
+      year-name = dateOf d .«year_name»;
+      month-number = numberOf (dateOf d .month);
+      leap-mark = markNumber (leapMark (dateOf d .month));
+      day-of-month = dateOf d .«day_of_month»;
+      day-name = dateOf d .«day_name»;
+      first-name = dayName (monthStart (monthOfDay d));
+    }
 
 -- "A known field fits the days whose date has that value, an unread field fits every day"
 abbrev pub fieldFits : Field → ℕ → Bool

@@ -1,11 +1,10 @@
 -- What a search answers, and what the lent list holds after it, for every input. Assumes nothing.
 use Prim.Native.Nat.{ℕ}
 use mathlib.Core.Path.{_≡_}
-use mathlib.Core.Bool.{Bool, true, false, _&&_}
+use mathlib.Core.Bool.{_&&_}
 use mathlib.Core.List.{List}
 use lib.Dec.{leb}
 use lib.ListN.{length}
-use Rattle.rule.specs.Lists.{placed}
 use Rattle.rule.specs.Reasons.{Answer, is, refused, refused-with, guard, reasonNumber, guard-with, afterwards}
 use Rattle.reading.specs.declared.Reading.{Reading}
 use Rattle.reading.specs.declared.Found.{Found}

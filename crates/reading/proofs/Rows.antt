@@ -1,0 +1,207 @@
+-- The tests of a search as the paper says them, and what it comes to: a fault of the paper's rows, the total told, or the days
+-- given. Assumes nothing.
+use Prim.Native.Nat.{ℕ, _≤_, _<_}
+use native.Mathlib.Omega.{arith}
+use mathlib.Core.Path.{_≡_, refl, ap, sym, _∙_}
+use mathlib.Core.Logic.{_↔_, _⊎_, inl, inr, ⊎-elim}
+use mathlib.Core.Bool.{Bool, true, false, _&&_}
+use lib.Dec.{leb}
+use borrow.Author.Tests.{leb-true, leb-false, lt-leb}
+use Rattle.rule.specs.declared.Reason.{Reason}
+use Rattle.rule.specs.declared.Reason.the-variants.{NoSuchDay, BadWindow, FieldOutOfRange}
+use Rattle.rule.specs.Reasons.{is, refused, refused-with, within, reasonNumber}
+use Rattle.rule.proofs.Answers.{both-true, within-true}
+use Rattle.reading.specs.declared.Field.{Field}
+use Rattle.reading.specs.declared.Field.the-variants.{Known, Unread}
+use Rattle.reading.specs.declared.Reading.{Reading}
+use Rattle.reading.specs.Readings.{fieldInRange, inRanges, windowDays, windowHolds}
+use Rattle.reading.specs.Search.{total, searchAt}
+use Rattle.reading.specs.Paper.{
+  FieldInRange,
+  FieldOutside,
+  FieldsInRange,
+  SomeFieldOutside,
+  year-name-outside,
+  month-number-outside,
+  leap-mark-outside,
+  day-of-month-outside,
+  day-name-outside,
+  first-name-outside,
+  EndsInRange,
+  EndOutside,
+  IsWindow,
+  NoWindow,
+  SearchFault,
+  end-outside,
+  no-window,
+  field-outside,
+  GoodSearch,
+}
+use Rattle.reading.proofs.Answered
+
+-- two tests, one of which fails
+one-false : {P Q : Type 0} (p q : Bool) → ((p ≡ false) ↔ P) → ((q ≡ false) ↔ Q) → ((p && q) ≡ false) ↔ (P ⊎ Q)
+one-false true true e f = (λ h. inl (e .0 h), ⊎-elim (e .1) (f .1))
+one-false true false e f = (λ h. inr (f .0 refl), λ s. refl)
+one-false false q e f = (λ h. inl (e .0 refl), λ s. refl)
+
+-- a is beyond b
+beyond : (a b : ℕ) → (leb a b ≡ false) ↔ (b < a)
+beyond a b = (leb-false a b, lt-leb a b)
+
+ends-false : (first last : ℕ) → ((leb first 14989859 && leb last 14989859) ≡ false) ↔ EndOutside first last
+ends-false first last = one-false (leb first 14989859) (leb last 14989859) (beyond first 14989859) (beyond last 14989859)
+
+window-false : (first last : ℕ) → (windowHolds first last ≡ false) ↔ NoWindow first last
+window-false first last = one-false (leb first last) (leb (windowDays first last) 27759) (beyond first last) (beyond (windowDays first last) 27759)
+
+-- a known field in its range, and outside it
+field-range : (f : Field) (most : ℕ) → (fieldInRange f most ≡ true) ↔ FieldInRange f most
+field-range (Known k) most = (
+  λ e j g. let i : k ≡ j = cc in let h = within-true 1 most k .0 e in (omega (arith, h .0), omega (arith, h .1)),
+  λ h. within-true 1 most k .1 (h k refl),
+)
+field-range Unread most = (λ e j g. absurd (let o : _≡_ {A = ℕ} 0 1 = cc in omega arith), λ h. refl)
+
+field-beyond : (f : Field) (most : ℕ) → (fieldInRange f most ≡ false) ↔ FieldOutside f most
+field-beyond (Known k) most = (λ e. (k, refl, test .0 e), λ h. test .1 (⊎-elim (λ (l : h .0 < 1). inl (less h l)) (λ (l : most < h .0). inr (more h l)) (h .2)))
+  where
+    test : (within 1 most k ≡ false) ↔ ((k < 1) ⊎ (most < k))
+    test = one-false (leb 1 k) (leb k most) (beyond 1 k) (beyond k most)
+
+    same : (h : FieldOutside (Known k) most) → k ≡ h .0
+    same h = let e : Known k ≡ Known (h .0) = h .1 in cc
+
+    less : (h : FieldOutside (Known k) most) → h .0 < 1 → k < 1
+    less h l = omega (arith, same h)
+
+    more : (h : FieldOutside (Known k) most) → most < h .0 → most < k
+    more h l = omega (arith, same h)
+field-beyond Unread most = (
+  λ e. absurd (let o : _≡_ {A = ℕ} 0 1 = cc in omega arith),
+  λ h. absurd (let e : Unread ≡ Known (h .0) = h .1 in let o : _≡_ {A = ℕ} 0 1 = cc in omega arith),
+)
+
+module _ (r : Reading) where
+  a : Bool
+  a = fieldInRange (r .«year_name») 60
+
+  b : Bool
+  b = fieldInRange (r .«month_number») 12
+
+  c : Bool
+  c = fieldInRange (r .«leap_mark») 2
+
+  d : Bool
+  d = fieldInRange (r .«day_of_month») 30
+
+  e : Bool
+  e = fieldInRange (r .«day_name») 60
+
+  f : Bool
+  f = fieldInRange (r .«first_name») 60
+
+  -- every field in its range
+  pub in-ranges : (inRanges r ≡ true) ↔ FieldsInRange r
+  unfolding inRanges a b c d e f
+  in-ranges = (
+    λ t. let h = six .0 t in record { year-name = h .0 .0 .0 .0 .0; month-number = h .0 .0 .0 .0 .1; leap-mark = h .0 .0 .0 .1; day-of-month = h .0 .0 .1; day-name = h .0 .1; first-name = h .1 },
+    λ h. six .1 (((((h .year-name, h .month-number), h .leap-mark), h .day-of-month), h .day-name), h .first-name),
+  )
+    where
+      six : ((a && b && c && d && e && f) ≡ true)
+          ↔ (((((FieldInRange (r .«year_name») 60 × FieldInRange (r .«month_number») 12) × FieldInRange (r .«leap_mark») 2) × FieldInRange (r .«day_of_month») 30) × FieldInRange (r .«day_name») 60) × FieldInRange (r .«first_name») 60)
+      six =
+          both-true (a && b && c && d && e) f
+          (both-true (a && b && c && d) e
+          (both-true (a && b && c) d
+          (both-true (a && b) c (both-true a b (field-range (r .«year_name») 60) (field-range (r .«month_number») 12)) (field-range (r .«leap_mark») 2))
+          (field-range (r .«day_of_month») 30))
+          (field-range (r .«day_name») 60))
+          (field-range (r .«first_name») 60)
+
+  -- some field outside it
+  One : Type 0
+  One = ((((FieldOutside (r .«year_name») 60 ⊎ FieldOutside (r .«month_number») 12) ⊎ FieldOutside (r .«leap_mark») 2) ⊎ FieldOutside (r .«day_of_month») 30) ⊎ FieldOutside (r .«day_name») 60) ⊎ FieldOutside (r .«first_name») 60
+
+  which : One → SomeFieldOutside r
+  unfolding One
+  which (inl (inl (inl (inl (inl h))))) = year-name-outside h
+  which (inl (inl (inl (inl (inr h))))) = month-number-outside h
+  which (inl (inl (inl (inr h)))) = leap-mark-outside h
+  which (inl (inl (inr h))) = day-of-month-outside h
+  which (inl (inr h)) = day-name-outside h
+  which (inr h) = first-name-outside h
+
+  one : SomeFieldOutside r → One
+  unfolding One
+  one (year-name-outside h) = inl (inl (inl (inl (inl h))))
+  one (month-number-outside h) = inl (inl (inl (inl (inr h))))
+  one (leap-mark-outside h) = inl (inl (inl (inr h)))
+  one (day-of-month-outside h) = inl (inl (inr h))
+  one (day-name-outside h) = inl (inr h)
+  one (first-name-outside h) = inr h
+
+  pub some-outside : (inRanges r ≡ false) ↔ SomeFieldOutside r
+  unfolding inRanges a b c d e f One
+  some-outside = (λ t. which (six .0 t), λ h. six .1 (one h))
+    where
+      six : ((a && b && c && d && e && f) ≡ false) ↔ One
+      six =
+          one-false (a && b && c && d && e) f
+          (one-false (a && b && c && d) e
+          (one-false (a && b && c) d
+          (one-false (a && b) c (one-false a b (field-beyond (r .«year_name») 60) (field-beyond (r .«month_number») 12)) (field-beyond (r .«leap_mark») 2))
+          (field-beyond (r .«day_of_month») 30))
+          (field-beyond (r .«day_name») 60))
+          (field-beyond (r .«first_name») 60)
+
+-- what a search comes to
+module _ (r : Reading) (first last room : ℕ) where
+  pub refuses : (why : Reason) → SearchFault r first last why → searchAt r first last room ≡ refused (reasonNumber why)
+  refuses why (end-outside h e) =
+      ⊎-elim (Answered.first-outside r first last room) (Answered.last-outside r first last room) h ∙ sym (ap (λ (w : Reason). refused (reasonNumber w)) e)
+  refuses why (no-window h g e) =
+      Answered.bad-window r first last room (h .0) (h .1) (window-false first last .1 g) ∙ sym (ap (λ (w : Reason). refused (reasonNumber w)) e)
+  refuses why (field-outside h g s e) =
+      Answered.bad-field r first last room (h .0) (h .1) (Answered.window-true first last .1 g) (some-outside r .1 s)
+      ∙ sym (ap (λ (w : Reason). refused (reasonNumber w)) e)
+
+  pub tells : GoodSearch r first last → room < total r first last → searchAt r first last room ≡ refused-with 12 (total r first last)
+  unfolding total
+  tells g h =
+      Answered.too-short r first last room (g .ends .0) (g .ends .1) (Answered.window-true first last .1 (g .window)) (in-ranges r .1 (g .fields))
+      (total r first last) refl h
+
+  pub gives : GoodSearch r first last → total r first last ≤ room → searchAt r first last room ≡ is (total r first last)
+  unfolding total
+  gives g h =
+      Answered.room-enough r first last room (g .ends .0) (g .ends .1) (Answered.window-true first last .1 (g .window)) (in-ranges r .1 (g .fields))
+      (total r first last) refl h
+
+  pub data Outcome : Type 0 where
+    fault : (why : Reason) → SearchFault r first last why → searchAt r first last room ≡ refused (reasonNumber why) → Outcome
+    short : GoodSearch r first last → room < total r first last → searchAt r first last room ≡ refused-with 12 (total r first last) → Outcome
+    given : GoodSearch r first last → total r first last ≤ room → searchAt r first last room ≡ is (total r first last) → Outcome
+
+  pub outcome : Outcome
+  outcome = ends (leb first 14989859 && leb last 14989859) refl
+    where
+      faulty : (why : Reason) → SearchFault r first last why → Outcome
+      faulty why h = fault why h (refuses why h)
+
+      good : GoodSearch r first last → (t : Bool) → leb (total r first last) room ≡ t → Outcome
+      good g true e = let h = leb-true (total r first last) room e in given g h (gives g h)
+      good g false e = let h = leb-false (total r first last) room e in short g h (tells g h)
+
+      fields : EndsInRange first last → IsWindow first last → (t : Bool) → inRanges r ≡ t → Outcome
+      fields h w true e = good (record { ends = h; window = w; fields = in-ranges r .0 e }) (leb (total r first last) room) refl
+      fields h w false e = faulty FieldOutOfRange (field-outside h w (some-outside r .0 e) refl)
+
+      window : EndsInRange first last → (t : Bool) → windowHolds first last ≡ t → Outcome
+      window h true e = fields h (Answered.window-true first last .0 e) (inRanges r) refl
+      window h false e = faulty BadWindow (no-window h (window-false first last .0 e) refl)
+
+      ends : (t : Bool) → (leb first 14989859 && leb last 14989859) ≡ t → Outcome
+      ends true e = window (Answered.ends-true first last .0 e) (windowHolds first last) refl
+      ends false e = faulty NoSuchDay (end-outside (ends-false first last .0 e) refl)
