@@ -25,7 +25,7 @@ use Rattle.reading.specs.Search.{total, searchAt, saidFound, Searched}
 use Rattle.reading.specs.Paper as Paper
 use Rattle.reading.specs.Paper.{FieldFits, ReadingFits, SearchFault, GoodSearch, ListsExactly, SearchAnswered, SearchTooShort, ReadToo, MoreKnown, allUnread}
 use Rattle.reading.proofs.Answered
-use Rattle.reading.proofs.Rows.{refuses, tells, gives, Outcome, fault, short, given, outcome}
+use Rattle.reading.proofs.Rows.{refuses, tells, gives, comes}
 
 -- a field, by its two cases
 field-fits : (f : Field) (v : ℕ) → (fieldFits f v ≡ true) ↔ FieldFits f v
@@ -154,86 +154,82 @@ one-list r first last xs ys p q = one-rising xs ys (p .rising) (q .rising) (amon
     among : (us vs : List ℕ) → ListsExactly r first last us → ListsExactly r first last vs → Among us vs
     among us vs u v i h = let o = u .only i h in v .listed (getD us i 0) (o .0) (o .1) (o .2)
 
--- the promise by the answer that is said
-module _ (r : Reading) (first last : ℕ) (old : List ℕ) (new : List ℕ) where
-  left : (a : Found) → Searched r first last old a new → new ≡ afterwards (saidFound a) (λ n. fitting r first (windowDays first last)) old
-  left a s = s .lent ∙ ap (λ (x : Answer ℕ). afterwards x (λ n. fitting r first (windowDays first last)) old) (sym (s .answered))
+-- a list that holds exactly the fitting days is theirs, and its length their total
+module _ (r : Reading) (first last : ℕ) (days : List ℕ) (e : ListsExactly r first last days) where
+  the-days : days ≡ fitting r first (windowDays first last)
+  the-days = one-list r first last days (fitting r first (windowDays first last)) e (lists-exactly r first last)
 
-  kept : (a : Found) → searchAt r first last (length old) ≡ saidFound a → new ≡ afterwards (saidFound a) (λ n. fitting r first (windowDays first last)) old → Searched r first last old a new
-  kept a e g = Answered.made r first last old (saidFound a) a new e refl g
+  the-total : (n : ℕ) → length days ≡ n → total r first last ≡ n
+  unfolding total
+  the-total n h = sym (ap length the-days) ∙ h
 
-  -- a list that holds exactly the fitting days is theirs
-  the-days : (days : List ℕ) → ListsExactly r first last days → days ≡ fitting r first (windowDays first last)
-  the-days days e = one-list r first last days (fitting r first (windowDays first last)) e (lists-exactly r first last)
+-- the list after the call, by what is said
+lent-after : (r : Reading) (first last : ℕ) (old new : List ℕ) (a : Found) → Searched r first last old a new →
+    new ≡ afterwards (saidFound a) (λ n. fitting r first (windowDays first last)) old
+lent-after r first last old new a s = s .lent ∙ ap (λ (x : Answer ℕ). afterwards x (λ n. fitting r first (windowDays first last)) old) (sym (s .answered))
 
 pub search-lists : Paper.Search-lists
 unfolding total
-search-lists r first last n old new = (λ s. there s (outcome r first last (length old)), λ h. back (h .0) (h .1))
+search-lists r first last n old new = (there, λ h. back (h .0) (h .1))
   where
-    there : Searched r first last old (Is n) new → Outcome r first last (length old) → GoodSearch r first last × SearchAnswered r first last n old new
-    there s (fault why h e) = absurd (let g : _≡_ {A = Answer ℕ} (is n) (refused (reasonNumber why)) = s .answered ∙ e in let o : _≡_ {A = ℕ} 0 1 = cc in omega arith)
-    there s (short h l e) = absurd (let g : _≡_ {A = Answer ℕ} (is n) (refused-with 12 (total r first last)) = s .answered ∙ e in let o : _≡_ {A = ℕ} 0 1 = cc in omega arith)
-    there s (given h l e) =
-        let g : _≡_ {A = Answer ℕ} (is n) (is (total r first last)) = s .answered ∙ e in
-        let t : n ≡ total r first last = cc in (
-          h,
+    there : Searched r first last old (Is n) new → GoodSearch r first last × SearchAnswered r first last n old new
+    there s =
+        let h = comes r first last (length old) (is n) (s .answered) in (
+          h .0,
           record {
             days = fitting r first (windowDays first last);
             exactly = lists-exactly r first last;
-            counted = sym t;
-            room = omega (arith, t, l);
-            filled = left r first last old new (Is n) s;
+            counted = sym (h .1);
+            room = h .2;
+            filled = lent-after r first last old new (Is n) s;
           },
         )
 
     back : GoodSearch r first last → SearchAnswered r first last n old new → Searched r first last old (Is n) new
     back g h =
-        let e = the-days r first last old new (h .days) (h .exactly) in
-        let t : total r first last ≡ n = sym (ap length e) ∙ h .counted in
-        kept r first last old new (Is n) (gives r first last (length old) g (omega (arith, t, h .room)) ∙ ap is t) (h .filled ∙ ap (λ (l : List ℕ). placed l old) e)
+        let t = the-total r first last (h .days) (h .exactly) n (h .counted) in
+        Answered.made r first last old (is n) (Is n) new (gives r first last (length old) g (omega (arith, t, h .room)) ∙ ap is t) refl
+        (h .filled ∙ ap (λ (l : List ℕ). placed l old) (the-days r first last (h .days) (h .exactly)))
 
 pub too-short-says-the-total : Paper.Too-short-says-the-total
 unfolding total
-too-short-says-the-total r first last n old new = (λ s. there s (outcome r first last (length old)), λ h. back (h .0) (h .1))
+too-short-says-the-total r first last n old new = (there, λ h. back (h .0) (h .1))
   where
-    there : Searched r first last old (TooShort n) new → Outcome r first last (length old) → GoodSearch r first last × SearchTooShort r first last n old new
-    there s (fault why h e) = absurd (let g : _≡_ {A = Answer ℕ} (refused-with 12 n) (refused (reasonNumber why)) = s .answered ∙ e in let o : _≡_ {A = ℕ} 0 1 = cc in omega arith)
-    there s (given h l e) = absurd (let g : _≡_ {A = Answer ℕ} (refused-with 12 n) (is (total r first last)) = s .answered ∙ e in let o : _≡_ {A = ℕ} 0 1 = cc in omega arith)
-    there s (short h l e) =
-        let g : _≡_ {A = Answer ℕ} (refused-with 12 n) (refused-with 12 (total r first last)) = s .answered ∙ e in
-        let t : n ≡ total r first last = cc in (
-          h,
+    there : Searched r first last old (TooShort n) new → GoodSearch r first last × SearchTooShort r first last n old new
+    there s =
+        let h = comes r first last (length old) (refused-with 12 n) (s .answered) in (
+          h .0,
           record {
             days = fitting r first (windowDays first last);
             exactly = lists-exactly r first last;
-            counted = sym t;
-            short = omega (arith, t, l);
-            unchanged = left r first last old new (TooShort n) s;
+            counted = sym (h .1);
+            short = h .2;
+            unchanged = lent-after r first last old new (TooShort n) s;
           },
         )
 
     back : GoodSearch r first last → SearchTooShort r first last n old new → Searched r first last old (TooShort n) new
     back g h =
-        let e = the-days r first last old new (h .days) (h .exactly) in
-        let t : total r first last ≡ n = sym (ap length e) ∙ h .counted in
-        kept r first last old new (TooShort n) (tells r first last (length old) g (omega (arith, t, h .short)) ∙ ap (refused-with 12) t) (h .unchanged)
+        let t = the-total r first last (h .days) (h .exactly) n (h .counted) in
+        Answered.made r first last old (refused-with 12 n) (TooShort n) new
+        (tells r first last (length old) g (omega (arith, t, h .short)) ∙ ap (refused-with 12) t) refl (h .unchanged)
 
 pub reasons-of-a-search : Paper.Reasons-of-a-search
-reasons-of-a-search r first last old new why = (λ s. (there s (outcome r first last (length old)), left r first last old new (Refused why) s), λ h. kept r first last old new (Refused why) (refuses r first last (length old) why (h .0)) (h .1))
+reasons-of-a-search r first last old new why = (
+  λ s. (there s, lent-after r first last old new (Refused why) s),
+  λ h. Answered.made r first last old (refused (reasonNumber why)) (Refused why) new (refuses r first last (length old) why (h .0)) refl (h .1),
+)
   where
-    there : Searched r first last old (Refused why) new → Outcome r first last (length old) → SearchFault r first last why
-    there s (fault w h e) =
-        let g : _≡_ {A = Answer ℕ} (refused (reasonNumber why)) (refused (reasonNumber w)) = s .answered ∙ e in
-        let n : reasonNumber w ≡ reasonNumber why = cc in
-        subst (SearchFault r first last) (one-to-one reasonNumber reasonOf reason-back w why n) h
-    there s (short h l e) = absurd (let g : _≡_ {A = Answer ℕ} (refused (reasonNumber why)) (refused-with 12 (total r first last)) = s .answered ∙ e in let o : _≡_ {A = ℕ} 0 1 = cc in omega arith)
-    there s (given h l e) = absurd (let g : _≡_ {A = Answer ℕ} (refused (reasonNumber why)) (is (total r first last)) = s .answered ∙ e in let o : _≡_ {A = ℕ} 0 1 = cc in omega arith)
+    there : Searched r first last old (Refused why) new → SearchFault r first last why
+    there s =
+        let h = comes r first last (length old) (refused (reasonNumber why)) (s .answered) in
+        subst (SearchFault r first last) (one-to-one reasonNumber reasonOf reason-back (h .0) why (h .1)) (h .2)
 
 pub refusal-changes-nothing : Paper.Refusal-changes-nothing
 refusal-changes-nothing =
     record {
-      refused-one = λ r first last old new why. left r first last old new (Refused why);
-      too-short = λ r first last n old new. left r first last old new (TooShort n);
+      refused-one = λ r first last old new why. lent-after r first last old new (Refused why);
+      too-short = λ r first last n old new. lent-after r first last old new (TooShort n);
     }
 
 -- an answer can be read back from what it says
@@ -261,7 +257,7 @@ pub unread-lists-all : Paper.Unread-lists-all
 unread-lists-all = record { counted = number; each = at-place }
   where
     run : (first last n : ℕ) (old new : List ℕ) (h : SearchAnswered allUnread first last n old new) → h .days ≡ those (λ d. true) first (windowDays first last)
-    run first last n old new h = the-days allUnread first last old new (h .days) (h .exactly) ∙ all-fit first (windowDays first last)
+    run first last n old new h = the-days allUnread first last (h .days) (h .exactly) ∙ all-fit first (windowDays first last)
 
     number : (first last n : ℕ) (old new : List ℕ) → Searched allUnread first last old (Is n) new → n ≡ windowDays first last
     number first last n old new s =
@@ -291,7 +287,8 @@ fewer r s d m h =
     }
 
 -- a fitting day of the window stands in the list after a call that is answered
-found : (r : Reading) (first last k : ℕ) (old new : List ℕ) (d : ℕ) → Searched r first last old (Is k) new → first ≤ d → d ≤ last → ReadingFits r d → (i : ℕ) × (i < k) × (getD new i 0 ≡ d)
+found : (r : Reading) (first last k : ℕ) (old new : List ℕ) (d : ℕ) → Searched r first last old (Is k) new →
+    first ≤ d → d ≤ last → ReadingFits r d → (i : ℕ) × (i < k) × (getD new i 0 ≡ d)
 found r first last k old new d s h g e =
     let a = search-lists r first last k old new .0 s .1 in
     let w = a .exactly .listed d h g e in

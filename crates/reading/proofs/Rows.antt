@@ -2,14 +2,14 @@
 -- given. Assumes nothing.
 use Prim.Native.Nat.{ℕ, _≤_, _<_}
 use native.Mathlib.Omega.{arith}
-use mathlib.Core.Path.{_≡_, refl, ap, sym, _∙_}
-use mathlib.Core.Logic.{_↔_, _⊎_, inl, inr, ⊎-elim}
+use mathlib.Core.Path.{_≡_, refl, ap, sym, _∙_, subst}
+use mathlib.Core.Logic.{_↔_, _⊎_, inl, inr, ⊎-elim, Iff·trans}
 use mathlib.Core.Bool.{Bool, true, false, _&&_}
 use lib.Dec.{leb}
 use borrow.Author.Tests.{leb-true, leb-false, lt-leb}
 use Rattle.rule.specs.declared.Reason.{Reason}
 use Rattle.rule.specs.declared.Reason.the-variants.{NoSuchDay, BadWindow, FieldOutOfRange}
-use Rattle.rule.specs.Reasons.{is, refused, refused-with, within, reasonNumber}
+use Rattle.rule.specs.Reasons.{Answer, is, refused, refused-with, within, reasonNumber}
 use Rattle.rule.proofs.Answers.{both-true, within-true}
 use Rattle.reading.specs.declared.Field.{Field}
 use Rattle.reading.specs.declared.Field.the-variants.{Known, Unread}
@@ -82,50 +82,38 @@ field-beyond Unread most = (
   λ h. absurd (let e : Unread ≡ Known (h .0) = h .1 in let o : _≡_ {A = ℕ} 0 1 = cc in omega arith),
 )
 
+-- six tests: all of them hold, or one of them fails
+module _ {A B C D E F : Type 0} (a b c d e f : Bool) where
+  all-six : ((a ≡ true) ↔ A) → ((b ≡ true) ↔ B) → ((c ≡ true) ↔ C) → ((d ≡ true) ↔ D) → ((e ≡ true) ↔ E) → ((f ≡ true) ↔ F) →
+      ((a && b && c && d && e && f) ≡ true) ↔ (((((A × B) × C) × D) × E) × F)
+  all-six p q s t u v =
+      both-true (a && b && c && d && e) f
+      (both-true (a && b && c && d) e (both-true (a && b && c) d (both-true (a && b) c (both-true a b p q) s) t) u) v
+
+  one-of-six : ((a ≡ false) ↔ A) → ((b ≡ false) ↔ B) → ((c ≡ false) ↔ C) → ((d ≡ false) ↔ D) → ((e ≡ false) ↔ E) → ((f ≡ false) ↔ F) →
+      ((a && b && c && d && e && f) ≡ false) ↔ (((((A ⊎ B) ⊎ C) ⊎ D) ⊎ E) ⊎ F)
+  one-of-six p q s t u v =
+      one-false (a && b && c && d && e) f
+      (one-false (a && b && c && d) e (one-false (a && b && c) d (one-false (a && b) c (one-false a b p q) s) t) u) v
+
+-- the fields of a reading: every one in its range, or some one outside it
 module _ (r : Reading) where
-  a : Bool
-  a = fieldInRange (r .«year_name») 60
-
-  b : Bool
-  b = fieldInRange (r .«month_number») 12
-
-  c : Bool
-  c = fieldInRange (r .«leap_mark») 2
-
-  d : Bool
-  d = fieldInRange (r .«day_of_month») 30
-
-  e : Bool
-  e = fieldInRange (r .«day_name») 60
-
-  f : Bool
-  f = fieldInRange (r .«first_name») 60
-
-  -- every field in its range
   pub in-ranges : (inRanges r ≡ true) ↔ FieldsInRange r
-  unfolding inRanges a b c d e f
-  in-ranges = (
-    λ t. let h = six .0 t in record { year-name = h .0 .0 .0 .0 .0; month-number = h .0 .0 .0 .0 .1; leap-mark = h .0 .0 .0 .1; day-of-month = h .0 .0 .1; day-name = h .0 .1; first-name = h .1 },
-    λ h. six .1 (((((h .year-name, h .month-number), h .leap-mark), h .day-of-month), h .day-name), h .first-name),
-  )
-    where
-      six : ((a && b && c && d && e && f) ≡ true)
-          ↔ (((((FieldInRange (r .«year_name») 60 × FieldInRange (r .«month_number») 12) × FieldInRange (r .«leap_mark») 2) × FieldInRange (r .«day_of_month») 30) × FieldInRange (r .«day_name») 60) × FieldInRange (r .«first_name») 60)
-      six =
-          both-true (a && b && c && d && e) f
-          (both-true (a && b && c && d) e
-          (both-true (a && b && c) d
-          (both-true (a && b) c (both-true a b (field-range (r .«year_name») 60) (field-range (r .«month_number») 12)) (field-range (r .«leap_mark») 2))
-          (field-range (r .«day_of_month») 30))
-          (field-range (r .«day_name») 60))
-          (field-range (r .«first_name») 60)
+  unfolding inRanges
+  in-ranges =
+      Iff·trans
+      (all-six _ _ _ _ _ _ (field-range (r .«year_name») 60) (field-range (r .«month_number») 12) (field-range (r .«leap_mark») 2)
+      (field-range (r .«day_of_month») 30) (field-range (r .«day_name») 60) (field-range (r .«first_name») 60)) (
+        λ h. record { year-name = h .0 .0 .0 .0 .0; month-number = h .0 .0 .0 .0 .1; leap-mark = h .0 .0 .0 .1; day-of-month = h .0 .0 .1; day-name = h .0 .1; first-name = h .1 },
+        λ h. (((((h .year-name, h .month-number), h .leap-mark), h .day-of-month), h .day-name), h .first-name),
+      )
 
-  -- some field outside it
-  One : Type 0
-  One = ((((FieldOutside (r .«year_name») 60 ⊎ FieldOutside (r .«month_number») 12) ⊎ FieldOutside (r .«leap_mark») 2) ⊎ FieldOutside (r .«day_of_month») 30) ⊎ FieldOutside (r .«day_name») 60) ⊎ FieldOutside (r .«first_name») 60
+  abbrev One : Type 0
+  One =
+      ((((FieldOutside (r .«year_name») 60 ⊎ FieldOutside (r .«month_number») 12) ⊎ FieldOutside (r .«leap_mark») 2)
+      ⊎ FieldOutside (r .«day_of_month») 30) ⊎ FieldOutside (r .«day_name») 60) ⊎ FieldOutside (r .«first_name») 60
 
   which : One → SomeFieldOutside r
-  unfolding One
   which (inl (inl (inl (inl (inl h))))) = year-name-outside h
   which (inl (inl (inl (inl (inr h))))) = month-number-outside h
   which (inl (inl (inl (inr h)))) = leap-mark-outside h
@@ -134,7 +122,6 @@ module _ (r : Reading) where
   which (inr h) = first-name-outside h
 
   one : SomeFieldOutside r → One
-  unfolding One
   one (year-name-outside h) = inl (inl (inl (inl (inl h))))
   one (month-number-outside h) = inl (inl (inl (inl (inr h))))
   one (leap-mark-outside h) = inl (inl (inl (inr h)))
@@ -143,18 +130,12 @@ module _ (r : Reading) where
   one (first-name-outside h) = inr h
 
   pub some-outside : (inRanges r ≡ false) ↔ SomeFieldOutside r
-  unfolding inRanges a b c d e f One
-  some-outside = (λ t. which (six .0 t), λ h. six .1 (one h))
-    where
-      six : ((a && b && c && d && e && f) ≡ false) ↔ One
-      six =
-          one-false (a && b && c && d && e) f
-          (one-false (a && b && c && d) e
-          (one-false (a && b && c) d
-          (one-false (a && b) c (one-false a b (field-beyond (r .«year_name») 60) (field-beyond (r .«month_number») 12)) (field-beyond (r .«leap_mark») 2))
-          (field-beyond (r .«day_of_month») 30))
-          (field-beyond (r .«day_name») 60))
-          (field-beyond (r .«first_name») 60)
+  unfolding inRanges
+  some-outside =
+      Iff·trans
+      (one-of-six _ _ _ _ _ _ (field-beyond (r .«year_name») 60) (field-beyond (r .«month_number») 12) (field-beyond (r .«leap_mark») 2)
+      (field-beyond (r .«day_of_month») 30) (field-beyond (r .«day_name») 60) (field-beyond (r .«first_name») 60))
+      (which, one)
 
 -- what a search comes to
 module _ (r : Reading) (first last room : ℕ) where
@@ -179,29 +160,33 @@ module _ (r : Reading) (first last room : ℕ) where
       Answered.room-enough r first last room (g .ends .0) (g .ends .1) (Answered.window-true first last .1 (g .window)) (in-ranges r .1 (g .fields))
       (total r first last) refl h
 
-  pub data Outcome : Type 0 where
-    fault : (why : Reason) → SearchFault r first last why → searchAt r first last room ≡ refused (reasonNumber why) → Outcome
-    short : GoodSearch r first last → room < total r first last → searchAt r first last room ≡ refused-with 12 (total r first last) → Outcome
-    given : GoodSearch r first last → total r first last ≤ room → searchAt r first last room ≡ is (total r first last) → Outcome
+  -- by what is said: the days given, the total told, or a fault of the paper's rows
+  abbrev pub Comes : Answer ℕ → Type 0
+  Comes (is n) = GoodSearch r first last × (n ≡ total r first last) × (n ≤ room)
+  Comes (refused k) = (why : Reason) × (reasonNumber why ≡ k) × SearchFault r first last why
+  Comes (refused-with k n) = GoodSearch r first last × (n ≡ total r first last) × (room < n)
 
-  pub outcome : Outcome
-  outcome = ends (leb first 14989859 && leb last 14989859) refl
+  pub comes : (x : Answer ℕ) → x ≡ searchAt r first last room → Comes x
+  comes x said = subst Comes (sym said) (ends (leb first 14989859 && leb last 14989859) refl)
     where
-      faulty : (why : Reason) → SearchFault r first last why → Outcome
-      faulty why h = fault why h (refuses why h)
+      Here : Type 0
+      Here = Comes (searchAt r first last room)
 
-      good : GoodSearch r first last → (t : Bool) → leb (total r first last) room ≡ t → Outcome
-      good g true e = let h = leb-true (total r first last) room e in given g h (gives g h)
-      good g false e = let h = leb-false (total r first last) room e in short g h (tells g h)
+      faulty : (why : Reason) → SearchFault r first last why → Here
+      faulty why h = subst Comes (sym (refuses why h)) (why, refl, h)
 
-      fields : EndsInRange first last → IsWindow first last → (t : Bool) → inRanges r ≡ t → Outcome
+      good : GoodSearch r first last → (t : Bool) → leb (total r first last) room ≡ t → Here
+      good g true e = let h = leb-true (total r first last) room e in subst Comes (sym (gives g h)) (g, refl, h)
+      good g false e = let h = leb-false (total r first last) room e in subst Comes (sym (tells g h)) (g, refl, h)
+
+      fields : EndsInRange first last → IsWindow first last → (t : Bool) → inRanges r ≡ t → Here
       fields h w true e = good (record { ends = h; window = w; fields = in-ranges r .0 e }) (leb (total r first last) room) refl
       fields h w false e = faulty FieldOutOfRange (field-outside h w (some-outside r .0 e) refl)
 
-      window : EndsInRange first last → (t : Bool) → windowHolds first last ≡ t → Outcome
+      window : EndsInRange first last → (t : Bool) → windowHolds first last ≡ t → Here
       window h true e = fields h (Answered.window-true first last .0 e) (inRanges r) refl
       window h false e = faulty BadWindow (no-window h (window-false first last .0 e) refl)
 
-      ends : (t : Bool) → (leb first 14989859 && leb last 14989859) ≡ t → Outcome
+      ends : (t : Bool) → (leb first 14989859 && leb last 14989859) ≡ t → Here
       ends true e = window (Answered.ends-true first last .0 e) (windowHolds first last) refl
       ends false e = faulty NoSuchDay (end-outside (ends-false first last .0 e) refl)
