@@ -1,5 +1,4 @@
 -- Laws of runs of days, of tests and of answers, and the proofs of the statements.
-pub mod Cases
 pub mod Runs
 pub mod Fits
 pub mod Answered
