@@ -9,7 +9,7 @@ use lib.Dec.{leb}
 use borrow.Author.Tests.{leb-true, leb-false, lt-leb}
 use Rattle.rule.specs.declared.Reason.{Reason}
 use Rattle.rule.specs.declared.Reason.the-variants.{NoSuchDay, BadWindow, FieldOutOfRange}
-use Rattle.rule.specs.Reasons.{Answer, is, refused, refused-with, within, reasonNumber}
+use Rattle.rule.specs.Reasons.{Answer, is, refused, refused-with, reasonNumber}
 use Rattle.rule.proofs.Answers.{both-true, within-true}
 use Rattle.reading.specs.declared.Field.{Field}
 use Rattle.reading.specs.declared.Field.the-variants.{Known, Unread}
@@ -64,19 +64,12 @@ field-range (Known k) most = (
 field-range Unread most = (λ e j g. absurd (let o : _≡_ {A = ℕ} 0 1 = cc in omega arith), λ h. refl)
 
 field-beyond : (f : Field) (most : ℕ) → (fieldInRange f most ≡ false) ↔ FieldOutside f most
-field-beyond (Known k) most = (λ e. (k, refl, test .0 e), λ h. test .1 (⊎-elim (λ (l : h .0 < 1). inl (less h l)) (λ (l : most < h .0). inr (more h l)) (h .2)))
+field-beyond (Known k) most =
+    Iff·trans (one-false (leb 1 k) (leb k most) (beyond 1 k) (beyond k most))
+    (λ s. (k, refl, s), λ h. subst (λ (j : ℕ). (j < 1) ⊎ (most < j)) (sym (same (h .0) (h .1))) (h .2))
   where
-    test : (within 1 most k ≡ false) ↔ ((k < 1) ⊎ (most < k))
-    test = one-false (leb 1 k) (leb k most) (beyond 1 k) (beyond k most)
-
-    same : (h : FieldOutside (Known k) most) → k ≡ h .0
-    same h = let e : Known k ≡ Known (h .0) = h .1 in cc
-
-    less : (h : FieldOutside (Known k) most) → h .0 < 1 → k < 1
-    less h l = omega (arith, same h)
-
-    more : (h : FieldOutside (Known k) most) → most < h .0 → most < k
-    more h l = omega (arith, same h)
+    same : (j : ℕ) → Known k ≡ Known j → k ≡ j
+    same j e = cc
 field-beyond Unread most = (
   λ e. absurd (let o : _≡_ {A = ℕ} 0 1 = cc in omega arith),
   λ h. absurd (let e : Unread ≡ Known (h .0) = h .1 in let o : _≡_ {A = ℕ} 0 1 = cc in omega arith),
