@@ -39,7 +39,7 @@ use Rattle.planets.proofs.Paper as Planets
 use Rattle.reading.specs.declared.Reading.{Reading}
 use Rattle.reading.specs.Readings.{inRanges, windowDays, windowHolds, fitting}
 use Rattle.reading.specs.Search.{total, searchAt}
-use Rattle.reading.proofs.Paper as Searches
+use Rattle.reading.proofs.Rows as Searches
 use Rattle.fields.specs.Fields.{word, decimal, followed, lined, each}
 use Rattle.lines.specs.Lines.{fieldsOfYear}
 use Rattle.told.specs.Answers.{
@@ -175,7 +175,7 @@ pub search-lines-literally : Paper.Search-lines-literally
 unfolding searchText foundLine total followed
 search-lines-literally r first last h i w f =
     ap (told (λ n. foundLine n ++ each dayLine (fitting r first (windowDays first last))))
-    (Searches.reasons-of-a-search r first last places .given .1 ((h, i), (w, (f, searched-few r first last w))))
+    (Searches.gives r first last places (record { ends = (h, i); window = w; fields = f }) (searched-few r first last w))
 
 -- a `DAY` line starts with `D`
 day-first : (d : ℕ) (r : Date) → getD (dayLineOf d r) 0 0 ≡ 68
