@@ -9,12 +9,12 @@ use Rattle.planets.specs.Planets.{
   conjunctionOf,
   conjunctionAt,
   nextCount,
-  countedOf,
+  nextOf,
   nextAt,
   pairAt,
 }
 use Rattle.planets.specs.Table.{cases, Table-of-planets}
 
 pub table-of-planets : Table-of-planets
-unfolding cases monthStart numbersOf conjunctionDay conjunctionParts phase conjunctionOf conjunctionAt nextCount countedOf nextAt pairAt
+unfolding cases monthStart numbersOf conjunctionDay conjunctionParts phase conjunctionOf conjunctionAt nextCount nextOf nextAt pairAt
 table-of-planets = refl

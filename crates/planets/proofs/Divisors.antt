@@ -1,5 +1,6 @@
--- Laws of the common divisor. Assumes nothing.
-use Prim.Native.Nat.{ℕ, _+_, _*_, _%_, _∣_}
+-- Laws of the common divisor, and of taking remainders. Assumes nothing.
+use Prim.Native.Nat.{ℕ, zero, suc, _+_, _*_, _%_, _<_, _∣_}
+use native.Mathlib.Omega.{arith}
 use native.Mathlib.Nat.{
   dvd-refl,
   dvd-zero,
@@ -8,9 +9,11 @@ use native.Mathlib.Nat.{
   dvd-mul-left,
   dvd-mul-left-of-dvd,
   dvd-add-iff-right,
+  mod-lt,
 }
-use mathlib.Core.Path.{_≡_, refl, sym, subst}
-use Rattle.planets.specs.Divisors.{CommonDivisor}
+use mathlib.Core.Path.{_≡_, subst}
+use mathlib.Core.Logic.{_↔_}
+use Rattle.planets.specs.Divisors.{CommonDivisor, Remainders, none-left, again}
 
 -- of a number and none: the number itself
 pub with-none : (a : ℕ) → CommonDivisor a 0 a
@@ -27,6 +30,28 @@ of-remainder a b d h =
 
 pub one-divisor : (a b c d : ℕ) → CommonDivisor a b c → CommonDivisor a b d → c ≡ d
 one-divisor a b c d p q = dvd-antisymm (q .every c (p .first) (p .second)) (p .every d (q .first) (q .second))
+
+-- the second number falls, so that none is left at last
+once-more : (n : ℕ) → ((a b : ℕ) → b < n → (d : ℕ) × Remainders a b d) → (a b : ℕ) → b < suc n → (d : ℕ) × Remainders a b d
+once-more n less a zero h = (a, none-left a)
+once-more n less a (suc b) h =
+    let l : a % suc b < suc b = mod-lt a (omega arith) in
+    let r = less (suc b) (a % suc b) (omega (arith, h, l)) in
+    (r .0, again a (suc b) (r .0) (omega arith) (r .1))
+
+ends : (n a b : ℕ) → b < n → (d : ℕ) × Remainders a b d
+ends zero a b h = absurd (omega (arith, h))
+ends (suc n) a b h = once-more n (ends n) a b h
+
+common-at-end : {a b d : ℕ} → Remainders a b d → CommonDivisor a b d
+common-at-end (none-left a) = with-none a
+common-at-end (again a b d h r) = of-remainder a b d (common-at-end r)
+
+pub taking-remainders : (a b d : ℕ) → Remainders a b d ↔ CommonDivisor a b d
+taking-remainders a b d = (
+  common-at-end,
+  λ h. let r = ends (suc b) a b (omega arith) in subst (Remainders a b) (one-divisor a b (r .0) d (common-at-end (r .1)) h) (r .1),
+)
 
 -- so many times d, and so many times d, where d is a difference of their multiples
 pub by-difference : (x y d u v : ℕ) → u * (x * d) ≡ v * (y * d) + d → CommonDivisor (x * d) (y * d) d

@@ -2,8 +2,8 @@
 use Prim.Native.Nat.{ℕ, zero, suc, _<_}
 use native.Mathlib.Omega.{arith}
 use mathlib.Core.Path.{_≡_, refl}
-use Rattle.planets.specs.Planets.{numbersOf, figuresOf, figures, longCircle, divisor, conjunctionDay, conjunctionParts}
-use Rattle.planets.specs.Paper.{Planet, Good, Good-planets, Figures-are-first}
+use Rattle.planets.specs.Planets.{Planet, numbersOf, figuresOf, figures, longCircle, divisor, conjunctionDay, conjunctionParts}
+use Rattle.planets.specs.Paper.{Good, Good-planets}
 
 -- what holds of 1, 2, 3, 4 and 5 holds of every planet
 pub each-planet : (P : ℕ → Type 0) → P 1 → P 2 → P 3 → P 4 → P 5 → (p : ℕ) → Planet p → P p
@@ -29,7 +29,7 @@ good-planets =
     (record { some = omega arith; apart = omega arith })
     (record { some = omega arith; apart = omega arith })
 
-pub figures-are-first : Figures-are-first
+pub figures-are-first : (p : ℕ) → Planet p → figuresOf p ≡ figures (conjunctionDay (numbersOf p) 1) (conjunctionParts (numbersOf p) 1) (divisor (numbersOf p))
 unfolding numbersOf figuresOf conjunctionDay conjunctionParts
 figures-are-first =
     each-planet

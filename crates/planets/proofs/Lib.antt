@@ -3,6 +3,7 @@ pub mod Cases
 pub mod Moments
 pub mod Divisors
 pub mod Five
+pub mod Literal
 pub mod Refusing
 pub mod Reducing
 pub mod Made

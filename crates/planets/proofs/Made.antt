@@ -1,5 +1,5 @@
 -- What the calls make of the definitions: products that fit, and each answer where its tests lead. Assumes nothing.
-use Prim.Native.Nat.{ℕ, _-_, _*_, _≤_, _<_, _^_}
+use Prim.Native.Nat.{ℕ, _*_, _≤_, _<_, _^_}
 use native.Mathlib.Omega.{arith}
 use native.Mathlib.Nat.{mul-le-mul}
 use mathlib.Core.Path.{_≡_, ap, sym, _∙_}
@@ -10,17 +10,15 @@ use Rattle.rule.specs.Reasons.{is, refused, within}
 use Rattle.rule.proofs.Answers.{within-true, stops, passes, at-most, fails}
 use Rattle.planets.specs.declared.Numbers.{Numbers}
 use Rattle.planets.specs.declared.Conjunction.{Conjunction}
-use Rattle.planets.specs.declared.Counted.{Counted}
+use Rattle.planets.specs.declared.Next.{Next}
 use Rattle.planets.specs.Planets.{
   numbersOf,
   conjunctionDay,
   conjunctionOf,
   conjunctionAt,
   nextCount,
-  countedOf,
+  nextOf,
   nextAt,
-  pairOf,
-  pairAt,
 }
 use Rattle.planets.specs.Paper.{Good}
 use Rattle.planets.proofs.Moments.{count-first}
@@ -41,11 +39,11 @@ pub some-years : (n : Numbers) → Good n → 0 < n .years
 some-years n g = omega (arith, g .some, g .apart)
 
 -- a conjunction and its count, as an answer holds them
-abbrev pub counted : ℕ → Conjunction → Counted
+abbrev pub counted : ℕ → Conjunction → Next
 counted k x = record { k = k; conjunction = x }
 
-pub made : {m n : Numbers} {k j : ℕ} → m ≡ n → k ≡ j → counted k (conjunctionOf m k) ≡ countedOf n j
-unfolding countedOf
+pub made : {m n : Numbers} {k j : ℕ} → m ≡ n → k ≡ j → counted k (conjunctionOf m k) ≡ nextOf n j
+unfolding nextOf
 made {m} {n} {k} {j} e f = ap (λ (x : Numbers). counted k (conjunctionOf x k)) e ∙ ap (λ (i : ℕ). counted i (conjunctionOf n i)) f
 
 module _ (p : ℕ) where
@@ -80,17 +78,9 @@ module _ (p : ℕ) where
       (passes (within 1 5 p) 19 _ e ∙ passes (leb d 14989859) 6 _ (le-leb d 14989859 i)
       ∙ stops (leb (conjunctionDay (numbersOf p) (nextCount (numbersOf p) d)) 14989859) 20 _ (beyond (conjunctionDay (numbersOf p) (nextCount (numbersOf p) d)) 14989859 h))
 
-  pub next-one : (d : ℕ) → within 1 5 p ≡ true → d ≤ 14989859 → conjunctionDay (numbersOf p) (nextCount (numbersOf p) d) ≤ 14989859 → is (countedOf (numbersOf p) (nextCount (numbersOf p) d)) ≡ nextAt p d
+  pub next-one : (d : ℕ) → within 1 5 p ≡ true → d ≤ 14989859 → conjunctionDay (numbersOf p) (nextCount (numbersOf p) d) ≤ 14989859 → is (nextOf (numbersOf p) (nextCount (numbersOf p) d)) ≡ nextAt p d
   unfolding nextAt
   next-one d e i h =
       sym
       (passes (within 1 5 p) 19 _ e ∙ passes (leb d 14989859) 6 _ (le-leb d 14989859 i)
       ∙ passes (leb (conjunctionDay (numbersOf p) (nextCount (numbersOf p) d)) 14989859) 20 _ (le-leb (conjunctionDay (numbersOf p) (nextCount (numbersOf p) d)) 14989859 h))
-
-  pub pair-no-planet : within 1 5 p ≡ false → refused 19 ≡ pairAt p
-  unfolding pairAt
-  pair-no-planet e = sym (stops (within 1 5 p) 19 _ e)
-
-  pub pair-one : within 1 5 p ≡ true → is (pairOf (numbersOf p)) ≡ pairAt p
-  unfolding pairAt
-  pair-one e = sym (passes (within 1 5 p) 19 _ e)

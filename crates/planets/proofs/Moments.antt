@@ -32,11 +32,11 @@ use Rattle.planets.specs.Planets.{divisor, step, conjunctionDay, conjunc
 use Rattle.planets.specs.Paper.{Good, Moment, ComesRound, LeastFrom}
 
 -- k times the years, times 1,461: k steps
-pub in-steps : (n : Numbers) (k : ℕ) → k * n .years * 1461 ≡ k * step n
+in-steps : (n : Numbers) (k : ℕ) → k * n .years * 1461 ≡ k * step n
 in-steps n k = mul-assoc k (n .years) 1461 ∙ ap (λ (s : ℕ). k * s) (mul-comm (n .years) 1461)
 
 -- the least k that a value f rises to d at is one
-pub one-least : (f : ℕ → ℕ) (d k j : ℕ) → (d ≤ f k) × ((i : ℕ) → i < k → f i < d) → (d ≤ f j) × ((i : ℕ) → i < j → f i < d) → k ≡ j
+one-least : (f : ℕ → ℕ) (d k j : ℕ) → (d ≤ f k) × ((i : ℕ) → i < k → f i < d) → (d ≤ f j) × ((i : ℕ) → i < j → f i < d) → k ≡ j
 one-least f d k j a b = go (ltb k j) (ltb j k) refl refl
   where
     go : (p q : Bool) → ltb k j ≡ p → ltb j k ≡ q → k ≡ j
@@ -45,24 +45,24 @@ one-least f d k j a b = go (ltb k j) (ltb j k) refl refl
     go false false e g = omega (arith, ltb-false k j e, ltb-false j k g)
 
 -- x by s, rounded up: the least k whose k times s is not below x
-pub up-high : (x s : ℕ) → 0 < s → x ≤ (x + (s - 1)) / s * s
+up-high : (x s : ℕ) → 0 < s → x ≤ (x + (s - 1)) / s * s
 up-high x s h = omega (arith, lt-div-mul-add {a = x + (s - 1)} h)
 
-pub up-low : (x s j : ℕ) → 0 < s → j < (x + (s - 1)) / s → j * s < x
+up-low : (x s j : ℕ) → 0 < s → j < (x + (s - 1)) / s → j * s < x
 up-low x s j h l = omega (arith, div-mul-le-self (x + (s - 1)) s, suc-mul j s, mul-le-mul-right s l)
 
 -- a whole part and a rest
-pub whole-part : (d r s : ℕ) → r < s → (d * s + r) / s ≡ d
+whole-part : (d r s : ℕ) → r < s → (d * s + r) / s ≡ d
 whole-part d r s h = mul-add-div-right (omega (arith, h)) d r ∙ ap (λ (q : ℕ). d + q) (div-eq-of-lt h) ∙ omega arith
 
-pub rest-part : (d r s : ℕ) → r < s → (d * s + r) % s ≡ r
+rest-part : (d r s : ℕ) → r < s → (d * s + r) % s ≡ r
 rest-part d r s h = mul-add-mod-self-right d s r ∙ mod-eq-of-lt h
 
 module _ (n : Numbers) (g : Good n) where
-  pub some-parts : 0 < divisor n
+  some-parts : 0 < divisor n
   some-parts = omega (arith, g .some)
 
-  pub some-step : 0 < step n
+  some-step : 0 < step n
   some-step = omega (arith, g .apart, some-parts)
 
   day-as : (k : ℕ) → conjunctionDay n k ≡ k * step n / divisor n
@@ -78,10 +78,10 @@ module _ (n : Numbers) (g : Good n) where
   next-as d = refl
 
   -- a day is not after the k-th conjunction exactly where its parts are not after it
-  pub not-before : (d k : ℕ) → (d ≤ conjunctionDay n k) ↔ (d * divisor n ≤ k * step n)
+  not-before : (d k : ℕ) → (d ≤ conjunctionDay n k) ↔ (d * divisor n ≤ k * step n)
   not-before d k = rw (day-as k) (le-div-iff-mul-le some-parts)
 
-  pub before : (d k : ℕ) → (conjunctionDay n k < d) ↔ (k * step n < d * divisor n)
+  before : (d k : ℕ) → (conjunctionDay n k < d) ↔ (k * step n < d * divisor n)
   before d k = rw (day-as k) (div-lt-iff-lt-mul some-parts)
 
   -- a conjunction's day is never before its count: they are a day or more apart
@@ -109,14 +109,16 @@ module _ (n : Numbers) (g : Good n) where
       go true e = absurd (omega (arith, count-first d, next-least d .1 d (ltb-true d (nextCount n d) e)))
       go false e = ltb-false d (nextCount n d) e
 
-  pub moment : (k : ℕ) → Moment n k
+  defined : (k : ℕ) → Moment n k (conjunctionDay n k) (conjunctionParts n k)
   unfolding conjunctionDay conjunctionParts
-  moment k =
-      record {
-        moment = div-add-mod' (k * n .years * 1461) (divisor n);
-        rest = mod-lt (k * n .years * 1461) some-parts;
-        only = λ d r h e. (sym (whole-part d r (divisor n) h) ∙ ap (λ (a : ℕ). a / divisor n) e, sym (rest-part d r (divisor n) h) ∙ ap (λ (a : ℕ). a % divisor n) e);
-      }
+  defined k = record { moment = div-add-mod' (k * n .years * 1461) (divisor n); rest = mod-lt (k * n .years * 1461) some-parts }
+
+  pub moment : (k d r : ℕ) → Moment n k d r ↔ ((d ≡ conjunctionDay n k) × (r ≡ conjunctionParts n k))
+  unfolding conjunctionDay conjunctionParts
+  moment k d r = (
+    λ m. (sym (whole-part d r (divisor n) (m .rest)) ∙ ap (λ (a : ℕ). a / divisor n) (m .moment), sym (rest-part d r (divisor n) (m .rest)) ∙ ap (λ (a : ℕ). a % divisor n) (m .moment)),
+    λ q. subst (λ (x : ℕ). Moment n k x r) (sym (q .0)) (subst (Moment n k (conjunctionDay n k)) (sym (q .1)) (defined k)),
+  )
 
   pub comes-round : (k : ℕ) → ComesRound n k
   comes-round k =

@@ -1,43 +1,50 @@
 -- What request W11 says of the five planets, proved, each statement under its name in small letters. Assumes nothing.
-use Prim.Native.Nat.{ℕ, zero, suc, _+_, _*_, _%_, _≤_}
+use Prim.Native.Nat.{ℕ, zero, suc, _+_, _*_, _≤_}
 use native.Mathlib.Omega.{arith}
+use native.Mathlib.Nat.{eq-one-of-dvd-one, mod-eq-zero-of-dvd, dvd-of-mod-eq-zero}
 use mathlib.Core.Path.{_≡_, refl, ap, sym, subst, _∙_}
-use mathlib.Core.Logic.{_↔_, _⊎_, inl, inr, ⊎-elim, Iff·trans}
-use mathlib.Core.Bool.{Bool, true, false, cond}
-use lib.Dec.{eqb, leb, ltb}
+use mathlib.Core.Logic.{_↔_, _⊎_, inl, inr, Iff·trans}
+use mathlib.Core.Bool.{Bool, true, false}
+use lib.Dec.{leb, ltb}
 use borrow.Author.Tests.{ltb-true, ltb-false}
 use Rattle.rule.specs.Counts.{DayInRange}
-use Rattle.rule.specs.Reasons.{Answer, is, refused, within, guard, reasonOf}
-use Rattle.rule.proofs.Answers.{reason-back, within-true, at-most, holds-all, passes, fails, test-iff, one-given, one-refused, read-back, once, given-not}
+use Rattle.rule.specs.Reasons.{Answer, is, refused, within, guard, reasonNumber, reasonOf}
+use Rattle.rule.proofs.Answers.{reason-back, within-true, at-most, holds-all, fails, test-iff, one-refused, read-back, once, given-not}
 use Rattle.planets.specs.declared.Phase.{Phase}
-use Rattle.planets.specs.declared.Phase.the-variants.{Morning, Evening, Neither}
 use Rattle.planets.specs.declared.ConjunctionTold.{ConjunctionTold}
 use Rattle.planets.specs.declared.ConjunctionTold.the-variants as Conjunction'
 use Rattle.planets.specs.declared.NextTold.{NextTold}
 use Rattle.planets.specs.declared.NextTold.the-variants as Next'
 use Rattle.planets.specs.declared.PairTold.{PairTold}
 use Rattle.planets.specs.declared.PairTold.the-variants as Pair'
-use Rattle.planets.specs.declared.Counted.{Counted}
+use Rattle.planets.specs.declared.Conjunction.{Conjunction}
+use Rattle.planets.specs.declared.Next.{Next}
+use Rattle.planets.specs.declared.Pair.{Pair}
 use Rattle.planets.specs.Planets.{
+  Planet,
   numbersOf,
   conjunctionDay,
   phase,
   conjunctionOf,
   conjunctionAt,
   nextCount,
-  countedOf,
+  nextOf,
   nextAt,
+  figures,
+  figuresOf,
   pairOf,
   pairAt,
 }
 use Rattle.planets.specs.Promises.{saidConjunction, saidNext, saidPair}
 use Rattle.planets.specs.Paper as Paper
-use Rattle.planets.specs.Paper.{Planet, LeastFrom, NoneLeft, NextReasons, morning, mornings}
+use Rattle.planets.specs.Paper.{NoneLeft, IsNext, ConjunctionReasons, NextReasons, morning, mornings}
 use Rattle.planets.proofs.Moments
 use Rattle.planets.proofs.Divisors
 use Rattle.planets.proofs.Five
+use Rattle.planets.proofs.Literal
 use Rattle.planets.proofs.Refusing
 use Rattle.planets.proofs.Reducing
+use Rattle.planets.proofs.Made.{counted, made}
 
 pub good-planets : Paper.Good-planets
 good-planets = Five.good-planets
@@ -51,25 +58,12 @@ conjunctions-per-years = Moments.comes-round
 pub first-on-or-after : Paper.First-on-or-after
 first-on-or-after = Moments.next-only
 
--- of numbers whose conjunctions are evening and morning ones by turns
-turn : (r k : ℕ) → k % 2 ≡ r → _≡_ {A = Phase} (cond (eqb (k % 2) 1) Morning Evening) (cond (eqb r 1) Morning Evening)
-turn r k e = ap (λ (m : ℕ). cond (eqb m 1) Morning Evening) e
-
-pub morning-and-evening : Paper.Morning-and-evening
-unfolding numbersOf phase
-morning-and-evening =
-    record {
-      odd = λ p k. ⊎-elim (λ e. rw (e) (turn 1 (2 * k + 1) (omega arith))) (λ e. rw (e) (turn 1 (2 * k + 1) (omega arith)));
-      even = λ p k. ⊎-elim (λ e. rw (e) (turn 0 (2 * k) (omega arith))) (λ e. rw (e) (turn 0 (2 * k) (omega arith)));
-      neither = λ p k a b. Five.each-planet (λ q. q ≤ 3 → phase (numbersOf q) k ≡ Neither) (λ h. refl) (λ h. refl) (λ h. refl) (λ h. absurd (omega (arith, h))) (λ h. absurd (omega (arith, h))) p (a, omega (arith, b)) b;
-    }
-
 -- two more conjunctions: one more morning
 two-more : (p m : ℕ) → (p ≡ 4) ⊎ (p ≡ 5) → mornings (numbersOf p) (suc (suc (2 * m))) ≡ mornings (numbersOf p) (2 * m) + 1
 unfolding mornings
 two-more p m h =
-    ap (λ (a : Phase). mornings (numbersOf p) (2 * m) + morning a + morning (phase (numbersOf p) (suc (2 * m)))) (morning-and-evening .even p m h)
-    ∙ ap (λ (a : Phase). mornings (numbersOf p) (2 * m) + 0 + morning a) (ap (phase (numbersOf p)) (let o : suc (2 * m) ≡ 2 * m + 1 = omega arith in o) ∙ morning-and-evening .odd p m h)
+    ap (λ (a : Phase). mornings (numbersOf p) (2 * m) + morning a + morning (phase (numbersOf p) (suc (2 * m)))) (Literal.of-count p (2 * m) (Literal.venus-or-mercury p h) .even h (omega arith))
+    ∙ ap (λ (a : Phase). mornings (numbersOf p) (2 * m) + 0 + morning a) (Literal.of-count p (suc (2 * m)) (Literal.venus-or-mercury p h) .odd h (omega arith))
     ∙ omega arith
 
 half-mornings : (p m : ℕ) → (p ≡ 4) ⊎ (p ≡ 5) → mornings (numbersOf p) (2 * m) ≡ m
@@ -85,8 +79,8 @@ half-are-mornings = record { half = half-mornings; venus = half-mornings 4 2915 
 pub one-common-divisor : Paper.One-common-divisor
 one-common-divisor = Divisors.one-divisor
 
-pub figures-are-first : Paper.Figures-are-first
-figures-are-first = Five.figures-are-first
+pub taking-remainders : Paper.Taking-remainders
+taking-remainders = Divisors.taking-remainders
 
 pub common-divisor-of-004 : Paper.Common-divisor-of-004
 common-divisor-of-004 = Reducing.common-divisor-of-004
@@ -109,61 +103,67 @@ none-left p d h = (
   λ none. none (nextCount (numbersOf p) d) (Moments.next-least (numbersOf p) (Five.good-planets p h) d .0),
 )
 
-count-of : (p j k : ℕ) → _≡_ {A = Answer Counted} (is (countedOf (numbersOf p) j)) (is (countedOf (numbersOf p) k)) → j ≡ k
-unfolding countedOf
-count-of p j k e = let f : countedOf (numbersOf p) j ≡ countedOf (numbersOf p) k = cc in ap (λ (c : Counted). c .k) f
-
 -- the answer behind the first two guards, and the one behind the first
-abbrev left : ℕ → ℕ → Answer Counted
-left p d = guard (leb (conjunctionDay (numbersOf p) (nextCount (numbersOf p) d)) 14989859) 20 (is (countedOf (numbersOf p) (nextCount (numbersOf p) d)))
+abbrev left : ℕ → ℕ → Answer Next
+left p d = guard (leb (conjunctionDay (numbersOf p) (nextCount (numbersOf p) d)) 14989859) 20 (is (nextOf (numbersOf p) (nextCount (numbersOf p) d)))
 
-abbrev asked : ℕ → ℕ → Answer Counted
+abbrev asked : ℕ → ℕ → Answer Next
 asked p d = guard (leb d 14989859) 6 (left p d)
 
-left-given : (p d k : ℕ) → Planet p → (left p d ≡ is (countedOf (numbersOf p) k)) ↔ (LeastFrom (numbersOf p) d k × DayInRange (conjunctionDay (numbersOf p) k))
-left-given p d k h = (there, back)
+left-given : (p d : ℕ) (n : Next) → Planet p → (left p d ≡ is n) ↔ IsNext p d n
+unfolding nextOf conjunctionOf
+left-given p d n h = (there, back)
   where
-    there : left p d ≡ is (countedOf (numbersOf p) k) → LeastFrom (numbersOf p) d k × DayInRange (conjunctionDay (numbersOf p) k)
-    there e =
-        let f = holds-all (leb (conjunctionDay (numbersOf p) (nextCount (numbersOf p) d)) 14989859) 20 (is (countedOf (numbersOf p) (nextCount (numbersOf p) d))) (countedOf (numbersOf p) k) .0 e in
-        let same = count-of p (nextCount (numbersOf p) d) k (f .1) in (
-          Moments.next-only (numbersOf p) (Five.good-planets p h) d k .0 (sym same),
-          subst (λ (j : ℕ). DayInRange (conjunctionDay (numbersOf p) j)) same (at-most (conjunctionDay (numbersOf p) (nextCount (numbersOf p) d)) 14989859 .0 (f .0)),
-        )
+    first : Next
+    first = nextOf (numbersOf p) (nextCount (numbersOf p) d)
 
-    back : LeastFrom (numbersOf p) d k × DayInRange (conjunctionDay (numbersOf p) k) → left p d ≡ is (countedOf (numbersOf p) k)
+    all : (left p d ≡ is n) ↔ (DayInRange (first .conjunction .day) × (_≡_ {A = Answer Next} (is first) (is n)))
+    all = test-iff (holds-all (leb (first .conjunction .day) 14989859) 20 (is first) n) (at-most (first .conjunction .day) 14989859)
+
+    there : left p d ≡ is n → IsNext p d n
+    there e =
+        let q = all .0 e in
+        subst (IsNext p d) (Refusing.same first n .0 (q .1))
+        (record {
+          least = Moments.next-least (numbersOf p) (Five.good-planets p h) d;
+          conjunction = Literal.conjunction-is p (first .k) (first .conjunction) h .1 refl;
+          in-range = q .0;
+        })
+
+    back : IsNext p d n → left p d ≡ is n
     back q =
-        let same = Moments.next-only (numbersOf p) (Five.good-planets p h) d k .1 (q .0) in
-        holds-all (leb (conjunctionDay (numbersOf p) (nextCount (numbersOf p) d)) 14989859) 20 (is (countedOf (numbersOf p) (nextCount (numbersOf p) d))) (countedOf (numbersOf p) k) .1 (
-          at-most (conjunctionDay (numbersOf p) (nextCount (numbersOf p) d)) 14989859 .1 (subst (λ (j : ℕ). DayInRange (conjunctionDay (numbersOf p) j)) same (q .1)),
-          ap (λ (j : ℕ). is (countedOf (numbersOf p) j)) (sym same),
-        )
+        let k = Moments.next-only (numbersOf p) (Five.good-planets p h) d (n .k) .1 (q .least) in
+        let e : n ≡ first = ap (counted (n .k)) (Literal.conjunction-is p (n .k) (n .conjunction) h .0 (q .conjunction)) ∙ made refl k in
+        all .1 (subst (λ (x : Next). DayInRange (x .conjunction .day)) e (q .in-range), ap is (sym e))
 
 -- under a fact that the first test states
 under : {A B C P : Type 0} → (A ↔ (P × B)) → (P → B ↔ C) → A ↔ (P × C)
 under e f = (λ a. (e .0 a .0, f (e .0 a .0) .0 (e .0 a .1)), λ q. e .1 (q .0, f (q .0) .1 (q .1)))
 
--- three facts, and four, side by side
+-- an equation turned round
+turned : {A : Type 0} {x y : A} {P : Type 0} → ((x ≡ y) ↔ P) → (y ≡ x) ↔ P
+turned e = (λ q. e .0 (sym q), λ h. sym (e .1 h))
+
+-- three facts side by side
 three : {A P Q R : Type 0} → (A ↔ (P × (Q × R))) → A ↔ (P × Q × R)
 three e = (λ a. let h = e .0 a in (h .0, h .1 .0, h .1 .1), λ q. e .1 (q .0, (q .1, q .2)))
-
-four : {A P Q R S : Type 0} → (A ↔ (P × (Q × (R × S)))) → A ↔ (P × Q × R × S)
-four e = (λ a. let h = e .0 a in (h .0, h .1 .0, h .1 .1 .0, h .1 .1 .1), λ q. e .1 (q .0, (q .1, (q .2, q .3))))
 
 nexts : (p d : ℕ) → NextReasons p d
 unfolding nextAt
 nexts p d =
     record {
-      given = λ k.
-          four
-          (under (test-iff (holds-all (within 1 5 p) 19 (asked p d) (countedOf (numbersOf p) k)) planet)
-          (λ h. under (test-iff (holds-all (leb d 14989859) 6 (left p d) (countedOf (numbersOf p) k)) day) (λ i. left-given p d k h)));
-      nineteen = Iff·trans (Refusing.here (within 1 5 p) 19 (asked p d) no-nineteen) (fails (within 1 5 p) planet);
-      six = under (test-iff (Refusing.further (within 1 5 p) 19 6 (asked p d) (λ e. omega (arith, e))) planet) (λ h. Iff·trans (Refusing.here (leb d 14989859) 6 (left p d) no-six) (fails (leb d 14989859) day));
+      given = λ n.
+          turned
+          (three
+          (under (test-iff (holds-all (within 1 5 p) 19 (asked p d) n) planet)
+          (λ h. under (test-iff (holds-all (leb d 14989859) 6 (left p d) n) day) (λ i. left-given p d n h))));
+      nineteen = turned (Iff·trans (Refusing.here (within 1 5 p) 19 (asked p d) no-nineteen) (fails (within 1 5 p) planet));
+      six = turned (under (test-iff (Refusing.further (within 1 5 p) 19 6 (asked p d) (λ e. omega (arith, e))) planet) (λ h. Iff·trans (Refusing.here (leb d 14989859) 6 (left p d) no-six) (fails (leb d 14989859) day)));
       twenty =
-          three
+          turned
+          (three
           (under (test-iff (Refusing.further (within 1 5 p) 19 20 (asked p d) (λ e. omega (arith, e))) planet)
-          (λ h. under (test-iff (Refusing.further (leb d 14989859) 6 20 (left p d) (λ e. omega (arith, e))) day) (λ i. Iff·trans (one-refused in-range 20 (countedOf (numbersOf p) (nextCount (numbersOf p) d)) (at-most first 14989859)) (none-left p d h))));
+          (λ h. under (test-iff (Refusing.further (leb d 14989859) 6 20 (left p d) (λ e. omega (arith, e))) day) (λ i. Iff·trans (one-refused in-range 20 (nextOf (numbersOf p) (nextCount (numbersOf p) d)) (at-most first 14989859)) (none-left p d h)))));
     }
   where
     first : ℕ
@@ -179,38 +179,60 @@ nexts p d =
     day = at-most d 14989859
 
     no-six : left p d ≡ refused 6 → ⊥
-    no-six e = Refusing.is-none (countedOf (numbersOf p) (nextCount (numbersOf p) d)) 6 (Refusing.further in-range 20 6 (is (countedOf (numbersOf p) (nextCount (numbersOf p) d))) (λ q. omega (arith, q)) .0 e .1)
+    no-six e = Refusing.is-none (nextOf (numbersOf p) (nextCount (numbersOf p) d)) 6 (Refusing.further in-range 20 6 (is (nextOf (numbersOf p) (nextCount (numbersOf p) d))) (λ q. omega (arith, q)) .0 e .1)
 
     no-nineteen : asked p d ≡ refused 19 → ⊥
-    no-nineteen e = Refusing.is-none (countedOf (numbersOf p) (nextCount (numbersOf p) d)) 19 (Refusing.further in-range 20 19 (is (countedOf (numbersOf p) (nextCount (numbersOf p) d))) (λ q. omega (arith, q)) .0 (Refusing.further (leb d 14989859) 6 19 (left p d) (λ q. omega (arith, q)) .0 e .1) .1)
+    no-nineteen e = Refusing.is-none (nextOf (numbersOf p) (nextCount (numbersOf p) d)) 19 (Refusing.further in-range 20 19 (is (nextOf (numbersOf p) (nextCount (numbersOf p) d))) (λ q. omega (arith, q)) .0 (Refusing.further (leb d 14989859) 6 19 (left p d) (λ q. omega (arith, q)) .0 e .1) .1)
+
+conjunctions : (p k : ℕ) → ConjunctionReasons p k
+unfolding conjunctionAt conjunctionOf
+conjunctions p k =
+    record {
+      given = λ c. (
+        λ e. let q = Refusing.given planet in-range 19 6 other it first second c .0 (sym e) in
+            (q .0, subst (λ (x : Conjunction). DayInRange (x .day)) (q .1 .1) (q .1 .0), Literal.conjunction-is p k c (q .0) .1 (sym (q .1 .1))),
+        λ q. let e = Literal.conjunction-is p k c (q .0) .0 (q .2) in
+            sym (Refusing.given planet in-range 19 6 other it first second c .1 (q .0, (subst (λ (x : Conjunction). DayInRange (x .day)) e (q .1), sym e))),
+      );
+      nineteen = turned (Refusing.first planet in-range 19 6 other it first second);
+      six = turned (Refusing.second planet in-range 19 6 other it first second);
+    }
+  where
+    planet : Bool
+    planet = within 1 5 p
+
+    in-range : Bool
+    in-range = leb (conjunctionDay (numbersOf p) k) 14989859
+
+    it : Conjunction
+    it = conjunctionOf (numbersOf p) k
+
+    other : _≡_ {A = ℕ} 19 6 → ⊥
+    other e = omega (arith, e)
+
+    first : (planet ≡ true) ↔ Planet p
+    first = within-true 1 5 p
+
+    second : (in-range ≡ true) ↔ DayInRange (conjunctionDay (numbersOf p) k)
+    second = at-most (conjunctionDay (numbersOf p) k) 14989859
 
 pub next-is-a-conjunction : Paper.Next-is-a-conjunction
-unfolding nextAt conjunctionAt countedOf conjunctionOf
-next-is-a-conjunction p d c e =
-    let a = holds-all (within 1 5 p) 19 (asked p d) c .0 e in
-    let b = holds-all (leb d 14989859) 6 (left p d) c .0 (a .1) in
-    let f = holds-all (leb (conjunctionDay (numbersOf p) (nextCount (numbersOf p) d)) 14989859) 20 (is (countedOf (numbersOf p) (nextCount (numbersOf p) d))) c .0 (b .1) in
-    let g : countedOf (numbersOf p) (nextCount (numbersOf p) d) ≡ c = let h : _≡_ {A = Answer Counted} (is (countedOf (numbersOf p) (nextCount (numbersOf p) d))) (is c) = f .1 in cc in
-    subst (λ (x : Counted). (conjunctionAt p (x .k) ≡ is (x .conjunction)) × (d ≤ x .conjunction .day)) g (
-      passes (within 1 5 p) 19 _ (a .0) ∙ passes (leb (conjunctionDay (numbersOf p) (nextCount (numbersOf p) d)) 14989859) 6 _ (f .0),
-      Moments.next-least (numbersOf p) (Five.good-planets p (within-true 1 5 p .0 (a .0))) d .0,
+unfolding conjunctionOf
+next-is-a-conjunction p d n e =
+    let q = nexts p d .given n .0 e in
+    let i = q .2 .conjunction in (
+      conjunctions p (n .k) .given (n .conjunction) .1 (q .0, q .2 .in-range, i),
+      subst (λ (x : Conjunction). d ≤ x .day) (sym (Literal.conjunction-is p (n .k) (n .conjunction) (q .0) .0 i)) (q .2 .least .0),
     )
 
 pub reasons-of-planets : Paper.Reasons-of-planets
-unfolding conjunctionAt pairAt
-reasons-of-planets =
-    record {
-      conjunctions = λ p k.
-          let n = numbersOf p in
-          record {
-            given = Refusing.given (within 1 5 p) (leb (conjunctionDay n k) 14989859) 19 6 (λ e. omega (arith, e)) (conjunctionOf n k) (within-true 1 5 p) (at-most (conjunctionDay n k) 14989859);
-            nineteen = Refusing.first (within 1 5 p) (leb (conjunctionDay n k) 14989859) 19 6 (λ e. omega (arith, e)) (conjunctionOf n k) (within-true 1 5 p) (at-most (conjunctionDay n k) 14989859);
-            six = Refusing.second (within 1 5 p) (leb (conjunctionDay n k) 14989859) 19 6 (λ e. omega (arith, e)) (conjunctionOf n k) (within-true 1 5 p) (at-most (conjunctionDay n k) 14989859);
-          };
-      nexts = nexts;
-      pair-given = λ p. one-given (within 1 5 p) 19 (pairOf (numbersOf p)) (within-true 1 5 p);
-      pair-nineteen = λ p. one-refused (within 1 5 p) 19 (pairOf (numbersOf p)) (within-true 1 5 p);
-    }
+reasons-of-planets = record { conjunctions = conjunctions; nexts = nexts; pair-nineteen = λ p. (λ q. q .1, λ no. (refl, no)) }
+
+pub figures-are-first : Paper.Figures-are-first
+unfolding conjunctionOf
+figures-are-first p c e =
+    let q = conjunctions p 1 .given c .0 e in
+    subst (λ (x : Conjunction). figuresOf p ≡ figures (x .day) (x .parts) (x .divisor)) (sym (Literal.conjunction-is p 1 c (q .0) .0 (q .2))) (Five.figures-are-first p (q .0))
 
 pub unique-planets : Paper.Unique-planets
 unfolding read-back
@@ -218,7 +240,7 @@ unique-planets =
     record {
       conjunction = λ p k a b x y. once saidConjunction Conjunction'.Is (λ j. Conjunction'.Refused (reasonOf j)) conjunction a b (conjunctionAt p k) x y;
       next = λ p d a b x y. once saidNext Next'.Is (λ j. Next'.Refused (reasonOf j)) next a b (nextAt p d) x y;
-      pair = λ p a b x y. once saidPair Pair'.Is (λ j. Pair'.Refused (reasonOf j)) pair a b (pairAt p) x y;
+      pair = λ p a b x y. once saidPair Pair'.Is (λ j. Pair'.Refused (reasonOf j)) pair a b (pairAt p) (Reducing.as-printed p a .0 x) (Reducing.as-printed p b .0 y);
     }
   where
     conjunction : (e : ConjunctionTold) → read-back saidConjunction Conjunction'.Is (λ j. Conjunction'.Refused (reasonOf j)) (saidConjunction e) ≡ e
@@ -233,11 +255,16 @@ unique-planets =
     pair (Pair'.Is r) = refl
     pair (Pair'.Refused r) = ap Pair'.Refused (reason-back r)
 
-pub refusing-all : Paper.Refusing-all
-unfolding conjunctionAt nextAt pairAt numbersOf conjunctionDay nextCount
-refusing-all =
+pub wrong-planets : Paper.Wrong-planets
+unfolding conjunctionAt conjunctionOf nextAt nextOf pairAt numbersOf conjunctionDay nextCount
+wrong-planets =
     record {
-      conjunction = λ h. given-not (conjunctionAt 1 0) (conjunctionOf (numbersOf 1) 0) (h 1 0 .0) refl (h 1 0 .1);
-      next = λ h. given-not (nextAt 1 0) (countedOf (numbersOf 1) 0) (h 1 0 .0) refl (h 1 0 .1);
-      pair = λ h. given-not (pairAt 1) (pairOf (numbersOf 1)) (h 1 .0) refl (h 1 .1);
+      conjunction-refused = λ why e. given-not (conjunctionAt 1 0) (conjunctionOf (numbersOf 1) 0) (reasonNumber why) refl (sym e);
+      next-refused = λ why e. given-not (nextAt 1 0) (nextOf (numbersOf 1) 0) (reasonNumber why) refl (sym e);
+      pair-refused = λ why q. q .1 (omega arith, omega arith);
+      conjunction-fixed = λ c x y. let e : _≡_ {A = ℕ} 0 398 = ap (λ (c : Conjunction). c .day) (Refusing.same (conjunctionOf (numbersOf 1) 0) (conjunctionOf (numbersOf 1) 1) .0 (sym x ∙ y)) in omega arith;
+      next-fixed = λ n x y. let e : _≡_ {A = ℕ} 0 1 = ap (λ (n : Next). n .k) (Refusing.same (nextOf (numbersOf 1) 0) (nextOf (numbersOf 1) 1) .0 (sym x ∙ y)) in omega arith;
+      pair-fixed = λ r x y. let e : _≡_ {A = ℕ} 4725 1876 = ap (λ (r : Pair). r .years) (Refusing.same (pairOf (numbersOf 1)) (pairOf (numbersOf 2)) .0 (sym (Reducing.as-printed 1 r .0 x) ∙ Reducing.as-printed 2 r .0 y)) in omega arith;
+      divisor-one = λ h. let e : _≡_ {A = ℕ} 6 1 = eq-one-of-dvd-one (h .every 6 (dvd-of-mod-eq-zero 6 refl) (dvd-of-mod-eq-zero 6 refl)) in omega arith;
+      divisor-first = λ h. let e : _≡_ {A = ℕ} 6 0 = mod-eq-zero-of-dvd 12 (h .second) in omega arith;
     }

@@ -4,15 +4,21 @@ use native.Mathlib.Omega.{arith}
 use native.Mathlib.Nat.{eq-of-mul-eq-mul-right}
 use mathlib.Core.Path.{_≡_, refl, ap, sym, subst, _∙_}
 use mathlib.Core.Logic.{_↔_}
+use Rattle.rule.specs.Reasons.{is, refused, reasonNumber, within}
+use Rattle.rule.proofs.Answers.{within-true, holds-all, passes, one-refused}
 use Rattle.planets.specs.declared.Pair.{Pair}
-use Rattle.planets.specs.Planets.{numbersOf, figuresOf, longDays, longCircle}
+use Rattle.planets.specs.declared.PairTold.{PairTold}
+use Rattle.planets.specs.declared.PairTold.the-variants as Pair'
+use Rattle.planets.specs.Planets.{Planet, numbersOf, figuresOf, longDays, longCircle, pairOf, pairAt}
 use Rattle.planets.specs.Divisors.{CommonDivisor, Reduced}
-use Rattle.planets.specs.Paper.{Planet, Common-divisor-of-004, Reduction}
+use Rattle.planets.specs.Promises.{saidPair, ReducedPair}
+use Rattle.planets.specs.Paper.{Common-divisor-of-004, Reduction}
 use Rattle.planets.proofs.Divisors.{by-difference, one-divisor}
 use Rattle.planets.proofs.Five.{each-planet}
+use Rattle.planets.proofs.Refusing.{same, alone}
 
 -- so many times their common divisor, of two numbers, is one pair
-pub one-pair :
+one-pair :
     (a b x y d : ℕ) → 0 < d → a ≡ x * d → b ≡ y * d → CommonDivisor a b d → (r : Pair) →
     Reduced a b r ↔ (r ≡ record { years = x; conjunctions = y })
 one-pair a b x y d pos e f h r = (there, back)
@@ -44,7 +50,22 @@ pairs =
     each-planet (λ p. (longDays (figuresOf p) ≡ numbersOf p .years * 5844) × (longCircle (figuresOf p) ≡ numbersOf p .conjunctions * 5844))
     (refl, refl) (refl, refl) (refl, refl) (refl, refl) (refl, refl)
 
-pub reduction : Reduction
-reduction p h =
+reduced-to : (p : ℕ) → Planet p → (r : Pair) → Reduced (longDays (figuresOf p)) (longCircle (figuresOf p)) r ↔ (r ≡ pairOf (numbersOf p))
+reduced-to p h =
     one-pair (longDays (figuresOf p)) (longCircle (figuresOf p)) (numbersOf p .years) (numbersOf p .conjunctions) 5844 (omega arith)
     (pairs p h .0) (pairs p h .1) (common-divisor-of-004 p h)
+
+pub reduction : Reduction
+reduction p r = (λ q. (q .0, reduced-to p (q .0) r .0 (q .1)), λ q. (q .0, reduced-to p (q .0) r .1 (q .1)))
+
+-- so the promise is met by the printed pair, or by 19, and by nothing else
+pub as-printed : (p : ℕ) (a : PairTold) → ReducedPair p a ↔ (saidPair a ≡ pairAt p)
+unfolding pairAt
+as-printed p (Pair'.Is r) = (
+  λ q. let e = reduction p r .0 q in ap is (e .1) ∙ sym (passes (within 1 5 p) 19 _ (within-true 1 5 p .1 (e .0))),
+  λ e. let f = holds-all (within 1 5 p) 19 (is (pairOf (numbersOf p))) r .0 (sym e) in reduction p r .1 (within-true 1 5 p .0 (f .0), sym (same (pairOf (numbersOf p)) r .0 (f .1))),
+)
+as-printed p (Pair'.Refused why) = (
+  λ q. ap refused (q .0) ∙ sym (one-refused (within 1 5 p) 19 (pairOf (numbersOf p)) (within-true 1 5 p) .1 (q .1)),
+  λ e. let k = alone (within 1 5 p) 19 (reasonNumber why) (pairOf (numbersOf p)) (sym e) in (k, one-refused (within 1 5 p) 19 (pairOf (numbersOf p)) (within-true 1 5 p) .0 (sym e ∙ ap refused k)),
+)

@@ -1,42 +1,39 @@
 -- What request W11 says of the five planets, as statements. proofs/Paper.antt proves each under the same name in small letters.
 -- Assumes nothing.
-use Prim.Native.Nat.{ℕ, zero, suc, _+_, _*_, _≤_, _<_}
+use Prim.Native.Nat.{ℕ, zero, suc, _+_, _*_, _%_, _≤_, _<_}
 use mathlib.Core.Path.{_≡_}
 use mathlib.Core.Logic.{_↔_, _⊎_}
 use Rattle.rule.specs.Counts.{DayInRange}
-use Rattle.rule.specs.Reasons.{is, refused}
+use Rattle.rule.specs.Reasons.{reasonOf}
+use Rattle.rule.specs.declared.Reason.{Reason}
 use Rattle.planets.specs.declared.Numbers.{Numbers}
 use Rattle.planets.specs.declared.Pair.{Pair}
-use Rattle.planets.specs.declared.Counted.{Counted}
+use Rattle.planets.specs.declared.Conjunction.{Conjunction}
+use Rattle.planets.specs.declared.Next.{Next}
 use Rattle.planets.specs.declared.Phase.{Phase}
 use Rattle.planets.specs.declared.Phase.the-variants.{Morning, Evening, Neither}
 use Rattle.planets.specs.declared.ConjunctionTold.{ConjunctionTold}
+use Rattle.planets.specs.declared.ConjunctionTold.the-variants as Conjunction'
 use Rattle.planets.specs.declared.NextTold.{NextTold}
+use Rattle.planets.specs.declared.NextTold.the-variants as Next'
 use Rattle.planets.specs.declared.PairTold.{PairTold}
+use Rattle.planets.specs.declared.PairTold.the-variants as Pair'
 use Rattle.planets.specs.Planets.{
+  Planet,
   numbersOf,
   divisor,
   conjunctionDay,
   conjunctionParts,
   phase,
-  conjunctionOf,
-  conjunctionAt,
   nextCount,
-  countedOf,
-  nextAt,
   figures,
   figuresOf,
   longDays,
   longCircle,
   pairOf,
-  pairAt,
 }
-use Rattle.planets.specs.Divisors.{CommonDivisor, Reduced}
+use Rattle.planets.specs.Divisors.{CommonDivisor, Remainders}
 use Rattle.planets.specs.Promises.{KthConjunction, NextConjunction, ReducedPair}
-
--- "a planet", 1 to 5
-abbrev pub Planet : ℕ → Type 0
-Planet p = (1 ≤ p) × (p ≤ 5)
 
 -- what the statements ask of a planet's numbers, and all that they ask: there are conjunctions, and they are a day or more apart
 pub record Good (n : Numbers) : Type 0 where
@@ -47,15 +44,14 @@ pub record Good (n : Numbers) : Type 0 where
 abbrev pub Good-planets : Type 0
 Good-planets = (p : ℕ) → Planet p → Good (numbersOf p)
 
--- "The k-th falls k times the years, times 1,461, divided by four times the conjunctions": its day and its parts are that moment, no
--- other day and parts are
-pub record Moment (n : Numbers) (k : ℕ) : Type 0 where
-  pub moment : conjunctionDay n k * divisor n + conjunctionParts n k ≡ k * n .years * 1461
-  pub rest : conjunctionParts n k < divisor n
-  pub only : (d r : ℕ) → r < divisor n → d * divisor n + r ≡ k * n .years * 1461 → (d ≡ conjunctionDay n k) × (r ≡ conjunctionParts n k)
+-- "The k-th falls k times the years, times 1,461, divided by four times the conjunctions": day d and r parts are that moment
+pub record Moment (n : Numbers) (k d r : ℕ) : Type 0 where
+  pub moment : d * (4 * n .conjunctions) + r ≡ k * n .years * 1461
+  pub rest : r < 4 * n .conjunctions
 
+-- the day and the parts that are defined are it, no others are
 abbrev pub Kth-moment : Type 0
-Kth-moment = (n : Numbers) → Good n → (k : ℕ) → Moment n k
+Kth-moment = (n : Numbers) → Good n → (k d r : ℕ) → Moment n k d r ↔ ((d ≡ conjunctionDay n k) × (r ≡ conjunctionParts n k))
 
 -- "conjunctions per years": in four times its years, which are 1,461 days for each of them, a planet has four times its conjunctions
 pub record ComesRound (n : Numbers) (k : ℕ) : Type 0 where
@@ -74,10 +70,16 @@ First-on-or-after = (n : Numbers) → Good n → (d k : ℕ) → (k ≡ nextCoun
 
 -- "For Venus and Mercury an odd count is a morning conjunction, an even one an evening one"; k = 0 is an evening one. The other three
 -- have neither.
-pub record Morning-and-evening : Type 0 where
-  pub odd : (p k : ℕ) → (p ≡ 4) ⊎ (p ≡ 5) → phase (numbersOf p) (2 * k + 1) ≡ Morning
-  pub even : (p k : ℕ) → (p ≡ 4) ⊎ (p ≡ 5) → phase (numbersOf p) (2 * k) ≡ Evening
-  pub neither : (p k : ℕ) → 1 ≤ p → p ≤ 3 → phase (numbersOf p) k ≡ Neither
+pub record MorningOrEvening (p k : ℕ) (f : Phase) : Type 0 where
+  pub odd : (p ≡ 4) ⊎ (p ≡ 5) → k % 2 ≡ 1 → f ≡ Morning
+  pub even : (p ≡ 4) ⊎ (p ≡ 5) → k % 2 ≡ 0 → f ≡ Evening
+  pub neither : p ≤ 3 → f ≡ Neither
+
+-- what the k-th conjunction of planet p holds: its day and remainder, of how many parts, morning or evening
+pub record IsConjunction (p k : ℕ) (c : Conjunction) : Type 0 where
+  pub moment : Moment (numbersOf p) k (c .day) (c .parts)
+  pub divisor : c .divisor ≡ 4 * numbersOf p .conjunctions
+  pub phase : MorningOrEvening p k (c .phase)
 
 -- how many of the conjunctions before the k-th are morning ones
 abbrev pub morning : Phase → ℕ
@@ -97,9 +99,15 @@ pub record Half-are-mornings : Type 0 where
 
 -- "Refusals: a planet outside 1 to 5 is 19, then 6 for .. a k whose conjunction falls outside it, however large"
 pub record ConjunctionReasons (p k : ℕ) : Type 0 where
-  pub given : (conjunctionAt p k ≡ is (conjunctionOf (numbersOf p) k)) ↔ (Planet p × DayInRange (conjunctionDay (numbersOf p) k))
-  pub nineteen : (conjunctionAt p k ≡ refused 19) ↔ (Planet p → ⊥)
-  pub six : (conjunctionAt p k ≡ refused 6) ↔ (Planet p × (DayInRange (conjunctionDay (numbersOf p) k) → ⊥))
+  pub given : (c : Conjunction) → KthConjunction p k (Conjunction'.Is c) ↔ (Planet p × DayInRange (c .day) × IsConjunction p k c)
+  pub nineteen : KthConjunction p k (Conjunction'.Refused (reasonOf 19)) ↔ (Planet p → ⊥)
+  pub six : KthConjunction p k (Conjunction'.Refused (reasonOf 6)) ↔ (Planet p × (DayInRange (conjunctionDay (numbersOf p) k) → ⊥))
+
+-- what the first conjunction on or after day d holds: the least count, and the conjunction of that count, which is in range
+pub record IsNext (p d : ℕ) (n : Next) : Type 0 where
+  pub least : LeastFrom (numbersOf p) d (n .k)
+  pub conjunction : IsConjunction p (n .k) (n .conjunction)
+  pub in-range : DayInRange (n .conjunction .day)
 
 -- no conjunction of planet p falls from day d to the end of the range
 abbrev pub NoneLeft : ℕ → ℕ → Type 0
@@ -107,37 +115,40 @@ NoneLeft p d = (k : ℕ) → d ≤ conjunctionDay (numbersOf p) k → DayInRange
 
 -- 19, "then 6 for a given day out of range ..; 20, last, means that no conjunction falls from the given day to the end of the range"
 pub record NextReasons (p d : ℕ) : Type 0 where
-  pub given : (k : ℕ) → (nextAt p d ≡ is (countedOf (numbersOf p) k)) ↔ (Planet p × DayInRange d × LeastFrom (numbersOf p) d k × DayInRange (conjunctionDay (numbersOf p) k))
-  pub nineteen : (nextAt p d ≡ refused 19) ↔ (Planet p → ⊥)
-  pub six : (nextAt p d ≡ refused 6) ↔ (Planet p × (DayInRange d → ⊥))
-  pub twenty : (nextAt p d ≡ refused 20) ↔ (Planet p × DayInRange d × NoneLeft p d)
+  pub given : (n : Next) → NextConjunction p d (Next'.Is n) ↔ (Planet p × DayInRange d × IsNext p d n)
+  pub nineteen : NextConjunction p d (Next'.Refused (reasonOf 19)) ↔ (Planet p → ⊥)
+  pub six : NextConjunction p d (Next'.Refused (reasonOf 6)) ↔ (Planet p × (DayInRange d → ⊥))
+  pub twenty : NextConjunction p d (Next'.Refused (reasonOf 20)) ↔ (Planet p × DayInRange d × NoneLeft p d)
 
 -- the one that is found is what the other call gives for its count, and it is not before the day
 abbrev pub Next-is-a-conjunction : Type 0
-Next-is-a-conjunction = (p d : ℕ) (c : Counted) → nextAt p d ≡ is c → (conjunctionAt p (c .k) ≡ is (c .conjunction)) × (d ≤ c .conjunction .day)
+Next-is-a-conjunction = (p d : ℕ) (n : Next) → NextConjunction p d (Next'.Is n) → KthConjunction p (n .k) (Conjunction'.Is (n .conjunction)) × (d ≤ n .conjunction .day)
 
 pub record Reasons-of-planets : Type 0 where
   pub conjunctions : (p k : ℕ) → ConjunctionReasons p k
   pub nexts : (p d : ℕ) → NextReasons p d
-  pub pair-given : (p : ℕ) → (pairAt p ≡ is (pairOf (numbersOf p))) ↔ Planet p
-  pub pair-nineteen : (p : ℕ) → (pairAt p ≡ refused 19) ↔ (Planet p → ⊥)
+  pub pair-nineteen : (p : ℕ) → ReducedPair p (Pair'.Refused (reasonOf 19)) ↔ (Planet p → ⊥)
 
 -- two numbers have one common divisor
 abbrev pub One-common-divisor : Type 0
 One-common-divisor = (a b c d : ℕ) → CommonDivisor a b c → CommonDivisor a b d → c ≡ d
 
--- the figures of one conjunction are the rule's k = 1
+-- "taking the remainder of one by the other until none is left": what this ends with is what `common_divisor` answers
+abbrev pub Taking-remainders : Type 0
+Taking-remainders = (a b d : ℕ) → Remainders a b d ↔ CommonDivisor a b d
+
+-- the figures of one conjunction, which the long counts are made of, are the call's k = 1
 abbrev pub Figures-are-first : Type 0
-Figures-are-first = (p : ℕ) → Planet p → figuresOf p ≡ figures (conjunctionDay (numbersOf p) 1) (conjunctionParts (numbersOf p) 1) (divisor (numbersOf p))
+Figures-are-first = (p : ℕ) (c : Conjunction) → KthConjunction p 1 (Conjunction'.Is c) → figuresOf p ≡ figures (c .day) (c .parts) (c .divisor)
 
 -- 004's common divisor of the two long counts, the same for all five
 abbrev pub Common-divisor-of-004 : Type 0
 Common-divisor-of-004 = (p : ℕ) → Planet p → CommonDivisor (longDays (figuresOf p)) (longCircle (figuresOf p)) 5844
 
--- "004 gets each pair by reducing two long counts against each other ..; show for all five that this yields the printed pair": whatever
--- the two long counts are reduced to is the printed pair
+-- "004 gets each pair by reducing two long counts against each other ..; show for all five that this yields the printed pair": the pair
+-- that the call promises, which its two long counts are reduced to, is the printed one
 abbrev pub Reduction : Type 0
-Reduction = (p : ℕ) → Planet p → (r : Pair) → Reduced (longDays (figuresOf p)) (longCircle (figuresOf p)) r ↔ (r ≡ pairOf (numbersOf p))
+Reduction = (p : ℕ) (r : Pair) → ReducedPair p (Pair'.Is r) ↔ (Planet p × (r ≡ pairOf (numbersOf p)))
 
 -- each promise leaves one answer
 pub record Unique-planets : Type 0 where
@@ -145,8 +156,14 @@ pub record Unique-planets : Type 0 where
   pub next : (p d : ℕ) (a b : NextTold) → NextConjunction p d a → NextConjunction p d b → a ≡ b
   pub pair : (p : ℕ) (a b : PairTold) → ReducedPair p a → ReducedPair p b → a ≡ b
 
--- a version that refuses all is shut out, of each call
-pub record Refusing-all : Type 0 where
-  pub conjunction : ((p k : ℕ) → (r : ℕ) × (conjunctionAt p k ≡ refused r)) → ⊥
-  pub next : ((p d : ℕ) → (r : ℕ) × (nextAt p d ≡ refused r)) → ⊥
-  pub pair : ((p : ℕ) → (r : ℕ) × (pairAt p ≡ refused r)) → ⊥
+-- wrong versions, each shut out at some input: refusing all; one fixed answer; a common divisor that is always 1, and one that is the
+-- first number
+pub record Wrong-planets : Type 0 where
+  pub conjunction-refused : (why : Reason) → KthConjunction 1 0 (Conjunction'.Refused why) → ⊥
+  pub next-refused : (why : Reason) → NextConjunction 1 0 (Next'.Refused why) → ⊥
+  pub pair-refused : (why : Reason) → ReducedPair 1 (Pair'.Refused why) → ⊥
+  pub conjunction-fixed : (c : ConjunctionTold) → KthConjunction 1 0 c → KthConjunction 1 1 c → ⊥
+  pub next-fixed : (n : NextTold) → NextConjunction 1 0 n → NextConjunction 1 1 n → ⊥
+  pub pair-fixed : (r : PairTold) → ReducedPair 1 r → ReducedPair 2 r → ⊥
+  pub divisor-one : CommonDivisor 12 18 1 → ⊥
+  pub divisor-first : CommonDivisor 12 18 12 → ⊥

@@ -1,8 +1,8 @@
 -- "The five planets" (W11): their numbers, the k-th conjunction, the first on or after a day, for every number; refusals in the
 -- paper's order. Assumes nothing.
-use Prim.Native.Nat.{ℕ, _+_, _-_, _*_, _/_, _%_}
+use Prim.Native.Nat.{ℕ, _+_, _-_, _*_, _/_, _%_, _≤_}
 use mathlib.Core.Bool.{Bool, true, false, cond}
-use mathlib.Core.List.{List, [], _∷_}
+use mathlib.Core.List.{[], _∷_}
 use lib.Dec.{eqb, leb}
 use lib.ListN.{getD}
 use Rattle.rule.specs.Reasons.{Answer, is, guard, within}
@@ -11,8 +11,12 @@ use Rattle.planets.specs.declared.Figures.{Figures}
 use Rattle.planets.specs.declared.Phase.{Phase}
 use Rattle.planets.specs.declared.Phase.the-variants.{Morning, Evening, Neither}
 use Rattle.planets.specs.declared.Conjunction.{Conjunction}
-use Rattle.planets.specs.declared.Counted.{Counted}
+use Rattle.planets.specs.declared.Next.{Next}
 use Rattle.planets.specs.declared.Pair.{Pair}
+
+-- "a planet", 1 to 5
+abbrev pub Planet : ℕ → Type 0
+Planet p = (1 ≤ p) × (p ≤ 5)
 
 -- "004 gives conjunctions per years": so many conjunctions in so many years, evening and morning ones by turns or neither
 abbrev pub numbers : ℕ → ℕ → Bool → Numbers
@@ -53,9 +57,15 @@ conjunctionDay n k = k * n .years * 1461 / divisor n
 unfoldable pub conjunctionParts : Numbers → ℕ → ℕ
 conjunctionParts n k = k * n .years * 1461 % divisor n
 
--- "For Venus and Mercury an odd count is a morning conjunction, an even one an evening one" (Paper, Morning-and-evening)
+-- "For Venus and Mercury an odd count is a morning conjunction, an even one an evening one" (Paper, MorningOrEvening)
 unfoldable pub phase : Numbers → ℕ → Phase
 phase n k = cond (n .«by_turns») (cond (eqb (k % 2) 1) Morning Evening) Neither
+
+-- 1 a morning conjunction, 2 an evening one, 0 neither
+abbrev pub phaseNumber : Phase → ℕ
+phaseNumber Morning = 1
+phaseNumber Evening = 2
+phaseNumber Neither = 0
 
 unfoldable pub conjunctionOf : Numbers → ℕ → Conjunction
 conjunctionOf n k = record { day = conjunctionDay n k; parts = conjunctionParts n k; divisor = divisor n; phase = phase n k }
@@ -69,17 +79,17 @@ conjunctionAt p k =
 unfoldable pub nextCount : Numbers → ℕ → ℕ
 nextCount n d = (d * divisor n + (step n - 1)) / step n
 
-unfoldable pub countedOf : Numbers → ℕ → Counted
-countedOf n k = record { k = k; conjunction = conjunctionOf n k }
+unfoldable pub nextOf : Numbers → ℕ → Next
+nextOf n k = record { k = k; conjunction = conjunctionOf n k }
 
 -- that conjunction: 19, then 6 "for a given day out of range", and "20, last, means that no conjunction falls from the given day to
 -- the end of the range"
-unfoldable pub nextAt : ℕ → ℕ → Answer Counted
+unfoldable pub nextAt : ℕ → ℕ → Answer Next
 nextAt p d =
     guard (within 1 5 p) 19
     (guard (leb d 14989859) 6
     (guard (leb (conjunctionDay (numbersOf p) (nextCount (numbersOf p) d)) 14989859) 20
-    (is (countedOf (numbersOf p) (nextCount (numbersOf p) d)))))
+    (is (nextOf (numbersOf p) (nextCount (numbersOf p) d)))))
 
 -- one conjunction's days as 004 works them out, "398 days and 14,641 parts of 17,308"
 abbrev pub figures : ℕ → ℕ → ℕ → Figures
@@ -98,9 +108,10 @@ longDays f = 4 * (f .days * f .divisor + f .parts)
 abbrev pub longCircle : Figures → ℕ
 longCircle f = 1461 * f .divisor
 
--- the pair that is printed (Paper, Reduction: it is what the two long counts are reduced to)
+-- the pair that is printed (Paper, Reduction: what the two long counts are reduced to is this)
 abbrev pub pairOf : Numbers → Pair
 pairOf n = record { years = n .years; conjunctions = n .conjunctions }
 
+-- the printed pair of planet p, or 19 (Paper, Reduction: the call's answer)
 unfoldable pub pairAt : ℕ → Answer Pair
 pairAt p = guard (within 1 5 p) 19 (is (pairOf (numbersOf p)))

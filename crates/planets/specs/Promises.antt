@@ -5,19 +5,20 @@ use Rattle.rule.specs.Reasons.{Answer, is, refused, reasonNumber}
 use Rattle.planets.specs.declared.Conjunction.{Conjunction}
 use Rattle.planets.specs.declared.ConjunctionTold.{ConjunctionTold}
 use Rattle.planets.specs.declared.ConjunctionTold.the-variants as Conjunction'
-use Rattle.planets.specs.declared.Counted.{Counted}
+use Rattle.planets.specs.declared.Next.{Next}
 use Rattle.planets.specs.declared.NextTold.{NextTold}
 use Rattle.planets.specs.declared.NextTold.the-variants as Next'
 use Rattle.planets.specs.declared.Pair.{Pair}
 use Rattle.planets.specs.declared.PairTold.{PairTold}
 use Rattle.planets.specs.declared.PairTold.the-variants as Pair'
-use Rattle.planets.specs.Planets.{conjunctionAt, nextAt, pairAt}
+use Rattle.planets.specs.Planets.{Planet, conjunctionAt, nextAt, figuresOf, longDays, longCircle}
+use Rattle.planets.specs.Divisors.{Reduced}
 
 abbrev pub saidConjunction : ConjunctionTold → Answer Conjunction
 saidConjunction (Conjunction'.Is r) = is r
 saidConjunction (Conjunction'.Refused r) = refused (reasonNumber r)
 
-abbrev pub saidNext : NextTold → Answer Counted
+abbrev pub saidNext : NextTold → Answer Next
 saidNext (Next'.Is r) = is r
 saidNext (Next'.Refused r) = refused (reasonNumber r)
 
@@ -33,6 +34,8 @@ KthConjunction p k r = saidConjunction r ≡ conjunctionAt p k
 abbrev pub NextConjunction : ℕ → ℕ → NextTold → Type 0
 NextConjunction p d r = saidNext r ≡ nextAt p d
 
--- the pair of planet p, which its two long counts are reduced to
+-- the pair that the two long counts of planet p are reduced to; "a planet outside 1 to 5 is 19" (Paper, Reduction: it is the printed
+-- pair)
 abbrev pub ReducedPair : ℕ → PairTold → Type 0
-ReducedPair p r = saidPair r ≡ pairAt p
+ReducedPair p (Pair'.Is r) = Planet p × Reduced (longDays (figuresOf p)) (longCircle (figuresOf p)) r
+ReducedPair p (Pair'.Refused r) = (reasonNumber r ≡ 19) × (Planet p → ⊥)

@@ -5,9 +5,7 @@ use mathlib.Core.List.{List, [], _∷_, map}
 use Rattle.rule.specs.Rule.{monthStart}
 use Rattle.rule.specs.Reasons.{Answer, is, refused, andThen}
 use Rattle.planets.specs.declared.Conjunction.{Conjunction}
-use Rattle.planets.specs.declared.Phase.{Phase}
-use Rattle.planets.specs.declared.Phase.the-variants.{Morning, Evening, Neither}
-use Rattle.planets.specs.Planets.{conjunctionAt, nextAt, pairAt}
+use Rattle.planets.specs.Planets.{phaseNumber, conjunctionAt, nextAt, pairAt}
 
 -- what is asked in a row
 pub data Question : Type 0 where
@@ -15,12 +13,6 @@ pub data Question : Type 0 where
   next : ℕ → ℕ → Question  -- planet, day: k, day, parts, divisor, phase
   in-month : ℕ → ℕ → ℕ → Question  -- planet, k, month: days after the month's first day, parts
   pair : ℕ → Question  -- planet: years, conjunctions
-
--- 1 a morning conjunction, 2 an evening one, 0 neither
-abbrev pub phaseNumber : Phase → ℕ
-phaseNumber Morning = 1
-phaseNumber Evening = 2
-phaseNumber Neither = 0
 
 abbrev pub fourOf : Conjunction → List ℕ
 fourOf c = c .day ∷ c .parts ∷ c .divisor ∷ phaseNumber (c .phase) ∷ []

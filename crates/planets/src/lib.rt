@@ -47,8 +47,8 @@ pub struct Conjunction {
     pub phase: Phase,
 }
 
-// A conjunction with its count.
-pub struct Counted {
+// The first conjunction on or after a day, with its count.
+pub struct Next {
     pub k: u32,
     pub conjunction: Conjunction,
 }
@@ -65,7 +65,7 @@ pub enum ConjunctionTold {
 }
 
 pub enum NextTold {
-    Is(Counted),
+    Is(Next),
     Refused(Reason),
 }
 
@@ -220,7 +220,7 @@ pub fn next_conjunction(planet: u32, day: u32) -> NextTold
     if 14989859 < conjunction_day(n, k) {
         return NextTold::Refused(Reason::NoConjunctionLeft);
     }
-    NextTold::Is(Counted {
+    NextTold::Is(Next {
         k: k as u32,
         conjunction: conjunction_of(n, k),
     })

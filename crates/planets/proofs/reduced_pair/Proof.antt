@@ -1,13 +1,11 @@
--- `planets::reduced_pair` meets its contract: 19, and the two long counts are reduced to the printed pair. Assumes nothing.
+-- `planets::reduced_pair` meets its contract: 19, and what the two long counts are reduced to. Assumes nothing.
 use Prim.Native.Nat.{ℕ, _<_}
-use mathlib.Core.Path.{ap, sym, subst, _∙_}
-use Rattle.rule.specs.Reasons.{is}
-use Rattle.rule.proofs.Answers.{failed, passed, within-true}
+use mathlib.Core.Path.{refl, ap, sym, subst, _∙_}
+use Rattle.rule.specs.Reasons.{within}
+use Rattle.rule.proofs.Answers.{failed, passed, fails, within-true}
 use Rattle.planets.specs.Planets.{figuresOf, longDays, longCircle}
 use Rattle.planets.specs.Divisors.{Reduced}
 use Rattle.planets.proofs.Five.{some-circle}
-use Rattle.planets.proofs.Reducing.{reduction}
-use Rattle.planets.proofs.Made.{pair-no-planet, pair-one}
 use borrow.Author.Needs.{needs}
 use Rattle.planets.proofs.reduced_pair.Statement.{statement}
 use Rattle.planets.proofs.reduced_pair.Tie as tie
@@ -16,7 +14,7 @@ in-range-requires : tie.Need-in-range-requires
 in-range-requires c κs = search needs
 
 returns : tie.Need-returns
-returns c = pair-no-planet (c .before .before .args .planet) (failed _ _ (c .before .in-range .ensures) (c .if1 .taken))
+returns c = (refl, fails (within 1 5 (c .before .before .args .planet)) (within-true 1 5 (c .before .before .args .planet)) .0 (failed _ _ (c .before .in-range .ensures) (c .if1 .taken)))
 
 figures-of-requires : tie.Need-figures-of-requires
 figures-of-requires c κs = (within-true 1 5 (c .before .before .args .planet) .0 (passed _ _ (c .before .in-range .ensures) (c .if1 .left)))
@@ -31,7 +29,11 @@ reduced-requires : tie.Need-reduced-requires
 reduced-requires c κs = subst (λ (m : ℕ). 0 < m) (sym (c .long-circle .ensures ∙ ap longCircle (c .before .before .figures-of .ensures))) (some-circle (c .before .before .before .before .before .args .planet) (within-true 1 5 (c .before .before .before .before .before .args .planet) .0 (passed _ _ (c .before .before .before .before .in-range .ensures) (c .before .before .before .if1 .left))))
 
 returns-2 : tie.Need-returns-2
-returns-2 c = ap is (reduction (c .before .before .before .before .before .before .args .planet) (within-true 1 5 (c .before .before .before .before .before .before .args .planet) .0 (passed _ _ (c .before .before .before .before .before .in-range .ensures) (c .before .before .before .before .if1 .left))) (c .reduced .result) .0 (subst (λ (m : ℕ). Reduced m (longCircle (figuresOf (c .before .before .before .before .before .before .args .planet))) (c .reduced .result)) (c .before .before .long-days .ensures ∙ ap longDays (c .before .before .before .figures-of .ensures)) (subst (λ (m : ℕ). Reduced (c .before .before .long-days .result) m (c .reduced .result)) (c .before .long-circle .ensures ∙ ap longCircle (c .before .before .before .figures-of .ensures)) (c .reduced .ensures)))) ∙ pair-one (c .before .before .before .before .before .before .args .planet) (passed _ _ (c .before .before .before .before .before .in-range .ensures) (c .before .before .before .before .if1 .left))
+returns-2 c = (
+  within-true 1 5 (c .before .before .before .before .before .before .args .planet) .0 (passed _ _ (c .before .before .before .before .before .in-range .ensures) (c .before .before .before .before .if1 .left)),
+  subst (λ (m : ℕ). Reduced m (longCircle (figuresOf (c .before .before .before .before .before .before .args .planet))) (c .reduced .result)) (c .before .before .long-days .ensures ∙ ap longDays (c .before .before .before .figures-of .ensures))
+      (subst (λ (m : ℕ). Reduced (c .before .before .long-days .result) m (c .reduced .result)) (c .before .long-circle .ensures ∙ ap longCircle (c .before .before .before .figures-of .ensures)) (c .reduced .ensures)),
+)
 
 pub reduced-pair-spec : {M : Type 1} → statement M
 reduced-pair-spec =
