@@ -1,5 +1,5 @@
 -- What request W11 says of the five planets, proved, each statement under its name in small letters. Assumes nothing.
-use Prim.Native.Nat.{ℕ, zero, suc, _+_, _*_, _≤_}
+use Prim.Native.Nat.{ℕ, zero, suc, _+_, _*_, _≤_, _<_}
 use native.Mathlib.Omega.{arith}
 use native.Mathlib.Nat.{eq-one-of-dvd-one, mod-eq-zero-of-dvd, dvd-of-mod-eq-zero}
 use mathlib.Core.Path.{_≡_, refl, ap, sym, subst, _∙_}
@@ -10,6 +10,7 @@ use borrow.Author.Tests.{ltb-true, ltb-false}
 use Rattle.rule.specs.Counts.{DayInRange}
 use Rattle.rule.specs.Reasons.{Answer, is, refused, within, guard, reasonNumber, reasonOf}
 use Rattle.rule.proofs.Answers.{reason-back, within-true, at-most, holds-all, fails, test-iff, one-refused, read-back, once, given-not}
+use Rattle.planets.specs.declared.Numbers.{Numbers}
 use Rattle.planets.specs.declared.Phase.{Phase}
 use Rattle.planets.specs.declared.ConjunctionTold.{ConjunctionTold}
 use Rattle.planets.specs.declared.ConjunctionTold.the-variants as Conjunction'
@@ -37,7 +38,7 @@ use Rattle.planets.specs.Planets.{
 }
 use Rattle.planets.specs.Promises.{saidConjunction, saidNext, saidPair}
 use Rattle.planets.specs.Paper as Paper
-use Rattle.planets.specs.Paper.{NoneLeft, IsNext, ConjunctionReasons, NextReasons, morning, mornings}
+use Rattle.planets.specs.Paper.{IsConjunction, NoneLeft, IsNext, ConjunctionReasons, NextReasons, morning, mornings}
 use Rattle.planets.proofs.Moments
 use Rattle.planets.proofs.Divisors
 use Rattle.planets.proofs.Five
@@ -88,6 +89,42 @@ common-divisor-of-004 = Reducing.common-divisor-of-004
 pub reduction : Paper.Reduction
 reduction = Reducing.reduction
 
+-- an equation turned round
+turned : {A : Type 0} {x y : A} {P : Type 0} → ((x ≡ y) ↔ P) → (y ≡ x) ↔ P
+turned e = (λ q. e .0 (sym q), λ h. sym (e .1 h))
+
+conjunctions : (p k : ℕ) → ConjunctionReasons p k
+unfolding conjunctionAt conjunctionOf
+conjunctions p k =
+    record {
+      given = λ c. (
+        λ e. let q = Refusing.given planet in-range 19 6 other it first second c .0 (sym e) in
+            (q .0, subst (λ (x : Conjunction). DayInRange (x .day)) (q .1 .1) (q .1 .0), Literal.conjunction-is p k c (q .0) .1 (sym (q .1 .1))),
+        λ q. let e = Literal.conjunction-is p k c (q .0) .0 (q .2) in
+            sym (Refusing.given planet in-range 19 6 other it first second c .1 (q .0, (subst (λ (x : Conjunction). DayInRange (x .day)) e (q .1), sym e))),
+      );
+      nineteen = turned (Refusing.first planet in-range 19 6 other it first second);
+      six = turned (Refusing.second planet in-range 19 6 other it first second);
+    }
+  where
+    planet : Bool
+    planet = within 1 5 p
+
+    in-range : Bool
+    in-range = leb (conjunctionDay (numbersOf p) k) 14989859
+
+    it : Conjunction
+    it = conjunctionOf (numbersOf p) k
+
+    other : _≡_ {A = ℕ} 19 6 → ⊥
+    other e = omega (arith, e)
+
+    first : (planet ≡ true) ↔ Planet p
+    first = within-true 1 5 p
+
+    second : (in-range ≡ true) ↔ DayInRange (conjunctionDay (numbersOf p) k)
+    second = at-most (conjunctionDay (numbersOf p) k) 14989859
+
 -- the least count is not after any other whose day is not before the day
 next-first : (p d : ℕ) → Planet p → (k : ℕ) → d ≤ conjunctionDay (numbersOf p) k → nextCount (numbersOf p) d ≤ k
 next-first p d h k a = go (ltb k (nextCount (numbersOf p) d)) refl
@@ -98,10 +135,32 @@ next-first p d h k a = go (ltb k (nextCount (numbersOf p) d)) refl
 
 -- no conjunction is left exactly where the first on or after the day is beyond the range
 none-left : (p d : ℕ) → Planet p → (DayInRange (conjunctionDay (numbersOf p) (nextCount (numbersOf p) d)) → ⊥) ↔ NoneLeft p d
-none-left p d h = (
-  λ no k a b. no (omega (arith, b, Moments.days-rise (numbersOf p) (Five.good-planets p h) (nextCount (numbersOf p) d) k (next-first p d h k a))),
-  λ none. none (nextCount (numbersOf p) d) (Moments.next-least (numbersOf p) (Five.good-planets p h) d .0),
-)
+unfolding conjunctionOf
+none-left p d h = (there, back)
+  where
+    n : Numbers
+    n = numbersOf p
+
+    there : (DayInRange (conjunctionDay n (nextCount n d)) → ⊥) → NoneLeft p d
+    there out k c e = go (ltb (c .day) d) refl
+      where
+        given : Planet p × DayInRange (c .day) × IsConjunction p k c
+        given = conjunctions p k .given c .0 e
+
+        day : c .day ≡ conjunctionDay n k
+        day = ap (λ (x : Conjunction). x .day) (Literal.conjunction-is p k c h .0 (given .2))
+
+        go : (b : Bool) → ltb (c .day) d ≡ b → c .day < d
+        go true l = ltb-true (c .day) d l
+        go false l =
+            let first = next-first p d h k (omega (arith, day, ltb-false (c .day) d l)) in
+            absurd (out (omega (arith, day, given .1, Moments.days-rise n (Five.good-planets p h) (nextCount n d) k first)))
+
+    back : NoneLeft p d → DayInRange (conjunctionDay n (nextCount n d)) → ⊥
+    back none i =
+        let k = nextCount n d in
+        let e = conjunctions p k .given (conjunctionOf n k) .1 (h, i, Literal.conjunction-is p k (conjunctionOf n k) h .1 refl) in
+        omega (arith, none k (conjunctionOf n k) e, Moments.next-least n (Five.good-planets p h) d .0)
 
 -- the answer behind the first two guards, and the one behind the first
 abbrev left : ℕ → ℕ → Answer Next
@@ -139,10 +198,6 @@ left-given p d n h = (there, back)
 -- under a fact that the first test states
 under : {A B C P : Type 0} → (A ↔ (P × B)) → (P → B ↔ C) → A ↔ (P × C)
 under e f = (λ a. (e .0 a .0, f (e .0 a .0) .0 (e .0 a .1)), λ q. e .1 (q .0, f (q .0) .1 (q .1)))
-
--- an equation turned round
-turned : {A : Type 0} {x y : A} {P : Type 0} → ((x ≡ y) ↔ P) → (y ≡ x) ↔ P
-turned e = (λ q. e .0 (sym q), λ h. sym (e .1 h))
 
 -- three facts side by side
 three : {A P Q R : Type 0} → (A ↔ (P × (Q × R))) → A ↔ (P × Q × R)
@@ -183,38 +238,6 @@ nexts p d =
 
     no-nineteen : asked p d ≡ refused 19 → ⊥
     no-nineteen e = Refusing.is-none (nextOf (numbersOf p) (nextCount (numbersOf p) d)) 19 (Refusing.further in-range 20 19 (is (nextOf (numbersOf p) (nextCount (numbersOf p) d))) (λ q. omega (arith, q)) .0 (Refusing.further (leb d 14989859) 6 19 (left p d) (λ q. omega (arith, q)) .0 e .1) .1)
-
-conjunctions : (p k : ℕ) → ConjunctionReasons p k
-unfolding conjunctionAt conjunctionOf
-conjunctions p k =
-    record {
-      given = λ c. (
-        λ e. let q = Refusing.given planet in-range 19 6 other it first second c .0 (sym e) in
-            (q .0, subst (λ (x : Conjunction). DayInRange (x .day)) (q .1 .1) (q .1 .0), Literal.conjunction-is p k c (q .0) .1 (sym (q .1 .1))),
-        λ q. let e = Literal.conjunction-is p k c (q .0) .0 (q .2) in
-            sym (Refusing.given planet in-range 19 6 other it first second c .1 (q .0, (subst (λ (x : Conjunction). DayInRange (x .day)) e (q .1), sym e))),
-      );
-      nineteen = turned (Refusing.first planet in-range 19 6 other it first second);
-      six = turned (Refusing.second planet in-range 19 6 other it first second);
-    }
-  where
-    planet : Bool
-    planet = within 1 5 p
-
-    in-range : Bool
-    in-range = leb (conjunctionDay (numbersOf p) k) 14989859
-
-    it : Conjunction
-    it = conjunctionOf (numbersOf p) k
-
-    other : _≡_ {A = ℕ} 19 6 → ⊥
-    other e = omega (arith, e)
-
-    first : (planet ≡ true) ↔ Planet p
-    first = within-true 1 5 p
-
-    second : (in-range ≡ true) ↔ DayInRange (conjunctionDay (numbersOf p) k)
-    second = at-most (conjunctionDay (numbersOf p) k) 14989859
 
 pub next-is-a-conjunction : Paper.Next-is-a-conjunction
 unfolding conjunctionOf

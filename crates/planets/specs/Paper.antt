@@ -109,9 +109,9 @@ pub record IsNext (p d : ℕ) (n : Next) : Type 0 where
   pub conjunction : IsConjunction p (n .k) (n .conjunction)
   pub in-range : DayInRange (n .conjunction .day)
 
--- no conjunction of planet p falls from day d to the end of the range
+-- no conjunction of planet p falls from day d to the end of the range: those that the other call gives fall before it
 abbrev pub NoneLeft : ℕ → ℕ → Type 0
-NoneLeft p d = (k : ℕ) → d ≤ conjunctionDay (numbersOf p) k → DayInRange (conjunctionDay (numbersOf p) k) → ⊥
+NoneLeft p d = (k : ℕ) (c : Conjunction) → KthConjunction p k (Conjunction'.Is c) → c .day < d
 
 -- 19, "then 6 for a given day out of range ..; 20, last, means that no conjunction falls from the given day to the end of the range"
 pub record NextReasons (p d : ℕ) : Type 0 where
