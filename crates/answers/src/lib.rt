@@ -38,7 +38,7 @@ use facts::YearFacts;
 use facts::YearTold;
 use planets::Conjunction;
 use planets::ConjunctionTold;
-use planets::Counted;
+use planets::Next;
 use planets::NextTold;
 use planets::Phase;
 use rule::Quarter;
@@ -242,7 +242,7 @@ pub fn answer_conjunction(planet: u32, k: u32, out: &mut [u8], at: usize) -> usi
 }
 
 // A `NEXT` line.
-fn put_counted(n: Counted, out: &mut [u8], at: usize) -> usize
+fn put_counted(n: Next, out: &mut [u8], at: usize) -> usize
     requires { ⌜ at + 51 ≤ length (now out) ⌝ }
     ensures { λ r. ⌜ Put 51 (now (out .entry)) at (nextLine n) (now (out .exit)) r ⌝ }
 {

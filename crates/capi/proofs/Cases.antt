@@ -10,7 +10,7 @@ use Rattle.planets.specs.Planets.{
   conjunctionOf,
   conjunctionAt,
   nextCount,
-  countedOf,
+  nextOf,
   nextAt,
 }
 use Rattle.reading.specs.declared.Field.the-variants.{Known, Unread}
@@ -26,7 +26,7 @@ day-past-32-bits r p = ap (λ (x : CDate). x .reason) p
 
 -- W11: 004's count of Venus
 pub venus-in-9455 : (r : CNext) → CNextConjunction 4 3453334 r → r .k ≡ 11826
-unfolding nextAt countedOf nextCount conjunctionOf numbersOf conjunctionDay conjunctionParts phase
+unfolding nextAt nextOf nextCount conjunctionOf numbersOf conjunctionDay conjunctionParts phase
 venus-in-9455 r p = ap (λ (x : CNext). x .k) p
 
 -- a planet whose low 8 bits are Jupiter's is none: reason 19; a count whose low 32 bits are 1 is far outside the range: reason 6

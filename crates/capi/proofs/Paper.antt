@@ -33,7 +33,7 @@ use Rattle.facts.specs.Facts.{solsticeYearAt, yearFactsAt, monthFactsAt, quarte
 use Rattle.facts.specs.Promises.{saidSolsticeYear, saidYear, saidMonth, saidQuarter, saidTerm}
 use Rattle.planets.specs.declared.Conjunction.{Conjunction}
 use Rattle.planets.specs.declared.ConjunctionTold.the-variants as Conjunction'
-use Rattle.planets.specs.declared.Counted.{Counted}
+use Rattle.planets.specs.declared.Next.{Next}
 use Rattle.planets.specs.declared.NextTold.the-variants as Next'
 use Rattle.planets.specs.declared.Pair.{Pair}
 use Rattle.planets.specs.declared.PairTold.{PairTold}
@@ -47,6 +47,7 @@ use Rattle.planets.specs.Planets.{
   pairAt,
 }
 use Rattle.planets.specs.Promises.{saidConjunction, saidNext, saidPair, ReducedPair}
+use Rattle.planets.proofs.Reducing.{as-printed}
 use Rattle.reading.specs.declared.Reading.{Reading}
 use Rattle.reading.specs.declared.Found.{Found}
 use Rattle.reading.specs.declared.Found.the-variants as Found'
@@ -368,10 +369,10 @@ conjunction-bare = is-bare (λ (x : CConjunction). x .reason) givenConjunction n
 conjunction-zero : (a : Answer Conjunction) → Sound a → (r : CConjunction) → r ≡ flat givenConjunction noConjunction a → (r .reason ≡ 0) ↔ ((x : Conjunction) × (is x ≡ a) × (r ≡ givenConjunction x))
 conjunction-zero = is-zero (λ (x : CConjunction). x .reason) givenConjunction noConjunction (λ x. refl) (λ k. refl)
 
-next-bare : (a : Answer Counted) (r : CNext) → r ≡ flat givenNext noNext a → r .reason ≢ 0 → BareNext r
+next-bare : (a : Answer Next) (r : CNext) → r ≡ flat givenNext noNext a → r .reason ≢ 0 → BareNext r
 next-bare = is-bare (λ (x : CNext). x .reason) givenNext noNext (λ x. refl) BareNext (λ k. refusals-flat .next k .1)
 
-next-zero : (a : Answer Counted) → Sound a → (r : CNext) → r ≡ flat givenNext noNext a → (r .reason ≡ 0) ↔ ((x : Counted) × (is x ≡ a) × (r ≡ givenNext x))
+next-zero : (a : Answer Next) → Sound a → (r : CNext) → r ≡ flat givenNext noNext a → (r .reason ≡ 0) ↔ ((x : Next) × (is x ≡ a) × (r ≡ givenNext x))
 next-zero = is-zero (λ (x : CNext). x .reason) givenNext noNext (λ x. refl) (λ k. refl)
 
 pair-bare : (a : Answer Pair) (r : CPair) → r ≡ flat givenPair noPair a → r .reason ≢ 0 → BarePair r
@@ -411,10 +412,6 @@ refusal-is-bare =
       print-day = λ x o r o′ p h. printed-bare p h;
     }
 
--- the pair that is promised is the printed one
-printed-pair : (n : ℕ) (a : PairTold) → ReducedPair n a ↔ (saidPair a ≡ pairAt n)
-printed-pair n a = (λ h. h, λ h. h)
-
 pub reason-0-iff-answered : Paper.Reason-0-iff-answered
 reason-0-iff-answered =
     record {
@@ -430,8 +427,8 @@ reason-0-iff-answered =
       next = λ n d r p. next-zero (nextAt n d) (Sound.next-sound n d) r p;
       pair = λ n r p.
           let z = pair-zero (pairAt n) (Sound.pair-sound n) r p in (
-            λ e. let w = z .0 e in (w .0, printed-pair n (Pair'.Is (w .0)) .1 (w .1), w .2),
-            λ w. z .1 (w .0, printed-pair n (Pair'.Is (w .0)) .0 (w .1), w .2),
+            λ e. let w = z .0 e in (w .0, as-printed n (Pair'.Is (w .0)) .1 (w .1), w .2),
+            λ w. z .1 (w .0, as-printed n (Pair'.Is (w .0)) .0 (w .1), w .2),
           );
       search = λ r first last old a new p. (
         λ z. let w = search-zero (readingOf r) first last (length old) a (p .answer) z in (w .0, record { answered = w .1; lent = p .lent }, w .2),
@@ -468,8 +465,8 @@ says-what-the-call-says =
       next = λ n d r. as-said saidNext Next'.Is Next'.Refused (λ x. refl) (λ w. refl) flatNext (Sound.next-sound n d) r;
       pair = λ n r.
           let c = as-said saidPair Pair'.Is Pair'.Refused (λ x. refl) (λ w. refl) flatPair (Sound.pair-sound n) r in (
-            λ p. let w = c .0 p in (w .0, printed-pair n (w .0) .1 (w .1), w .2),
-            λ w. c .1 (w .0, printed-pair n (w .0) .0 (w .1), w .2),
+            λ p. let w = c .0 p in (w .0, as-printed n (w .0) .1 (w .1), w .2),
+            λ w. c .1 (w .0, as-printed n (w .0) .0 (w .1), w .2),
           );
       search = λ r first last old a new. (
         λ p. let w = search-found (readingOf r) first last (length old) in

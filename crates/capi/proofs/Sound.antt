@@ -42,7 +42,7 @@ use Rattle.facts.specs.Facts.{
   quarterAt,
   termAt,
 }
-use Rattle.planets.specs.Planets.{numbersOf, conjunctionDay, conjunctionOf, conjunctionAt, nextCount, countedOf, nextAt, pairOf, pairAt}
+use Rattle.planets.specs.Planets.{numbersOf, conjunctionDay, conjunctionOf, conjunctionAt, nextCount, nextOf, nextAt, pairOf, pairAt}
 use Rattle.sheet.specs.declared.Section.{Section}
 use Rattle.sheet.specs.Sheet.{
   Lists,
@@ -150,7 +150,7 @@ unfolding nextAt
 next-sound p d =
     guarded (within 1 5 p) NoSuchPlanet
     (guarded (leb d 14989859) NoSuchDay
-    (guarded (leb (conjunctionDay (numbersOf p) (nextCount (numbersOf p) d)) 14989859) NoConjunctionLeft (given (countedOf (numbersOf p) (nextCount (numbersOf p) d)))))
+    (guarded (leb (conjunctionDay (numbersOf p) (nextCount (numbersOf p) d)) 14989859) NoConjunctionLeft (given (nextOf (numbersOf p) (nextCount (numbersOf p) d)))))
 
 pub pair-sound : (p : ℕ) → Sound (pairAt p)
 unfolding pairAt

@@ -44,7 +44,7 @@ use Rattle.facts.specs.Promises.{
 use Rattle.planets.specs.declared.Conjunction.{Conjunction}
 use Rattle.planets.specs.declared.ConjunctionTold.{ConjunctionTold}
 use Rattle.planets.specs.declared.ConjunctionTold.the-variants as Conjunction'
-use Rattle.planets.specs.declared.Counted as Planets
+use Rattle.planets.specs.declared.Next.{Next}
 use Rattle.planets.specs.declared.NextTold.{NextTold}
 use Rattle.planets.specs.declared.NextTold.the-variants as Next'
 use Rattle.planets.specs.declared.Pair.{Pair}
@@ -267,7 +267,7 @@ pub record Reason-0-iff-answered : Type 0 where
       (r .reason ≡ 0) ↔ ((x : Conjunction) × KthConjunction p k (Conjunction'.Is x) × (r ≡ givenConjunction x))
   pub next :
       (p d : ℕ) (r : CNext) →
-      CNextConjunction p d r → (r .reason ≡ 0) ↔ ((x : Planets.Counted) × NextConjunction p d (Next'.Is x) × (r ≡ givenNext x))
+      CNextConjunction p d r → (r .reason ≡ 0) ↔ ((x : Next) × NextConjunction p d (Next'.Is x) × (r ≡ givenNext x))
   pub pair : (p : ℕ) (r : CPair) → CReducedPair p r → (r .reason ≡ 0) ↔ ((x : Pair) × ReducedPair p (Pair'.Is x) × (r ≡ givenPair x))
   pub search :
       (r : CReading) (first last : ℕ) (old : List ℕ) (a : CFound) (new : List ℕ) →

@@ -22,9 +22,9 @@ use Rattle.moves.proofs.Landing.{lands-out, back-out, moved-refused, moved-refu
 use Rattle.facts.specs.Facts.{solsticeYear, yearFacts, monthFacts, quarterOf, solsticeYearAt, yearFactsAt, monthFactsAt, quarterAt, termAt}
 use Rattle.planets.specs.declared.Numbers.{Numbers}
 use Rattle.planets.specs.declared.Conjunction.{Conjunction}
-use Rattle.planets.specs.declared.Counted.{Counted}
+use Rattle.planets.specs.declared.Next.{Next}
 use Rattle.planets.specs.declared.Pair.{Pair}
-use Rattle.planets.specs.Planets.{numbersOf, conjunctionDay, conjunctionOf, conjunctionAt, nextCount, countedOf, nextAt, pairOf, pairAt}
+use Rattle.planets.specs.Planets.{numbersOf, conjunctionDay, conjunctionOf, conjunctionAt, nextCount, nextOf, nextAt, pairOf, pairAt}
 use Rattle.planets.specs.Paper.{Good}
 use Rattle.planets.proofs.Moments.{count-first}
 use Rattle.planets.proofs.Paper.{good-planets}
@@ -157,8 +157,8 @@ pair-capped p = behind-a-test Pair (within 1 5) (from-one 5 (omega arith)) 19 (�
 next-capped : (p d : ℕ) → nextAt (capped p) (capped d) ≡ nextAt p d
 unfolding nextAt
 next-capped p d =
-    two Counted (within 1 5) (λ i. leb i 14989859) (from-one 5 (omega arith)) (at-most 14989859 (omega arith)) 19 6
-    (λ i j. guard (leb (conjunctionDay (numbersOf i) (nextCount (numbersOf i) j)) 14989859) 20 (is (countedOf (numbersOf i) (nextCount (numbersOf i) j)))) p d
+    two Next (within 1 5) (λ i. leb i 14989859) (from-one 5 (omega arith)) (at-most 14989859 (omega arith)) 19 6
+    (λ i j. guard (leb (conjunctionDay (numbersOf i) (nextCount (numbersOf i) j)) 14989859) 20 (is (nextOf (numbersOf i) (nextCount (numbersOf i) j)))) p d
 
 pub capped-alike : Capped-alike
 unfolding dateAt solsticeYearAt yearFactsAt monthFactsAt quarterAt termAt

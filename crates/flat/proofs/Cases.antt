@@ -44,7 +44,7 @@ use Rattle.planets.specs.Planets.{
   conjunctionOf,
   conjunctionAt,
   nextCount,
-  countedOf,
+  nextOf,
   nextAt,
   pairAt,
 }
@@ -152,11 +152,11 @@ first-of-jupiter = refl
 pub venus-in-9455 :
     flatNext (nextAt 4 3453334)
     ≡ record { reason = 0; k = 11826; day = 3453334; parts = 11666; divisor = 23320; phase = 2 }
-unfolding nextAt countedOf nextCount conjunctionOf numbersOf conjunctionDay conjunctionParts phase
+unfolding nextAt nextOf nextCount conjunctionOf numbersOf conjunctionDay conjunctionParts phase
 venus-in-9455 = refl
 
 pub none-left : flatNext (nextAt 4 14989855) ≡ record { reason = 20; k = 0; day = 0; parts = 0; divisor = 0; phase = 0 }
-unfolding nextAt countedOf nextCount conjunctionOf numbersOf conjunctionDay conjunctionParts phase
+unfolding nextAt nextOf nextCount conjunctionOf numbersOf conjunctionDay conjunctionParts phase
 none-left = refl
 
 pub pair-of-venus : flatPair (pairAt 4) ≡ record { reason = 0; years = 4661; conjunctions = 5830 }

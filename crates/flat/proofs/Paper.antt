@@ -16,9 +16,9 @@ use Rattle.facts.specs.declared.MonthFacts.{MonthFacts}
 use Rattle.planets.specs.declared.Phase.{Phase}
 use Rattle.planets.specs.declared.Phase.the-variants.{Morning, Evening, Neither}
 use Rattle.planets.specs.declared.Conjunction.{Conjunction}
-use Rattle.planets.specs.declared.Counted as Planets
+use Rattle.planets.specs.declared.Next.{Next}
 use Rattle.planets.specs.declared.Pair.{Pair}
-use Rattle.planets.specs.Table.{phaseNumber}
+use Rattle.planets.specs.Planets.{phaseNumber}
 use Rattle.sheet.specs.declared.Counted.{Counted}
 use Rattle.flat.specs.declared.CDate.{CDate}
 use Rattle.flat.specs.declared.CDay.{CDay}
@@ -175,7 +175,7 @@ quarterFrom r = record { day = r .day; parts = r .parts }
 abbrev conjunctionFrom : CConjunction → Conjunction
 conjunctionFrom r = record { day = r .day; parts = r .parts; divisor = r .divisor; phase = phaseFrom (r .phase) }
 
-abbrev nextFrom : CNext → Planets.Counted
+abbrev nextFrom : CNext → Next
 nextFrom r =
     record {
       k = r .k;

@@ -12,9 +12,9 @@ use Rattle.facts.specs.declared.LeapMonth.the-variants.{Without, With}
 use Rattle.facts.specs.declared.YearFacts.{YearFacts}
 use Rattle.facts.specs.declared.MonthFacts.{MonthFacts}
 use Rattle.planets.specs.declared.Conjunction.{Conjunction}
-use Rattle.planets.specs.declared.Counted as Planets
+use Rattle.planets.specs.declared.Next.{Next}
 use Rattle.planets.specs.declared.Pair.{Pair}
-use Rattle.planets.specs.Table.{phaseNumber}
+use Rattle.planets.specs.Planets.{phaseNumber}
 use Rattle.sheet.specs.declared.Counted.{Counted}
 use Rattle.flat.specs.declared.CDate.{CDate}
 use Rattle.flat.specs.declared.CDay.{CDay}
@@ -197,7 +197,7 @@ abbrev pub flatConjunction : Answer Conjunction → CConjunction
 flatConjunction = flat givenConjunction noConjunction
 
 -- the first one on or after a day, with its count
-abbrev pub givenNext : Planets.Counted → CNext
+abbrev pub givenNext : Next → CNext
 givenNext n =
     record {
       reason = 0;
@@ -211,7 +211,7 @@ givenNext n =
 abbrev pub noNext : ℕ → CNext
 noNext k = record { reason = k; k = 0; day = 0; parts = 0; divisor = 0; phase = 0 }
 
-abbrev pub flatNext : Answer Planets.Counted → CNext
+abbrev pub flatNext : Answer Next → CNext
 flatNext = flat givenNext noNext
 
 -- a planet's pair

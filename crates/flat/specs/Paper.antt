@@ -11,7 +11,7 @@ use Rattle.facts.specs.declared.SolsticeYear.{SolsticeYear}
 use Rattle.facts.specs.declared.YearFacts.{YearFacts}
 use Rattle.facts.specs.declared.MonthFacts.{MonthFacts}
 use Rattle.planets.specs.declared.Conjunction.{Conjunction}
-use Rattle.planets.specs.declared.Counted as Planets
+use Rattle.planets.specs.declared.Next.{Next}
 use Rattle.planets.specs.declared.Pair.{Pair}
 use Rattle.sheet.specs.declared.Counted.{Counted}
 use Rattle.flat.specs.declared.CDate.{CDate}
@@ -150,7 +150,7 @@ pub record Nothing-lost : Type 0 where
   pub month : (a b : MonthFacts) → givenMonth a ≡ givenMonth b → a ≡ b
   pub quarter : (a b : Quarter) → givenQuarter a ≡ givenQuarter b → a ≡ b
   pub conjunction : (a b : Conjunction) → givenConjunction a ≡ givenConjunction b → a ≡ b
-  pub next : (a b : Planets.Counted) → givenNext a ≡ givenNext b → a ≡ b
+  pub next : (a b : Next) → givenNext a ≡ givenNext b → a ≡ b
   pub pair : (a b : Pair) → givenPair a ≡ givenPair b → a ≡ b
   pub counts : (a b : Counted) → givenCounts a ≡ givenCounts b → a ≡ b
   pub length : (a b : ℕ) → givenLength a ≡ givenLength b → a ≡ b

@@ -2,7 +2,7 @@
 ghost use mathlib.Core.Path.{_≡_};
 ghost use Rattle.dates.specs.Promises.{saidDate, saidDay};
 ghost use Rattle.facts.specs.Promises.{saidSolsticeYear, saidYear, saidMonth, saidQuarter, saidTerm};
-ghost use Rattle.planets.specs.Table.{phaseNumber};
+ghost use Rattle.planets.specs.Planets.{phaseNumber};
 ghost use Rattle.planets.specs.Promises.{saidConjunction, saidNext, saidPair};
 ghost use Rattle.reading.specs.Search.{saidFound};
 ghost use Rattle.sheet.specs.Promises.{saidCounts, saidHowMany};
@@ -49,7 +49,7 @@ use facts::YearFacts;
 use facts::YearTold;
 use planets::Conjunction;
 use planets::ConjunctionTold;
-use planets::Counted;
+use planets::Next;
 use planets::NextTold;
 use planets::PairTold;
 use planets::Phase;
@@ -439,7 +439,7 @@ pub fn flat_conjunction(a: ConjunctionTold) -> CConjunction
     }
 }
 
-fn given_next(n: Counted) -> CNext
+fn given_next(n: Next) -> CNext
     ensures { λ r. ⌜ r ≡ givenNext n ⌝ }
 {
     let laid = given_conjunction(n.conjunction);

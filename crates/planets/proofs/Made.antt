@@ -39,12 +39,12 @@ pub some-years : (n : Numbers) → Good n → 0 < n .years
 some-years n g = omega (arith, g .some, g .apart)
 
 -- a conjunction and its count, as an answer holds them
-abbrev pub counted : ℕ → Conjunction → Next
-counted k x = record { k = k; conjunction = x }
+abbrev pub withCount : ℕ → Conjunction → Next
+withCount k x = record { k = k; conjunction = x }
 
-pub made : {m n : Numbers} {k j : ℕ} → m ≡ n → k ≡ j → counted k (conjunctionOf m k) ≡ nextOf n j
+pub made : {m n : Numbers} {k j : ℕ} → m ≡ n → k ≡ j → withCount k (conjunctionOf m k) ≡ nextOf n j
 unfolding nextOf
-made {m} {n} {k} {j} e f = ap (λ (x : Numbers). counted k (conjunctionOf x k)) e ∙ ap (λ (i : ℕ). counted i (conjunctionOf n i)) f
+made {m} {n} {k} {j} e f = ap (λ (x : Numbers). withCount k (conjunctionOf x k)) e ∙ ap (λ (i : ℕ). withCount i (conjunctionOf n i)) f
 
 module _ (p : ℕ) where
   pub no-planet : (k : ℕ) → within 1 5 p ≡ false → refused 19 ≡ conjunctionAt p k

@@ -45,7 +45,7 @@ use Rattle.planets.proofs.Five
 use Rattle.planets.proofs.Literal
 use Rattle.planets.proofs.Refusing
 use Rattle.planets.proofs.Reducing
-use Rattle.planets.proofs.Made.{counted, made}
+use Rattle.planets.proofs.Made.{withCount, made}
 
 pub good-planets : Paper.Good-planets
 good-planets = Five.good-planets
@@ -192,7 +192,7 @@ left-given p d n h = (there, back)
     back : IsNext p d n → left p d ≡ is n
     back q =
         let k = Moments.next-only (numbersOf p) (Five.good-planets p h) d (n .k) .1 (q .least) in
-        let e : n ≡ first = ap (counted (n .k)) (Literal.conjunction-is p (n .k) (n .conjunction) h .0 (q .conjunction)) ∙ made refl k in
+        let e : n ≡ first = ap (withCount (n .k)) (Literal.conjunction-is p (n .k) (n .conjunction) h .0 (q .conjunction)) ∙ made refl k in
         all .1 (subst (λ (x : Next). DayInRange (x .conjunction .day)) e (q .in-range), ap is (sym e))
 
 -- under a fact that the first test states

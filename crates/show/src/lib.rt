@@ -6,7 +6,7 @@ use facts::LeapMonth;
 use moves::Way;
 use planets::Conjunction;
 use planets::ConjunctionTold;
-use planets::Counted;
+use planets::Next;
 use planets::NextTold;
 use planets::Pair;
 use planets::PairTold;
@@ -139,7 +139,7 @@ pub fn conjunction(c: Conjunction) {
 }
 
 // A conjunction after its count.
-pub fn counted(c: Counted) {
+pub fn counted(c: Next) {
     let of_count = c.conjunction;
     next(c.k);
     conjunction(of_count);

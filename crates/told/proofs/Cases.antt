@@ -39,7 +39,7 @@ use Rattle.facts.specs.Facts.{
   quarterAt,
   termAt,
 }
-use Rattle.planets.specs.Planets.{numbersOf, conjunctionDay, conjunctionParts, phase, conjunctionOf, conjunctionAt, nextCount, countedOf, nextAt}
+use Rattle.planets.specs.Planets.{numbersOf, conjunctionDay, conjunctionParts, phase, conjunctionOf, conjunctionAt, nextCount, nextOf, nextAt}
 use Rattle.reading.specs.declared.Field.the-variants.{Known, Unread}
 use Rattle.reading.specs.declared.Reading.{Reading}
 use Rattle.reading.specs.Readings.{monthFits, dayFits, fits, inRanges, fitting}
@@ -143,16 +143,16 @@ no-such-count = refl
 
 -- the first conjunction of Venus on or after day 292 is its first, and after that day its second
 pub next-292 : nextText 4 292 ≡ inLines (word "NEXT 1 292 281 23320 M" ∷ [])
-unfolding nextText nextLine nextAt nextCount countedOf conjunctionOf numbersOf conjunctionDay conjunctionParts phase digits decimal followed inLines
+unfolding nextText nextLine nextAt nextCount nextOf conjunctionOf numbersOf conjunctionDay conjunctionParts phase digits decimal followed inLines
 next-292 = refl
 
 pub next-293 : nextText 4 293 ≡ inLines (word "NEXT 2 584 562 23320 E" ∷ [])
-unfolding nextText nextLine nextAt nextCount countedOf conjunctionOf numbersOf conjunctionDay conjunctionParts phase digits decimal followed inLines
+unfolding nextText nextLine nextAt nextCount nextOf conjunctionOf numbersOf conjunctionDay conjunctionParts phase digits decimal followed inLines
 next-293 = refl
 
 -- after day 14,989,825 no conjunction of Jupiter is left
 pub none-left : nextText 1 14989826 ≡ inLines (word "REFUSED 20 no conjunction falls from the given day to the end of the range" ∷ [])
-unfolding nextText nextLine nextAt nextCount countedOf conjunctionOf numbersOf conjunctionDay conjunctionParts phase digits decimal followed inLines refusedText wordsNumbered
+unfolding nextText nextLine nextAt nextCount nextOf conjunctionOf numbersOf conjunctionDay conjunctionParts phase digits decimal followed inLines refusedText wordsNumbered
 none-left = refl
 
 -- the last day of year 11's month 134, and a day that is none

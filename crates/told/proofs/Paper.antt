@@ -1,8 +1,7 @@
 -- The statements of specs/Paper, proved, each under its own name. Assumes nothing.
-use Prim.Native.Nat.{ℕ, _+_, _-_, _≤_}
+use Prim.Native.Nat.{ℕ, _+_, _-_, _*_, _≤_}
 use native.Mathlib.Omega.{arith}
 use mathlib.Core.Path.{_≡_, refl, ap, ap₂, sym, _∙_}
-use mathlib.Core.Logic.{_↔_, _⊎_, inl, inr}
 use mathlib.Core.Bool.{Bool, true, false, _&&_}
 use mathlib.Core.List.{List, [], _∷_, _++_, append-assoc}
 use lib.Dec.{leb}
@@ -33,9 +32,10 @@ use Rattle.facts.specs.Facts.{
 }
 use Rattle.facts.proofs.Given as Given
 use Rattle.facts.proofs.Leaps.{leap-found, leap-none}
-use Rattle.planets.specs.Planets.{numbersOf, divisor, conjunctionDay, conjunctionParts, phase, conjunctionOf, conjunctionAt, nextCount, countedOf, nextAt}
-use Rattle.planets.specs.Paper.{Planet}
+use Rattle.planets.specs.Planets.{Planet, numbersOf, divisor, conjunctionDay, conjunctionParts, phase, conjunctionOf, conjunctionAt, nextCount, nextOf, nextAt}
+use Rattle.planets.specs.Paper.{IsConjunction}
 use Rattle.planets.proofs.Paper as Planets
+use Rattle.planets.proofs.Literal.{of-count, venus-or-mercury, conjunction-is}
 use Rattle.reading.specs.declared.Reading.{Reading}
 use Rattle.reading.specs.Readings.{inRanges, windowDays, windowHolds, fitting}
 use Rattle.reading.specs.Search.{total, searchAt}
@@ -118,29 +118,28 @@ term-line-literally y k h i = ap (told termLine) (Given.term-given y k h i)
 
 -- a phase's letter, and the planet that has it
 letter-of : {p k : ℕ} {last : List ℕ} → Paper.Letter p k last → phaseText (phase (numbersOf p) k) ≡ last
-letter-of {p} (Paper.morning j v) = ap phaseText (Planets.morning-and-evening .odd p j v)
-letter-of {p} (Paper.evening j v) = ap phaseText (Planets.morning-and-evening .even p j v)
-letter-of {p} {k} (Paper.neither l h) = ap phaseText (Planets.morning-and-evening .neither p k l h)
-
-by-turns : {p : ℕ} → (p ≡ 4) ⊎ (p ≡ 5) → Planet p
-by-turns (inl e) = (omega (arith, e), omega (arith, e))
-by-turns (inr e) = (omega (arith, e), omega (arith, e))
+letter-of {p} (Paper.morning j v) = ap phaseText (of-count p (2 * j + 1) (venus-or-mercury p v) .odd v (omega arith))
+letter-of {p} (Paper.evening j v) = ap phaseText (of-count p (2 * j) (venus-or-mercury p v) .even v (omega arith))
+letter-of {p} {k} (Paper.neither l h) = ap phaseText (of-count p k (l, omega (arith, h)) .neither h)
 
 planet-of : {p k : ℕ} {last : List ℕ} → Paper.Letter p k last → Planet p
-planet-of (Paper.morning j v) = by-turns v
-planet-of (Paper.evening j v) = by-turns v
+planet-of {p} (Paper.morning j v) = venus-or-mercury p v
+planet-of {p} (Paper.evening j v) = venus-or-mercury p v
 planet-of (Paper.neither l h) = (l, omega (arith, h))
+
+as-defined : {p k : ℕ} {last : List ℕ} → Paper.Letter p k last → IsConjunction p k (conjunctionOf (numbersOf p) k)
+as-defined {p} {k} l = conjunction-is p k (conjunctionOf (numbersOf p) k) (planet-of l) .1 refl
 
 pub conjunction-line-literally : Paper.Conjunction-line-literally
 unfolding conjunctionText conjunctionLine conjunctionOf followed
 conjunction-line-literally p k last l h =
-    ap (told conjunctionLine) (Planets.reasons-of-planets .conjunctions p k .given .1 (planet-of l, h))
+    ap (told conjunctionLine) (sym (Planets.reasons-of-planets .conjunctions p k .given (conjunctionOf (numbersOf p) k) .1 (planet-of l, h, as-defined l)))
     ∙ ap (λ (s : List ℕ). word "CONJUNCTION " ++ Paper.conjunctionWith p k s) (letter-of l)
 
 pub next-line-literally : Paper.Next-line-literally
-unfolding nextText nextLine countedOf conjunctionOf followed
+unfolding nextText nextLine nextOf conjunctionOf followed
 next-line-literally p d k last l h least i =
-    ap (told nextLine) (Planets.reasons-of-planets .nexts p d .given k .1 (planet-of l, h, least, i))
+    ap (told nextLine) (sym (Planets.reasons-of-planets .nexts p d .given (nextOf (numbersOf p) k) .1 (planet-of l, h, record { least = least; conjunction = as-defined l; in-range = i })))
     ∙ ap (λ (s : List ℕ). word "NEXT " ++ s) (append-assoc (decimal k) _ (10 ∷ []))
     ∙ ap (λ (s : List ℕ). word "NEXT " ++ (decimal k ++ (32 ∷ Paper.conjunctionWith p k s))) (letter-of l)
 
@@ -232,7 +231,7 @@ refusals-told =
       next = λ p d.
           tells-refusal nextLine 78 (λ e. omega (arith, e)) (nextAt p d) (λ x e. refl)
           (never-guard (within 1 5 p) 19 _
-          (never-two (leb d 14989859) 6 (leb (conjunctionDay (numbersOf p) (nextCount (numbersOf p) d)) 14989859) 20 (countedOf (numbersOf p) (nextCount (numbersOf p) d))));
+          (never-two (leb d 14989859) 6 (leb (conjunctionDay (numbersOf p) (nextCount (numbersOf p) d)) 14989859) 20 (nextOf (numbersOf p) (nextCount (numbersOf p) d))));
       day = λ d. tells-refusal (dayLineOf d) 68 (λ e. omega (arith, e)) (dateAt d) (λ x e. refl) (never-one (leb d 14989859) 6 (dateOf d));
       date = λ y k l m. tells-refusal dayLine 68 (λ e. omega (arith, e)) (dayOfDate y k l m) (λ x e. refl) (date-never-with y k l m);
       move = λ y k l m n. tells-refusal textOfDate 68 (λ e. omega (arith, e)) (moved y k l m n) (moved-line y k l m n) (moved-never-with y k l m n);

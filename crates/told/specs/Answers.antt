@@ -19,7 +19,7 @@ use Rattle.facts.specs.Facts.{solsticeYearAt, yearFactsAt, monthFactsAt, quarte
 use Rattle.planets.specs.declared.Phase.{Phase}
 use Rattle.planets.specs.declared.Phase.the-variants.{Morning, Evening, Neither}
 use Rattle.planets.specs.declared.Conjunction.{Conjunction}
-use Rattle.planets.specs.declared.Counted.{Counted}
+use Rattle.planets.specs.declared.Next.{Next}
 use Rattle.planets.specs.Planets.{conjunctionAt, nextAt}
 use Rattle.reading.specs.declared.Reading.{Reading}
 use Rattle.reading.specs.Readings.{windowDays, fitting}
@@ -108,7 +108,7 @@ unfoldable pub conjunctionText : ℕ → ℕ → List ℕ
 conjunctionText p k = told conjunctionLine (conjunctionAt p k)
 
 -- `NEXT planet day`: `NEXT k day parts divisor phase`
-unfoldable pub nextLine : Counted → List ℕ
+unfoldable pub nextLine : Next → List ℕ
 nextLine c = lined (word "NEXT" ∷ decimal (c .k) ∷ fieldsOfConjunction (c .conjunction))
 
 unfoldable pub nextText : ℕ → ℕ → List ℕ

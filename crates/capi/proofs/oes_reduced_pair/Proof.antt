@@ -1,6 +1,7 @@
 -- `capi::oes_reduced_pair` meets its contract. Assumes nothing.
 use mathlib.Core.Path.{ap, _∙_}
 use Rattle.planets.specs.Planets.{pairAt}
+use Rattle.planets.proofs.Reducing.{as-printed}
 use Rattle.capped.proofs.Paper.{capped-alike}
 use Rattle.flat.specs.Flat.{flatPair}
 use Rattle.capi.proofs.Asked.{asked-one}
@@ -18,7 +19,7 @@ flat-pair-requires : tie.Need-flat-pair-requires
 flat-pair-requires c κs = search needs
 
 returns : tie.Need-returns
-returns c = c .flat-pair .ensures ∙ ap flatPair (c .before .reduced-pair .ensures ∙ asked-one pairAt (capped-alike .pair) (c .before .before .cap .ensures))
+returns c = c .flat-pair .ensures ∙ ap flatPair (as-printed _ (c .before .reduced-pair .result) .0 (c .before .reduced-pair .ensures) ∙ asked-one pairAt (capped-alike .pair) (c .before .before .cap .ensures))
 
 pub oes-reduced-pair-spec : {M : Type 1} → statement M
 oes-reduced-pair-spec =

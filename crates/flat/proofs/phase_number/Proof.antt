@@ -1,6 +1,6 @@
 -- `flat::phase_number` meets its contract: each phase its own number. Assumes nothing.
 use mathlib.Core.Path.{ap, sym}
-use Rattle.planets.specs.Table.{phaseNumber}
+use Rattle.planets.specs.Planets.{phaseNumber}
 use borrow.Author.Needs.{needs}
 use Rattle.flat.proofs.phase_number.Statement.{statement}
 use Rattle.flat.proofs.phase_number.Tie as tie

@@ -9,7 +9,7 @@ use Rattle.planets.specs.declared.Conjunction.{Conjunction}
 use Rattle.planets.specs.Planets.{numbersOf, conjunctionDay, nextCount}
 use Rattle.planets.proofs.Moments.{next-small}
 use Rattle.planets.proofs.Five.{good-planets}
-use Rattle.planets.proofs.Made.{some-years, fits-32, counted, made, next-no-planet, next-no-day, next-none, next-one}
+use Rattle.planets.proofs.Made.{some-years, fits-32, withCount, made, next-no-planet, next-no-day, next-none, next-one}
 use borrow.Author.Needs.{needs}
 use Rattle.planets.proofs.next_conjunction.Statement.{statement}
 use Rattle.planets.proofs.next_conjunction.Tie as tie
@@ -42,7 +42,7 @@ conjunction-of-requires : tie.Need-conjunction-of-requires
 conjunction-of-requires c κs = (subst (λ (n : Numbers). 0 < n .conjunctions) (sym (c .before .before .before .numbers-of .ensures)) (good-planets (c .before .before .before .before .before .before .before .args .planet) (within-true 1 5 (c .before .before .before .before .before .before .before .args .planet) .0 (passed _ _ (c .before .before .before .before .before .before .in-range .ensures) (c .before .before .before .before .before .if1 .left))) .some), subst (λ (k : ℕ). k ≤ 14989859) (sym (c .before .before .next-count .ensures ∙ ap (λ (n : Numbers). nextCount n (c .before .before .before .before .before .before .before .args .day)) (c .before .before .before .numbers-of .ensures))) (le-trans (next-small (numbersOf (c .before .before .before .before .before .before .before .args .planet)) (good-planets (c .before .before .before .before .before .before .before .args .planet) (within-true 1 5 (c .before .before .before .before .before .before .before .args .planet) .0 (passed _ _ (c .before .before .before .before .before .before .in-range .ensures) (c .before .before .before .before .before .if1 .left)))) (c .before .before .before .before .before .before .before .args .day)) (c .before .before .before .before .if2 .left)), subst (λ (e : ℕ). e ≤ 14989859) (c .before .conjunction-day .ensures) (c .if3 .left))
 
 returns-4 : tie.Need-returns-4
-returns-4 c = ap is (ap (λ (x : Conjunction). counted (c .before .before .before .next-count .result) x) (c .conjunction-of .ensures) ∙ made (c .before .before .before .before .numbers-of .ensures) (c .before .before .before .next-count .ensures ∙ ap (λ (n : Numbers). nextCount n (c .before .before .before .before .before .before .before .before .args .day)) (c .before .before .before .before .numbers-of .ensures))) ∙ next-one (c .before .before .before .before .before .before .before .before .args .planet) (c .before .before .before .before .before .before .before .before .args .day) (passed _ _ (c .before .before .before .before .before .before .before .in-range .ensures) (c .before .before .before .before .before .before .if1 .left)) (c .before .before .before .before .before .if2 .left) (subst (λ (e : ℕ). e ≤ 14989859) (c .before .before .conjunction-day .ensures ∙ ap (λ (n : Numbers). conjunctionDay n (c .before .before .before .next-count .result)) (c .before .before .before .before .numbers-of .ensures) ∙ ap (λ (k : ℕ). conjunctionDay (numbersOf (c .before .before .before .before .before .before .before .before .args .planet)) k) (c .before .before .before .next-count .ensures ∙ ap (λ (n : Numbers). nextCount n (c .before .before .before .before .before .before .before .before .args .day)) (c .before .before .before .before .numbers-of .ensures))) (c .before .if3 .left))
+returns-4 c = ap is (ap (λ (x : Conjunction). withCount (c .before .before .before .next-count .result) x) (c .conjunction-of .ensures) ∙ made (c .before .before .before .before .numbers-of .ensures) (c .before .before .before .next-count .ensures ∙ ap (λ (n : Numbers). nextCount n (c .before .before .before .before .before .before .before .before .args .day)) (c .before .before .before .before .numbers-of .ensures))) ∙ next-one (c .before .before .before .before .before .before .before .before .args .planet) (c .before .before .before .before .before .before .before .before .args .day) (passed _ _ (c .before .before .before .before .before .before .before .in-range .ensures) (c .before .before .before .before .before .before .if1 .left)) (c .before .before .before .before .before .if2 .left) (subst (λ (e : ℕ). e ≤ 14989859) (c .before .before .conjunction-day .ensures ∙ ap (λ (n : Numbers). conjunctionDay n (c .before .before .before .next-count .result)) (c .before .before .before .before .numbers-of .ensures) ∙ ap (λ (k : ℕ). conjunctionDay (numbersOf (c .before .before .before .before .before .before .before .before .args .planet)) k) (c .before .before .before .next-count .ensures ∙ ap (λ (n : Numbers). nextCount n (c .before .before .before .before .before .before .before .before .args .day)) (c .before .before .before .before .numbers-of .ensures))) (c .before .if3 .left))
 
 pub next-conjunction-spec : {M : Type 1} → statement M
 next-conjunction-spec =
