@@ -162,9 +162,12 @@ none-left p d h = (there, back)
         let e = conjunctions p k .given (conjunctionOf n k) .1 (h, i, Literal.conjunction-is p k (conjunctionOf n k) h .1 refl) in
         omega (arith, none k (conjunctionOf n k) e, Moments.next-least n (Five.good-planets p h) d .0)
 
--- the answer behind the first two guards, and the one behind the first
+-- the first conjunction on or after the day; the answer behind the first two guards, and the one behind the first
+abbrev found : ℕ → ℕ → Next
+found p d = nextOf (numbersOf p) (nextCount (numbersOf p) d)
+
 abbrev left : ℕ → ℕ → Answer Next
-left p d = guard (leb (conjunctionDay (numbersOf p) (nextCount (numbersOf p) d)) 14989859) 20 (is (nextOf (numbersOf p) (nextCount (numbersOf p) d)))
+left p d = guard (leb (conjunctionDay (numbersOf p) (nextCount (numbersOf p) d)) 14989859) 20 (is (found p d))
 
 abbrev asked : ℕ → ℕ → Answer Next
 asked p d = guard (leb d 14989859) 6 (left p d)
@@ -174,7 +177,7 @@ unfolding nextOf conjunctionOf
 left-given p d n h = (there, back)
   where
     first : Next
-    first = nextOf (numbersOf p) (nextCount (numbersOf p) d)
+    first = found p d
 
     all : (left p d ≡ is n) ↔ (DayInRange (first .conjunction .day) × (_≡_ {A = Answer Next} (is first) (is n)))
     all = test-iff (holds-all (leb (first .conjunction .day) 14989859) 20 (is first) n) (at-most (first .conjunction .day) 14989859)
@@ -213,12 +216,16 @@ nexts p d =
           (under (test-iff (holds-all (within 1 5 p) 19 (asked p d) n) planet)
           (λ h. under (test-iff (holds-all (leb d 14989859) 6 (left p d) n) day) (λ i. left-given p d n h))));
       nineteen = turned (Iff·trans (Refusing.here (within 1 5 p) 19 (asked p d) no-nineteen) (fails (within 1 5 p) planet));
-      six = turned (under (test-iff (Refusing.further (within 1 5 p) 19 6 (asked p d) (λ e. omega (arith, e))) planet) (λ h. Iff·trans (Refusing.here (leb d 14989859) 6 (left p d) no-six) (fails (leb d 14989859) day)));
+      six =
+          turned
+          (under (test-iff (Refusing.further (within 1 5 p) 19 6 (asked p d) (λ e. omega (arith, e))) planet)
+          (λ h. Iff·trans (Refusing.here (leb d 14989859) 6 (left p d) no-six) (fails (leb d 14989859) day)));
       twenty =
           turned
           (three
           (under (test-iff (Refusing.further (within 1 5 p) 19 20 (asked p d) (λ e. omega (arith, e))) planet)
-          (λ h. under (test-iff (Refusing.further (leb d 14989859) 6 20 (left p d) (λ e. omega (arith, e))) day) (λ i. Iff·trans (one-refused in-range 20 (nextOf (numbersOf p) (nextCount (numbersOf p) d)) (at-most first 14989859)) (none-left p d h)))));
+          (λ h. under (test-iff (Refusing.further (leb d 14989859) 6 20 (left p d) (λ e. omega (arith, e))) day)
+          (λ i. Iff·trans (one-refused in-range 20 (found p d) (at-most first 14989859)) (none-left p d h)))));
     }
   where
     first : ℕ
@@ -234,10 +241,12 @@ nexts p d =
     day = at-most d 14989859
 
     no-six : left p d ≡ refused 6 → ⊥
-    no-six e = Refusing.is-none (nextOf (numbersOf p) (nextCount (numbersOf p) d)) 6 (Refusing.further in-range 20 6 (is (nextOf (numbersOf p) (nextCount (numbersOf p) d))) (λ q. omega (arith, q)) .0 e .1)
+    no-six e = Refusing.is-none (found p d) 6 (Refusing.further in-range 20 6 (is (found p d)) (λ q. omega (arith, q)) .0 e .1)
 
     no-nineteen : asked p d ≡ refused 19 → ⊥
-    no-nineteen e = Refusing.is-none (nextOf (numbersOf p) (nextCount (numbersOf p) d)) 19 (Refusing.further in-range 20 19 (is (nextOf (numbersOf p) (nextCount (numbersOf p) d))) (λ q. omega (arith, q)) .0 (Refusing.further (leb d 14989859) 6 19 (left p d) (λ q. omega (arith, q)) .0 e .1) .1)
+    no-nineteen e =
+        let l = Refusing.further (leb d 14989859) 6 19 (left p d) (λ q. omega (arith, q)) .0 e .1 in
+        Refusing.is-none (found p d) 19 (Refusing.further in-range 20 19 (is (found p d)) (λ q. omega (arith, q)) .0 l .1)
 
 pub next-is-a-conjunction : Paper.Next-is-a-conjunction
 unfolding conjunctionOf
@@ -249,7 +258,7 @@ next-is-a-conjunction p d n e =
     )
 
 pub reasons-of-planets : Paper.Reasons-of-planets
-reasons-of-planets = record { conjunctions = conjunctions; nexts = nexts; pair-nineteen = λ p. (λ q. q .1, λ no. (refl, no)) }
+reasons-of-planets = record { conjunctions = conjunctions; nexts = nexts; pair-nineteen = λ p. (λ q. q .0, λ none. (none, refl)) }
 
 pub figures-are-first : Paper.Figures-are-first
 unfolding conjunctionOf
@@ -284,10 +293,16 @@ wrong-planets =
     record {
       conjunction-refused = λ why e. given-not (conjunctionAt 1 0) (conjunctionOf (numbersOf 1) 0) (reasonNumber why) refl (sym e);
       next-refused = λ why e. given-not (nextAt 1 0) (nextOf (numbersOf 1) 0) (reasonNumber why) refl (sym e);
-      pair-refused = λ why q. q .1 (omega arith, omega arith);
-      conjunction-fixed = λ c x y. let e : _≡_ {A = ℕ} 0 398 = ap (λ (c : Conjunction). c .day) (Refusing.same (conjunctionOf (numbersOf 1) 0) (conjunctionOf (numbersOf 1) 1) .0 (sym x ∙ y)) in omega arith;
-      next-fixed = λ n x y. let e : _≡_ {A = ℕ} 0 1 = ap (λ (n : Next). n .k) (Refusing.same (nextOf (numbersOf 1) 0) (nextOf (numbersOf 1) 1) .0 (sym x ∙ y)) in omega arith;
-      pair-fixed = λ r x y. let e : _≡_ {A = ℕ} 4725 1876 = ap (λ (r : Pair). r .years) (Refusing.same (pairOf (numbersOf 1)) (pairOf (numbersOf 2)) .0 (sym (Reducing.as-printed 1 r .0 x) ∙ Reducing.as-printed 2 r .0 y)) in omega arith;
+      pair-refused = λ why q. q .0 (omega arith, omega arith);
+      conjunction-fixed = λ c x y.
+          let f = Refusing.same (conjunctionOf (numbersOf 1) 0) (conjunctionOf (numbersOf 1) 1) .0 (sym x ∙ y) in
+          let e : _≡_ {A = ℕ} 0 398 = ap (λ (c : Conjunction). c .day) f in omega arith;
+      next-fixed = λ n x y.
+          let f = Refusing.same (found 1 0) (found 1 1) .0 (sym x ∙ y) in
+          let e : _≡_ {A = ℕ} 0 1 = ap (λ (n : Next). n .k) f in omega arith;
+      pair-fixed = λ r x y.
+          let f = Refusing.same (pairOf (numbersOf 1)) (pairOf (numbersOf 2)) .0 (sym (Reducing.as-printed 1 r .0 x) ∙ Reducing.as-printed 2 r .0 y) in
+          let e : _≡_ {A = ℕ} 4725 1876 = ap (λ (r : Pair). r .years) f in omega arith;
       divisor-one = λ h. let e : _≡_ {A = ℕ} 6 1 = eq-one-of-dvd-one (h .every 6 (dvd-of-mod-eq-zero 6 refl) (dvd-of-mod-eq-zero 6 refl)) in omega arith;
       divisor-first = λ h. let e : _≡_ {A = ℕ} 6 0 = mod-eq-zero-of-dvd 12 (h .second) in omega arith;
     }

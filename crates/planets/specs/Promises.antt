@@ -1,7 +1,7 @@
 -- What the calls of the planets promise, for every input. Assumes nothing.
 use Prim.Native.Nat.{ℕ}
 use mathlib.Core.Path.{_≡_}
-use Rattle.rule.specs.Reasons.{Answer, is, refused, reasonNumber}
+use Rattle.rule.specs.Reasons.{Answer, is, refused, refused-with, reasonNumber}
 use Rattle.planets.specs.declared.Conjunction.{Conjunction}
 use Rattle.planets.specs.declared.ConjunctionTold.{ConjunctionTold}
 use Rattle.planets.specs.declared.ConjunctionTold.the-variants as Conjunction'
@@ -34,8 +34,12 @@ KthConjunction p k r = saidConjunction r ≡ conjunctionAt p k
 abbrev pub NextConjunction : ℕ → ℕ → NextTold → Type 0
 NextConjunction p d r = saidNext r ≡ nextAt p d
 
--- the pair that the two long counts of planet p are reduced to; "a planet outside 1 to 5 is 19" (Paper, Reduction: it is the printed
--- pair)
+-- the pair of planet p is what its two long counts are reduced to; "a planet outside 1 to 5 is 19", and there is no other refusal
+abbrev pub Reduces : ℕ → Answer Pair → Type 0
+Reduces p (is r) = Planet p × Reduced (longDays (figuresOf p)) (longCircle (figuresOf p)) r
+Reduces p (refused k) = (Planet p → ⊥) × (k ≡ 19)
+Reduces p (refused-with k n) = ⊥
+
+-- the pair of planet p (Paper, Reduction: it is the printed one)
 abbrev pub ReducedPair : ℕ → PairTold → Type 0
-ReducedPair p (Pair'.Is r) = Planet p × Reduced (longDays (figuresOf p)) (longCircle (figuresOf p)) r
-ReducedPair p (Pair'.Refused r) = (reasonNumber r ≡ 19) × (Planet p → ⊥)
+ReducedPair p r = Reduces p (saidPair r)
