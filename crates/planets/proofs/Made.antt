@@ -78,7 +78,9 @@ module _ (p : ℕ) where
       (passes (within 1 5 p) 19 _ e ∙ passes (leb d 14989859) 6 _ (le-leb d 14989859 i)
       ∙ stops (leb (conjunctionDay (numbersOf p) (nextCount (numbersOf p) d)) 14989859) 20 _ (beyond (conjunctionDay (numbersOf p) (nextCount (numbersOf p) d)) 14989859 h))
 
-  pub next-one : (d : ℕ) → within 1 5 p ≡ true → d ≤ 14989859 → conjunctionDay (numbersOf p) (nextCount (numbersOf p) d) ≤ 14989859 → is (nextOf (numbersOf p) (nextCount (numbersOf p) d)) ≡ nextAt p d
+  pub next-one :
+      (d : ℕ) → within 1 5 p ≡ true → d ≤ 14989859 → conjunctionDay (numbersOf p) (nextCount (numbersOf p) d) ≤ 14989859 →
+      is (nextOf (numbersOf p) (nextCount (numbersOf p) d)) ≡ nextAt p d
   unfolding nextAt
   next-one d e i h =
       sym

@@ -19,22 +19,22 @@ abbrev pub Planet : ℕ → Type 0
 Planet p = (1 ≤ p) × (p ≤ 5)
 
 -- "004 gives conjunctions per years": so many conjunctions in so many years, evening and morning ones by turns or neither
-abbrev pub numbers : ℕ → ℕ → Bool → Numbers
+abbrev numbers : ℕ → ℕ → Bool → Numbers
 numbers c y t = record { conjunctions = c; years = y; «by_turns» = t }
 
-abbrev pub jupiter : Numbers
+abbrev jupiter : Numbers
 jupiter = numbers 4327 4725 false
 
-abbrev pub mars : Numbers
+abbrev mars : Numbers
 mars = numbers 879 1876 false
 
-abbrev pub saturn : Numbers
+abbrev saturn : Numbers
 saturn = numbers 9096 9415 false
 
-abbrev pub venus : Numbers
+abbrev venus : Numbers
 venus = numbers 5830 4661 true
 
-abbrev pub mercury : Numbers
+abbrev mercury : Numbers
 mercury = numbers 11908 1889 true
 
 -- the planets in the request's order, 1 to 5

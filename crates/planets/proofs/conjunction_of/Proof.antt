@@ -25,16 +25,23 @@ cast-t6 : tie.Need-cast-t6
 cast-t6 c = search needs
 
 mul-t7 : tie.Need-mul-t7
-mul-t7 c = let y : c .before .before .before .args .n .years ≤ 65535 = search needs in record { fits = omega (arith, product (c .before .before .before .args .k) (c .before .before .before .args .n .years) 65535 (c .before .before .before .pre .1) y) }
+mul-t7 c =
+    let y : c .before .before .before .args .n .years ≤ 65535 = search needs in
+    record { fits = omega (arith, product (c .before .before .before .args .k) (c .before .before .before .args .n .years) 65535 (c .before .before .before .pre .1) y) }
 
 mul-t8 : tie.Need-mul-t8
-mul-t8 c = let y : c .before .before .before .args .n .years ≤ 65535 = search needs in record { fits = omega (arith, product (c .before .before .before .args .k) (c .before .before .before .args .n .years) 65535 (c .before .before .before .pre .1) y) }
+mul-t8 c =
+    let y : c .before .before .before .args .n .years ≤ 65535 = search needs in
+    record { fits = omega (arith, product (c .before .before .before .args .k) (c .before .before .before .args .n .years) 65535 (c .before .before .before .pre .1) y) }
 
 rem-t9 : tie.Need-rem-t9
 rem-t9 c = search needs
 
 cast-t10 : tie.Need-cast-t10
-cast-t10 c = let m : c .before .before .before .args .n .conjunctions ≤ 65535 = search needs in record { fits = omega (arith, m, mod-lt (c .before .before .before .args .k * c .before .before .before .args .n .years * 1461) (let l : 0 < 4 * c .before .before .before .args .n .conjunctions = omega (arith, c .before .before .before .pre .0) in l)) }
+cast-t10 c =
+    let m : c .before .before .before .args .n .conjunctions ≤ 65535 = search needs in
+    let l : 0 < 4 * c .before .before .before .args .n .conjunctions = omega (arith, c .before .before .before .pre .0) in
+    record { fits = omega (arith, m, mod-lt (c .before .before .before .args .k * c .before .before .before .args .n .years * 1461) l) }
 
 cast-t11 : tie.Need-cast-t11
 cast-t11 c = search needs

@@ -13,16 +13,28 @@ cast-result-2 : tie.Need-cast-result-2
 cast-result-2 c = search needs
 
 mul-result : tie.Need-mul-result
-mul-result c = let d : c .before .before .args .f .days ≤ 65535 = search needs in let m : c .before .before .args .f .divisor ≤ 65535 = search needs in let r : c .before .before .args .f .parts ≤ 65535 = search needs in record { fits = omega (arith, r, mul-le-mul d m) }
+mul-result c =
+    let d : c .before .before .args .f .days ≤ 65535 = search needs in
+    let m : c .before .before .args .f .divisor ≤ 65535 = search needs in
+    let r : c .before .before .args .f .parts ≤ 65535 = search needs in
+    record { fits = omega (arith, r, mul-le-mul d m) }
 
 cast-result-3 : tie.Need-cast-result-3
 cast-result-3 c = search needs
 
 add-result : tie.Need-add-result
-add-result c = let d : c .before .before .before .args .f .days ≤ 65535 = search needs in let m : c .before .before .before .args .f .divisor ≤ 65535 = search needs in let r : c .before .before .before .args .f .parts ≤ 65535 = search needs in record { fits = omega (arith, r, mul-le-mul d m) }
+add-result c =
+    let d : c .before .before .before .args .f .days ≤ 65535 = search needs in
+    let m : c .before .before .before .args .f .divisor ≤ 65535 = search needs in
+    let r : c .before .before .before .args .f .parts ≤ 65535 = search needs in
+    record { fits = omega (arith, r, mul-le-mul d m) }
 
 mul-result-2 : tie.Need-mul-result-2
-mul-result-2 c = let d : c .before .before .before .args .f .days ≤ 65535 = search needs in let m : c .before .before .before .args .f .divisor ≤ 65535 = search needs in let r : c .before .before .before .args .f .parts ≤ 65535 = search needs in record { fits = omega (arith, r, mul-le-mul d m) }
+mul-result-2 c =
+    let d : c .before .before .before .args .f .days ≤ 65535 = search needs in
+    let m : c .before .before .before .args .f .divisor ≤ 65535 = search needs in
+    let r : c .before .before .before .args .f .parts ≤ 65535 = search needs in
+    record { fits = omega (arith, r, mul-le-mul d m) }
 
 returns : tie.Need-returns
 returns c = search needs

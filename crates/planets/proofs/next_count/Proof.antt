@@ -21,13 +21,20 @@ mul-result : tie.Need-mul-result
 mul-result c = search needs
 
 mul-result-2 : tie.Need-mul-result-2
-mul-result-2 c = let m : c .before .before .args .n .conjunctions ≤ 65535 = search needs in let l : 4 * c .before .before .args .n .conjunctions ≤ 262140 = omega (arith, m) in record { fits = omega (arith, product (c .before .before .args .day) (4 * c .before .before .args .n .conjunctions) 262140 (c .before .before .pre .1) l) }
+mul-result-2 c =
+    let m : c .before .before .args .n .conjunctions ≤ 65535 = search needs in
+    let l : 4 * c .before .before .args .n .conjunctions ≤ 262140 = omega (arith, m) in
+    record { fits = omega (arith, product (c .before .before .args .day) (4 * c .before .before .args .n .conjunctions) 262140 (c .before .before .pre .1) l) }
 
 sub-result : tie.Need-sub-result
 sub-result c = search needs
 
 add-result : tie.Need-add-result
-add-result c = let m : c .before .before .args .n .conjunctions ≤ 65535 = search needs in let l : 4 * c .before .before .args .n .conjunctions ≤ 262140 = omega (arith, m) in let z : c .before .before .args .n .years ≤ 65535 = search needs in record { fits = omega (arith, z, product (c .before .before .args .day) (4 * c .before .before .args .n .conjunctions) 262140 (c .before .before .pre .1) l) }
+add-result c =
+    let m : c .before .before .args .n .conjunctions ≤ 65535 = search needs in
+    let l : 4 * c .before .before .args .n .conjunctions ≤ 262140 = omega (arith, m) in
+    let z : c .before .before .args .n .years ≤ 65535 = search needs in
+    record { fits = omega (arith, z, product (c .before .before .args .day) (4 * c .before .before .args .n .conjunctions) 262140 (c .before .before .pre .1) l) }
 
 div-result : tie.Need-div-result
 div-result c = search needs
