@@ -4,7 +4,7 @@ use Prim.Native.Nat.{ℕ, zero, suc, _+_, _*_, _%_, _≤_, _<_}
 use mathlib.Core.Path.{_≡_}
 use mathlib.Core.Logic.{_↔_, _⊎_}
 use Rattle.rule.specs.Counts.{DayInRange}
-use Rattle.rule.specs.Reasons.{reasonOf}
+use Rattle.rule.specs.declared.Reason.the-variants.{NoSuchDay, NoSuchPlanet, NoConjunctionLeft}
 use Rattle.rule.specs.declared.Reason.{Reason}
 use Rattle.planets.specs.declared.Numbers.{Numbers}
 use Rattle.planets.specs.declared.Pair.{Pair}
@@ -100,8 +100,8 @@ pub record Half-are-mornings : Type 0 where
 -- "Refusals: a planet outside 1 to 5 is 19, then 6 for .. a k whose conjunction falls outside it, however large"
 pub record ConjunctionReasons (p k : ℕ) : Type 0 where
   pub given : (c : Conjunction) → KthConjunction p k (Conjunction'.Is c) ↔ (Planet p × DayInRange (c .day) × IsConjunction p k c)
-  pub nineteen : KthConjunction p k (Conjunction'.Refused (reasonOf 19)) ↔ (Planet p → ⊥)
-  pub six : KthConjunction p k (Conjunction'.Refused (reasonOf 6)) ↔ (Planet p × (DayInRange (conjunctionDay (numbersOf p) k) → ⊥))
+  pub nineteen : KthConjunction p k (Conjunction'.Refused NoSuchPlanet) ↔ (Planet p → ⊥)
+  pub six : KthConjunction p k (Conjunction'.Refused NoSuchDay) ↔ (Planet p × (DayInRange (conjunctionDay (numbersOf p) k) → ⊥))
 
 -- what the first conjunction on or after day d holds: the least count, and the conjunction of that count, which is in range
 pub record IsNext (p d : ℕ) (n : Next) : Type 0 where
@@ -116,9 +116,9 @@ NoneLeft p d = (k : ℕ) (c : Conjunction) → KthConjunction p k (Conjunction'.
 -- 19, "then 6 for a given day out of range ..; 20, last, means that no conjunction falls from the given day to the end of the range"
 pub record NextReasons (p d : ℕ) : Type 0 where
   pub given : (n : Next) → NextConjunction p d (Next'.Is n) ↔ (Planet p × DayInRange d × IsNext p d n)
-  pub nineteen : NextConjunction p d (Next'.Refused (reasonOf 19)) ↔ (Planet p → ⊥)
-  pub six : NextConjunction p d (Next'.Refused (reasonOf 6)) ↔ (Planet p × (DayInRange d → ⊥))
-  pub twenty : NextConjunction p d (Next'.Refused (reasonOf 20)) ↔ (Planet p × DayInRange d × NoneLeft p d)
+  pub nineteen : NextConjunction p d (Next'.Refused NoSuchPlanet) ↔ (Planet p → ⊥)
+  pub six : NextConjunction p d (Next'.Refused NoSuchDay) ↔ (Planet p × (DayInRange d → ⊥))
+  pub twenty : NextConjunction p d (Next'.Refused NoConjunctionLeft) ↔ (Planet p × DayInRange d × NoneLeft p d)
 
 -- the one that is found is what the other call gives for its count, and it is not before the day
 abbrev pub Next-is-a-conjunction : Type 0
@@ -127,7 +127,7 @@ Next-is-a-conjunction = (p d : ℕ) (n : Next) → NextConjunction p d (Next'.Is
 pub record Reasons-of-planets : Type 0 where
   pub conjunctions : (p k : ℕ) → ConjunctionReasons p k
   pub nexts : (p d : ℕ) → NextReasons p d
-  pub pair-nineteen : (p : ℕ) → ReducedPair p (Pair'.Refused (reasonOf 19)) ↔ (Planet p → ⊥)
+  pub pair-nineteen : (p : ℕ) → ReducedPair p (Pair'.Refused NoSuchPlanet) ↔ (Planet p → ⊥)
 
 -- two numbers have one common divisor
 abbrev pub One-common-divisor : Type 0
