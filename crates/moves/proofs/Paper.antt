@@ -9,7 +9,7 @@ use lib.IntN.{ℤ, pos, negsuc, _+ℤ_, +ℤ-assoc}
 use borrow.Author.Tests.{leb-true, leb-false}
 use Rattle.rule.specs.Counts.{DayInRange, dayName, yearName}
 use Rattle.rule.specs.Rule.{monthStart, monthLength, monthOfDay, yearOfMonth, leap, monthAt, numberOf, leapMark}
-use Rattle.rule.specs.Reasons.{Answer, is, refused, refused-with}
+use Rattle.rule.specs.Reasons.{Answer, is, refused, refused-with, reasonNumber}
 use Rattle.rule.specs.Paper.{inNineteen}
 use Rattle.rule.proofs.Months
 use Rattle.rule.proofs.Years
@@ -20,6 +20,7 @@ use Rattle.rule.proofs.Answers.{given-not}
 use Rattle.rule.proofs.Paper as Rules
 use Rattle.dates.specs.declared.Date.{Date}
 use Rattle.dates.specs.Dates.{dateIn, dateOf, dayOfDate}
+use Rattle.dates.proofs.Cases
 use Rattle.dates.proofs.Days
 use Rattle.dates.proofs.Paper as Dates
 use Rattle.moves.specs.Moves.{landed, moved}
@@ -164,20 +165,18 @@ unique-move y k l m n a b p q = Dates.dated-once a b (p ∙ sym q)
 
 pub wrong-moves : Paper.Wrong-moves
 unfolding dateOf dateIn dayName
-wrong-moves = record { refusing-all = all; never-moving = never }
+wrong-moves =
+    record {
+      refusing-all = λ why h. given-not (moved 1 11 false 1 (pos 0)) (dateOf 0) (reasonNumber why) (by 0 (omega arith)) (sym h);
+      never-moving = λ a p q.
+          let e : _≡_ {A = Answer Date} (is (dateOf 0)) (is (dateOf 27759)) = sym (by 0 (omega arith)) ∙ sym p ∙ q ∙ by 27759 (omega arith) in
+          let f : dateOf 0 ≡ dateOf 27759 = cc in
+          omega (arith, ap (λ (s : Date). s .«day_name») f);
+      wrapping-back = λ r h. given-not (moved 1 11 false 1 (negsuc 0)) r 8 (sym h) (Landing.moved-found 1 11 false 1 (negsuc 0) 0 Cases.first-date);
+      wrapping-on = λ r h.
+          given-not (moved 41040 10 true 30 (pos 1)) r 8 (sym h)
+          (Landing.moved-found 41040 10 true 30 (pos 1) 14989859 Cases.last-date ∙ Landing.lands-out 14989860 (omega arith));
+    }
   where
-    by : (n : ℕ) → DayInRange (0 + n) → moved (dateOf 0 .year) (numberOf (dateOf 0 .month)) (leapMark (dateOf 0 .month)) (dateOf 0 .«day_of_month») (pos n) ≡ is (dateOf (0 + n))
-    by n h = from-date 0 (pos n) (dateOf 0) (omega arith) refl ∙ Landing.lands (0 + n) h
-
-    all : ((y k : ℕ) (l : Bool) (m : ℕ) (n : ℤ) → (r : ℕ) × (moved y k l m n ≡ refused r)) → ⊥
-    all h =
-        let a = h (dateOf 0 .year) (numberOf (dateOf 0 .month)) (leapMark (dateOf 0 .month)) (dateOf 0 .«day_of_month») (pos 0) in
-        given-not (moved (dateOf 0 .year) (numberOf (dateOf 0 .month)) (leapMark (dateOf 0 .month)) (dateOf 0 .«day_of_month») (pos 0)) (dateOf 0) (a .0)
-        (by 0 (omega arith)) (a .1)
-
-    never : ((y k : ℕ) (l : Bool) (m : ℕ) (n : ℤ) → moved y k l m n ≡ moved y k l m (pos 0)) → ⊥
-    never h =
-        let a : _≡_ {A = Answer Date} (is (dateOf 1)) (is (dateOf 0)) = sym (by 1 (omega arith)) ∙ h (dateOf 0 .year) (numberOf (dateOf 0 .month)) (leapMark (dateOf 0 .month)) (dateOf 0 .«day_of_month») (pos 1) ∙ by 0 (omega arith) in
-        let b : dateOf 1 ≡ dateOf 0 = cc in
-        let c : dateOf 1 .«day_name» ≡ dateOf 0 .«day_name» = ap (λ (s : Date). s .«day_name») b in
-        omega (arith, c)
+    by : (n : ℕ) → DayInRange (0 + n) → moved 1 11 false 1 (pos n) ≡ is (dateOf (0 + n))
+    by n h = Landing.moved-found 1 11 false 1 (pos n) 0 Cases.first-date ∙ Landing.lands (0 + n) h

@@ -3,18 +3,19 @@
 use Prim.Native.Nat.{ℕ, _+_, _<_}
 use mathlib.Core.Path.{_≡_}
 use mathlib.Core.Logic.{_↔_}
-use mathlib.Core.Bool.{Bool, _&&_}
+use mathlib.Core.Bool.{Bool, true, false, _&&_}
 use lib.ListN.{length}
 use lib.Dec.{leb}
-use lib.IntN.{ℤ, pos, _+ℤ_}
+use lib.IntN.{ℤ, pos, negsuc, _+ℤ_}
 use Rattle.rule.specs.Counts.{YearInRange, DayInRange}
 use Rattle.rule.specs.Lists.{those}
 use Rattle.rule.specs.Rule.{monthStart, numberOf, leapMark}
 use Rattle.rule.specs.Reasons.{is, refused}
 use Rattle.rule.specs.Paper.{further}
+use Rattle.rule.specs.declared.Reason.{Reason}
 use Rattle.dates.specs.declared.Date.{Date}
 use Rattle.dates.specs.declared.Dated.{Dated}
-use Rattle.dates.specs.declared.Dated.the-variants.{Is}
+use Rattle.dates.specs.declared.Dated.the-variants.{Is, Refused}
 use Rattle.dates.specs.Dates.{dateOf, dateAt, dayOfDate}
 use Rattle.moves.specs.Moves.{moved, MoveDate}
 
@@ -72,7 +73,11 @@ Law-of-19 =
 abbrev pub Unique-move : Type 0
 Unique-move = (y k : ℕ) (l : Bool) (m : ℕ) (n : ℤ) (a b : Dated) → MoveDate y k l m n a → MoveDate y k l m n b → a ≡ b
 
--- wrong versions, each shut out at some input: one that refuses all, one that never moves
+-- wrong versions, each shut out at a named input: one that refuses all; one that never moves, a move of the first date by 0 and
+-- by 27,759 having one answer; one that wraps: "Day −1 does not exist: moving there is reason 8", nor does a day after the last, whose
+-- date is year 41,040, leap 10, day 30
 pub record Wrong-moves : Type 0 where
-  pub refusing-all : ((y k : ℕ) (l : Bool) (m : ℕ) (n : ℤ) → (r : ℕ) × (moved y k l m n ≡ refused r)) → ⊥
-  pub never-moving : ((y k : ℕ) (l : Bool) (m : ℕ) (n : ℤ) → moved y k l m n ≡ moved y k l m (pos 0)) → ⊥
+  pub refusing-all : (why : Reason) → MoveDate 1 11 false 1 (pos 0) (Refused why) → ⊥
+  pub never-moving : (a : Dated) → MoveDate 1 11 false 1 (pos 0) a → MoveDate 1 11 false 1 (pos 27759) a → ⊥
+  pub wrapping-back : (r : Date) → MoveDate 1 11 false 1 (negsuc 0) (Is r) → ⊥
+  pub wrapping-on : (r : Date) → MoveDate 41040 10 true 30 (pos 1) (Is r) → ⊥
