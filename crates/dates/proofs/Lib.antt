@@ -2,4 +2,5 @@
 pub mod Cases
 pub mod Named
 pub mod Days
+pub mod Laws
 pub mod Paper

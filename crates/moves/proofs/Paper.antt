@@ -1,28 +1,29 @@
 -- Demand 3, proved, each statement under its name in small letters. Assumes nothing.
 use Prim.Native.Nat.{ℕ, _+_, _-_, _≤_}
 use native.Mathlib.Omega.{arith}
-use mathlib.Core.Path.{_≡_, refl, ap, ap₂, sym, _∙_, subst₂}
-use mathlib.Core.Logic.{_↔_}
-use mathlib.Core.Bool.{Bool, true, false, _&&_}
+use mathlib.Core.Path.{_≡_, refl, ap, sym, _∙_, subst₂}
+use mathlib.Core.Logic.{_↔_, Iff·trans, eq-comm}
+use mathlib.Core.Bool.{Bool, true, false}
 use lib.Dec.{leb}
 use lib.IntN.{ℤ, pos, negsuc, _+ℤ_, +ℤ-assoc}
 use borrow.Author.Tests.{leb-true, leb-false}
 use Rattle.rule.specs.Counts.{DayInRange, dayName, yearName}
-use Rattle.rule.specs.Rule.{monthStart, monthLength, monthOfDay, yearOfMonth, leap, monthAt, numberOf, leapMark}
-use Rattle.rule.specs.Reasons.{Answer, is, refused, refused-with, reasonNumber}
-use Rattle.rule.specs.Paper.{inNineteen}
+use Rattle.rule.specs.Rule.{monthStart, monthLength, monthOfDay, yearOfMonth, monthAt, numberOf, leapMark}
+use Rattle.rule.specs.Reasons.{Answer, is, refused, refused-with, reasonNumber, reasonOf}
+use Rattle.rule.specs.declared.Reason.{Reason}
 use Rattle.rule.proofs.Months
 use Rattle.rule.proofs.Years
 use Rattle.rule.proofs.Counts
 use Rattle.rule.proofs.Leap as Leaps
-use Rattle.rule.proofs.Lists.{length-same}
-use Rattle.rule.proofs.Answers.{given-not}
-use Rattle.rule.proofs.Paper as Rules
+use Rattle.rule.proofs.Answers.{given-not, reason-back}
 use Rattle.dates.specs.declared.Date.{Date}
+use Rattle.dates.specs.declared.Dated.{Dated}
 use Rattle.dates.specs.Dates.{dateIn, dateOf, dayOfDate}
+use Rattle.dates.specs.Promises.{saidDate}
 use Rattle.dates.proofs.Cases
 use Rattle.dates.proofs.Days
-use Rattle.dates.proofs.Paper as Dates
+use Rattle.dates.proofs.Laws.{ownDay, back-to-day}
+use Rattle.dates.proofs.Paper.{dated-once}
 use Rattle.moves.specs.Moves.{landed, moved}
 use Rattle.moves.specs.Paper as Paper
 use Rattle.moves.specs.Paper.{SeventySixLater}
@@ -43,16 +44,6 @@ landing (pos d) = (out, back)
     back w = let o : ¬ (d ≤ 14989859) = λ h. w (d, refl, h) in Landing.lands-out d (omega arith)
 landing (negsuc d) = (λ h w. let g : negsuc d ≡ pos (w .0) = w .1 in let o : _≡_ {A = ℕ} 0 1 = cc in omega arith, λ w. refl)
 
-pub move-of-a-date : Paper.Move-of-a-date
-move-of-a-date y k l m d n found =
-    record {
-      gives = λ e f r. Landing.moved-found y k l m n d found ∙ ap landed f ∙ Landing.lands e r ∙ sym (Days.a-day e r);
-      eight = (
-        λ h. landing (pos d +ℤ n) .0 (sym (Landing.moved-found y k l m n d found) ∙ h),
-        λ w. Landing.moved-found y k l m n d found ∙ landing (pos d +ℤ n) .1 w,
-      );
-    }
-
 -- a landing has no reason but 8
 only-eight : (z : ℤ) (r : ℕ) → landed z ≡ refused r → r ≡ 8
 only-eight (pos d) r = go (leb d 14989859) refl
@@ -62,11 +53,33 @@ only-eight (pos d) r = go (leb d 14989859) refl
     go false e h = let a : _≡_ {A = Answer Date} (refused 8) (refused r) = sym (Landing.lands-out d (leb-false d 14989859 e)) ∙ h in cc
 only-eight (negsuc d) r = λ h. let a : _≡_ {A = Answer Date} (refused 8) (refused r) = h in cc
 
-pub date's-own-reasons : Paper.Date's-own-reasons
-date's-own-reasons y k l m r n h = (own (dayOfDate y k l m) refl, Landing.moved-refused y k l m n r)
+pub move-of-a-date : Paper.Move-of-a-date
+move-of-a-date y k l m d n found =
+    record {
+      gives = λ e f r a. to-date a (ends ∙ ap landed f ∙ Landing.lands e r ∙ sym (Days.a-day e r));
+      eight = λ why. (
+        λ h.
+            let only : reasonNumber why ≡ 8 = only-eight (pos d +ℤ n) (reasonNumber why) (sym ends ∙ sym h) in
+            (sym (reason-back why) ∙ ap reasonOf only, landing (pos d +ℤ n) .0 (sym ends ∙ sym h ∙ ap refused only)),
+        λ w. ap (λ (why : Reason). refused (reasonNumber why)) (w .0) ∙ sym (ends ∙ landing (pos d +ℤ n) .1 (w .1)),
+      );
+    }
   where
+    ends : moved y k l m n ≡ landed (pos d +ℤ n)
+    ends = Landing.moved-found y k l m n d (sym found)
+
+    to-date : {x z : Answer Date} (a : Dated) → x ≡ z → (saidDate a ≡ x) ↔ (saidDate a ≡ z)
+    to-date a e = (λ h. h ∙ e, λ h. h ∙ sym e)
+
+pub date's-own-reasons : Paper.Date's-own-reasons
+date's-own-reasons y k l m n why h =
+    Iff·trans eq-comm (Iff·trans (own (dayOfDate y k l m) refl, Landing.moved-refused y k l m n (reasonNumber why)) eq-comm)
+  where
+    r : ℕ
+    r = reasonNumber why
+
     own : (a : Answer ℕ) → dayOfDate y k l m ≡ a → moved y k l m n ≡ refused r → dayOfDate y k l m ≡ refused r
-    own (is d) e g = absurd (omega (arith, only-eight (pos d +ℤ n) r (sym (Landing.moved-found y k l m n d e) ∙ g)))
+    own (is d) e g = absurd (h (only-eight (pos d +ℤ n) r (sym (Landing.moved-found y k l m n d e) ∙ g)))
     own (refused j) e g = let a : _≡_ {A = Answer Date} (refused j) (refused r) = sym (Landing.moved-refused y k l m n j e) ∙ g in e ∙ ap refused (cc)
     own (refused-with j i) e g =
         let a : _≡_ {A = Answer Date} (refused-with j i) (refused r) = sym (Landing.moved-refused-with y k l m n j i e) ∙ g in
@@ -105,14 +118,13 @@ answered y k l m n r h = go (dayOfDate y k l m) refl
 from-date : (e : ℕ) (n : ℤ) (r : Date) → DayInRange e → r ≡ dateOf e →
     moved (r .year) (numberOf (r .month)) (leapMark (r .month)) (r .«day_of_month») n ≡ landed (pos e +ℤ n)
 from-date e n r i f =
-    ap (λ (s : Date). moved (s .year) (numberOf (s .month)) (leapMark (s .month)) (s .«day_of_month») n) f
-    ∙ Landing.moved-found (dateOf e .year) (numberOf (dateOf e .month)) (leapMark (dateOf e .month)) (dateOf e .«day_of_month») n e (Dates.there-and-back e i)
+    Landing.moved-found (r .year) (numberOf (r .month)) (leapMark (r .month)) (r .«day_of_month») n e (ap ownDay f ∙ back-to-day e i)
 
 pub moves-add : Paper.Moves-add
 moves-add y k l m a b date second whole p q s =
     let w = answered y k l m a date (sym p) in
     let at : Landed (pos (w .0) +ℤ a) date = w .2 in
-    Dates.dated-once second whole
+    dated-once second whole
     (q
     ∙ from-date (at .e) b date (at .inside) (at .date)
     ∙ ap (λ (z : ℤ). landed (z +ℤ b)) (sym (at .there))
@@ -147,21 +159,8 @@ law-of-76 y k l m r s p q =
     let b : w .0 + 27759 ≡ there .e = let g : pos (w .0 + 27759) ≡ pos (there .e) = there .there in cc in
     subst₂ SeventySixLater (sym (here .date)) (ap dateOf {x = here .e + 27759} (omega arith) ∙ sym (there .date)) (later (here .e))
 
--- the date of a month's first day has the month's own year and mark
-pub law-of-19 : Paper.Law-of-19
-unfolding dateOf dateIn
-law-of-19 y r s = (
-  length-same (Paper.bearsNineteen y) (inNineteen y) 0 507600 (λ i h. years (0 + i)) ∙ Rules.nineteen-years y r s .0,
-  length-same (λ n. Paper.bearsNineteen y n && leapMark (dateOf (monthStart n) .month)) (λ n. inNineteen y n && leap n) 0 507600
-      (λ i h. ap₂ _&&_ (years (0 + i)) (ap (λ (n : ℕ). leapMark (monthAt n)) (Months.of-first-day (0 + i)) ∙ Leaps.mark-at (0 + i)))
-      ∙ Rules.nineteen-years y r s .1,
-)
-  where
-    years : (n : ℕ) → Paper.bearsNineteen y n ≡ inNineteen y n
-    years n = ap (λ (p : ℕ). leb y (yearOfMonth p) && leb (yearOfMonth p) (y + 18)) (Months.of-first-day n)
-
 pub unique-move : Paper.Unique-move
-unique-move y k l m n a b p q = Dates.dated-once a b (p ∙ sym q)
+unique-move y k l m n a b p q = dated-once a b (p ∙ sym q)
 
 pub wrong-moves : Paper.Wrong-moves
 unfolding dateOf dateIn dayName

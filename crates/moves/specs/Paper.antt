@@ -1,43 +1,46 @@
 -- Demand 3, as statements. proofs/Paper.antt proves each under the same name in small letters.
 -- Assumes nothing.
-use Prim.Native.Nat.{ℕ, _+_, _<_}
+use Prim.Native.Nat.{ℕ, _+_}
 use mathlib.Core.Path.{_≡_}
-use mathlib.Core.Logic.{_↔_}
-use mathlib.Core.Bool.{Bool, true, false, _&&_}
-use lib.ListN.{length}
-use lib.Dec.{leb}
+use mathlib.Core.Logic.{_↔_, _≢_}
+use mathlib.Core.Bool.{Bool, true, false}
 use lib.IntN.{ℤ, pos, negsuc, _+ℤ_}
-use Rattle.rule.specs.Counts.{YearInRange, DayInRange}
-use Rattle.rule.specs.Lists.{those}
-use Rattle.rule.specs.Rule.{monthStart, numberOf, leapMark}
-use Rattle.rule.specs.Reasons.{is, refused}
+use Rattle.rule.specs.Counts.{DayInRange}
+use Rattle.rule.specs.Rule.{numberOf, leapMark}
+use Rattle.rule.specs.Reasons.{reasonNumber}
 use Rattle.rule.specs.Paper.{further}
 use Rattle.rule.specs.declared.Reason.{Reason}
+use Rattle.rule.specs.declared.Reason.the-variants.{MoveOutOfRange}
 use Rattle.dates.specs.declared.Date.{Date}
 use Rattle.dates.specs.declared.Dated.{Dated}
-use Rattle.dates.specs.declared.Dated.the-variants.{Is, Refused}
-use Rattle.dates.specs.Dates.{dateOf, dateAt, dayOfDate}
-use Rattle.moves.specs.Moves.{moved, MoveDate}
+use Rattle.dates.specs.declared.Dated.the-variants as Dated'
+use Rattle.dates.specs.declared.DayFound.the-variants as DayFound'
+use Rattle.dates.specs.Promises.{DateOfDay, DayOfDate}
+use Rattle.moves.specs.Moves.{MoveDate}
 
 -- "For a date in range, a move by n days gives demand 2's date for the day n later, and is refused only if that day is out of
--- range": the day n later is e
+-- range": d is the date's day, and e the day n later; with reason 8, "a move ends outside the range"
 pub record MoveOfADate (y k : ℕ) (l : Bool) (m d : ℕ) (n : ℤ) : Type 0 where
-  pub gives : (e : ℕ) → pos d +ℤ n ≡ pos e → DayInRange e → moved y k l m n ≡ dateAt e
-  pub eight : (moved y k l m n ≡ refused 8) ↔ (((e : ℕ) × (pos d +ℤ n ≡ pos e) × DayInRange e) → ⊥)
+  pub gives : (e : ℕ) → pos d +ℤ n ≡ pos e → DayInRange e → (a : Dated) → MoveDate y k l m n a ↔ DateOfDay e a
+  pub eight :
+      (why : Reason) →
+      MoveDate y k l m n (Dated'.Refused why) ↔ ((why ≡ MoveOutOfRange) × (((e : ℕ) × (pos d +ℤ n ≡ pos e) × DayInRange e) → ⊥))
 
 abbrev pub Move-of-a-date : Type 0
-Move-of-a-date = (y k : ℕ) (l : Bool) (m d : ℕ) (n : ℤ) → dayOfDate y k l m ≡ is d → MoveOfADate y k l m d n
+Move-of-a-date = (y k : ℕ) (l : Bool) (m d : ℕ) (n : ℤ) → DayOfDate y k l m (DayFound'.Is d) → MoveOfADate y k l m d n
 
--- "a move first the date's own reasons": it is refused with r, one of 1 to 5, exactly where the date is
+-- "a move first the date's own reasons, then 8": with any reason but 8 a move is refused exactly where its date is
 abbrev pub Date's-own-reasons : Type 0
-Date's-own-reasons = (y k : ℕ) (l : Bool) (m r : ℕ) (n : ℤ) → r < 8 → (moved y k l m n ≡ refused r) ↔ (dayOfDate y k l m ≡ refused r)
+Date's-own-reasons =
+    (y k : ℕ) (l : Bool) (m : ℕ) (n : ℤ) (why : Reason) → reasonNumber why ≢ 8 →
+    MoveDate y k l m n (Dated'.Refused why) ↔ DayOfDate y k l m (DayFound'.Refused why)
 
 -- "If the move by a stays in range and a plus b can be written, moving by a and then b equals moving by a plus b, refusals
 -- too": over the calls' own answers, the second move taking the first one's date by its own four things
 abbrev pub Moves-add : Type 0
 Moves-add =
     (y k : ℕ) (l : Bool) (m : ℕ) (a b : ℤ) (date : Date) (second whole : Dated) →
-    MoveDate y k l m a (Is date) →
+    MoveDate y k l m a (Dated'.Is date) →
     MoveDate (date .year) (numberOf (date .month)) (leapMark (date .month)) (date .«day_of_month») b second →
     MoveDate y k l m (a +ℤ b) whole →
     second ≡ whole
@@ -56,18 +59,7 @@ pub record SeventySixLater (r s : Date) : Type 0 where
 abbrev pub Law-of-76 : Type 0
 Law-of-76 =
     (y k : ℕ) (l : Bool) (m : ℕ) (r s : Date) →
-    MoveDate y k l m (pos 0) (Is r) → MoveDate y k l m (pos 27759) (Is s) → SeventySixLater r s
-
--- a month as the date of its first day has it: its year is one of the nineteen from y on
-abbrev pub bearsNineteen : ℕ → ℕ → Bool
-bearsNineteen y n = leb y (dateOf (monthStart n) .year) && leb (dateOf (monthStart n) .year) (y + 18)
-
--- "Any nineteen consecutive years in range hold 235 months, exactly seven of them leap", over the years that dates bear
-abbrev pub Law-of-19 : Type 0
-Law-of-19 =
-    (y : ℕ) → YearInRange y → YearInRange (y + 18) →
-    (length (those (bearsNineteen y) 0 507600) ≡ 235)
-    × (length (those (λ n. bearsNineteen y n && leapMark (dateOf (monthStart n) .month)) 0 507600) ≡ 7)
+    MoveDate y k l m (pos 0) (Dated'.Is r) → MoveDate y k l m (pos 27759) (Dated'.Is s) → SeventySixLater r s
 
 -- the promise leaves one answer
 abbrev pub Unique-move : Type 0
@@ -77,7 +69,7 @@ Unique-move = (y k : ℕ) (l : Bool) (m : ℕ) (n : ℤ) (a b : Dated) → MoveD
 -- by 27,759 having one answer; one that wraps: "Day −1 does not exist: moving there is reason 8", nor does a day after the last, whose
 -- date is year 41,040, leap 10, day 30
 pub record Wrong-moves : Type 0 where
-  pub refusing-all : (why : Reason) → MoveDate 1 11 false 1 (pos 0) (Refused why) → ⊥
+  pub refusing-all : (why : Reason) → MoveDate 1 11 false 1 (pos 0) (Dated'.Refused why) → ⊥
   pub never-moving : (a : Dated) → MoveDate 1 11 false 1 (pos 0) a → MoveDate 1 11 false 1 (pos 27759) a → ⊥
-  pub wrapping-back : (r : Date) → MoveDate 1 11 false 1 (negsuc 0) (Is r) → ⊥
-  pub wrapping-on : (r : Date) → MoveDate 41040 10 true 30 (pos 1) (Is r) → ⊥
+  pub wrapping-back : (r : Date) → MoveDate 1 11 false 1 (negsuc 0) (Dated'.Is r) → ⊥
+  pub wrapping-on : (r : Date) → MoveDate 41040 10 true 30 (pos 1) (Dated'.Is r) → ⊥

@@ -4,7 +4,7 @@ use Rattle.rule.specs.Counts.{DayInRange}
 use Rattle.rule.specs.Reasons.{is, reasonNumber}
 use Rattle.dates.specs.Dates.{dayOfDate}
 use Rattle.dates.specs.Promises.{saidDay}
-use Rattle.dates.proofs.Paper.{back-and-there}
+use Rattle.dates.proofs.Laws.{found-date}
 use mir.Syntax.{w64}
 use mir.ValLaws.{toZ-ofZ}
 use Rattle.moves.specs.Moves.{wayOf}
@@ -31,7 +31,7 @@ found : (c : tie.After-day) → dayOfDate (c .before .before .before .args .year
 found c = sym (c .before .before .day-of-date .ensures) ∙ ap saidDay (c .day .given .1)
 
 in-range : (c : tie.After-day) → DayInRange (c .day .given .0 .0)
-in-range c = back-and-there (c .before .before .before .args .year) (c .before .before .before .args .number) (c .before .before .before .args .leap) (c .before .before .before .args .day-of-month) (c .day .given .0 .0) (found c) .0
+in-range c = found-date (c .before .before .before .args .year) (c .before .before .before .args .number) (c .before .before .before .args .leap) (c .before .before .before .args .day-of-month) (c .day .given .0 .0) (found c) .0
 
 enum-known-n : tie.Need-enum-known-n
 enum-known-n c = search needs
