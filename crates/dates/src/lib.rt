@@ -36,10 +36,11 @@ pub fn date_at(day: u32) -> Date
     let n = rule::month_of_day(day);
     let year = rule::year_of_month(n);
     let month = rule::month_at(n);
+    let start = rule::month_start(n);
     Date {
         year: year,
         month: month,
-        day_of_month: (day - rule::month_start(n) + 1) as u8,
+        day_of_month: (day - start + 1) as u8,
         month_length: rule::month_length(n),
         day_name: rule::day_name(day),
         year_name: rule::year_name(year),

@@ -114,11 +114,12 @@ answered y k l m n r h = go (dayOfDate y k l m) refl
     go (refused j) e = let a : _≡_ {A = Answer Date} (refused j) (is r) = sym (Landing.moved-refused y k l m n j e) ∙ h in absurd (let o : _≡_ {A = ℕ} 0 1 = cc in omega arith)
     go (refused-with j i) e = let a : _≡_ {A = Answer Date} (refused-with j i) (is r) = sym (Landing.moved-refused-with y k l m n j i e) ∙ h in absurd (let o : _≡_ {A = ℕ} 0 1 = cc in omega arith)
 
--- from a date's own four things a move starts at its day
-from-date : (e : ℕ) (n : ℤ) (r : Date) → DayInRange e → r ≡ dateOf e →
-    moved (r .year) (numberOf (r .month)) (leapMark (r .month)) (r .«day_of_month») n ≡ landed (pos e +ℤ n)
-from-date e n r i f =
-    Landing.moved-found (r .year) (numberOf (r .month)) (leapMark (r .month)) (r .«day_of_month») n e (ap ownDay f ∙ back-to-day e i)
+-- from a date's own four things a move starts at its day; the day of month by itself, so that a statement's reaches omega
+from-date : (e m : ℕ) (n : ℤ) (r : Date) → DayInRange e → r ≡ dateOf e → m ≡ r .«day_of_month» →
+    moved (r .year) (numberOf (r .month)) (leapMark (r .month)) m n ≡ landed (pos e +ℤ n)
+from-date e m n r i f own =
+    Landing.moved-found (r .year) (numberOf (r .month)) (leapMark (r .month)) m n e
+    (ap (dayOfDate (r .year) (numberOf (r .month)) (leapMark (r .month))) own ∙ ap ownDay f ∙ back-to-day e i)
 
 pub moves-add : Paper.Moves-add
 moves-add y k l m a b date second whole p q s =
@@ -126,7 +127,7 @@ moves-add y k l m a b date second whole p q s =
     let at : Landed (pos (w .0) +ℤ a) date = w .2 in
     dated-once second whole
     (q
-    ∙ from-date (at .e) b date (at .inside) (at .date)
+    ∙ from-date (at .e) _ b date (at .inside) (at .date) (omega arith)
     ∙ ap (λ (z : ℤ). landed (z +ℤ b)) (sym (at .there))
     ∙ ap landed (+ℤ-assoc (pos (w .0)) a b)
     ∙ sym (Landing.moved-found y k l m (a +ℤ b) (w .0) (w .1))

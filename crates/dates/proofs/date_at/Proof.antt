@@ -1,6 +1,7 @@
 -- `dates::date_at` meets its contract: a date made of its parts, each as the rule has it. Assumes nothing.
 use native.Mathlib.Omega.{arith}
 use mathlib.Core.Path.{_≡_, ap, _∙_}
+use Rattle.rule.specs.Counts.{dayName}
 use Rattle.rule.specs.Rule.{monthStart, monthOfDay}
 use Rattle.rule.proofs.Months.{of-day-range, of-day-low, length-range}
 use Rattle.dates.proofs.Days.{day-of-month, made}
@@ -42,8 +43,13 @@ day-name-requires c κs = search needs
 year-name-requires : tie.Need-year-name-requires
 year-name-requires c κs = search needs
 
+-- the name is that of the day itself
+own-name : (c : tie.After-year-name) → c .before .day-name .result ≡ dayName (c .before .before .before .before .before .before .before .args .day)
+unfolding dayName
+own-name c = omega (arith, c .before .day-name .ensures)
+
 returns : tie.Need-returns
-returns c = made (c .before .before .before .before .before .before .before .args .day) (c .before .before .before .before .before .before .month-of-day .result) (c .before .before .before .before .before .year-of-month .result) (c .before .before .before .month-start .result) (c .before .before .month-length .result) (c .before .day-name .result) (c .year-name .result) (c .before .before .before .before .month-at .result) (c .before .before .before .before .before .before .month-of-day .ensures) (c .before .before .before .before .before .year-of-month .ensures) (c .before .before .before .before .month-at .ensures) (c .before .before .before .month-start .ensures) (c .before .before .month-length .ensures) (c .before .day-name .ensures) (c .year-name .ensures)
+returns c = made (c .before .before .before .before .before .before .before .args .day) (c .before .before .before .before .before .before .month-of-day .result) (c .before .before .before .before .before .year-of-month .result) (c .before .before .before .month-start .result) (c .before .before .month-length .result) (c .before .day-name .result) (c .year-name .result) (c .before .before .before .before .month-at .result) (c .before .before .before .before .before .before .month-of-day .ensures) (c .before .before .before .before .before .year-of-month .ensures) (c .before .before .before .before .month-at .ensures) (c .before .before .before .month-start .ensures) (c .before .before .month-length .ensures) (own-name (c)) (c .year-name .ensures)
 
 pub date-at-spec : {M : Type 1} → statement M
 date-at-spec =
