@@ -17,7 +17,7 @@ use Rattle.rule.specs.declared.Quarter.{Quarter}
 use Rattle.facts.specs.declared.SolsticeYear.{SolsticeYear}
 use Rattle.facts.specs.declared.YearFacts.{YearFacts}
 use Rattle.facts.specs.declared.MonthFacts.{MonthFacts}
-use Rattle.dates.proofs.Paper.{back-and-there}
+use Rattle.dates.proofs.Laws.{found-date}
 use Rattle.moves.proofs.Landing.{lands-out, back-out, moved-refused, moved-refused-with, moved-found}
 use Rattle.facts.specs.Facts.{solsticeYear, yearFacts, monthFacts, quarterOf, solsticeYearAt, yearFactsAt, monthFactsAt, quarterAt, termAt}
 use Rattle.planets.specs.declared.Numbers.{Numbers}
@@ -117,7 +117,7 @@ far-capped y k l m n = go (dayOfDate y k l m) refl
   where
     go : (a : Answer ℕ) → dayOfDate y k l m ≡ a → moved y k l m (cappedMove n) ≡ moved y k l m n
     go (is d) e =
-        moved-found y k l m (cappedMove n) d e ∙ far-lands d n (back-and-there y k l m d e .0) ∙ sym (moved-found y k l m n d e)
+        moved-found y k l m (cappedMove n) d e ∙ far-lands d n (found-date y k l m d e .0) ∙ sym (moved-found y k l m n d e)
     go (refused r) e = moved-refused y k l m (cappedMove n) r e ∙ sym (moved-refused y k l m n r e)
     go (refused-with r i) e = moved-refused-with y k l m (cappedMove n) r i e ∙ sym (moved-refused-with y k l m n r i e)
 

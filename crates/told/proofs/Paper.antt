@@ -10,11 +10,14 @@ use lib.ListN.{getD}
 use Rattle.rule.specs.Counts.{DayInRange}
 use Rattle.rule.specs.Rule.{monthStart, monthLength, monthOfDay, termDay, yearTerm, numberOf, leapMark}
 use Rattle.rule.specs.Reasons.{Answer, is, refused, refused-with, guard, within, andThen, reasonNumber}
+use Rattle.rule.specs.declared.Reason.the-variants.{MoveOutOfRange}
 use Rattle.rule.proofs.Answers.{at-most, holds-all}
 use Rattle.rule.proofs.Leap.{number-at, mark-at}
 use Rattle.dates.specs.declared.Date.{Date}
 use Rattle.dates.specs.Dates.{dateIn, dateOf, dateAt, isThere, monthAsked, dayInMonth, dayOfNamed, dayOfDate}
-use Rattle.dates.proofs.Paper as Dates
+use Rattle.dates.specs.declared.Dated.the-variants.{Is}
+use Rattle.dates.proofs.Days.{a-day}
+use Rattle.dates.proofs.Laws.{day-is, back-to-day}
 use Rattle.moves.specs.Moves.{landed, moved}
 use Rattle.moves.proofs.Paper as Moves
 use Rattle.facts.specs.declared.LeapMonth.{LeapMonth}
@@ -149,25 +152,25 @@ day-line-literally d = rw (number-at (monthOfDay d), mark-at (monthOfDay d)) ref
 
 pub line-of-a-day : Paper.Line-of-a-day
 unfolding dayText dayLine
-line-of-a-day d h = ap (told (dayLineOf d)) (Dates.reasons-of-a-day d .given .1 h)
+line-of-a-day d h = ap (told (dayLineOf d)) (a-day d h)
 
 pub date-line-literally : Paper.Date-line-literally
 unfolding dateText
-date-line-literally y k l m d h = ap (told dayLine) (Dates.day-of-date y k l m d .1 h)
+date-line-literally y k l m d h = ap (told dayLine) (day-is y k l m d .1 h)
 
 -- the date of a day, looked up by its own four things, has that day's line
 date-of-day-line : (e : ℕ) → DayInRange e → textOfDate (dateOf e) ≡ dayLine e
 unfolding dateText
-date-of-day-line e h = ap (told dayLine) (Dates.there-and-back e h)
+date-of-day-line e h = ap (told dayLine) (back-to-day e h)
 
 pub move-line-literally : Paper.Move-line-literally
 unfolding moveText
 move-line-literally y k l m d n h =
-    let w = Moves.move-of-a-date y k l m d n (Dates.day-of-date y k l m d .1 h) in
+    let w = Moves.move-of-a-date y k l m d n (sym (day-is y k l m d .1 h)) in
     record {
       lands = λ e f i.
-          ap (told textOfDate) (w .gives e f i ∙ Dates.reasons-of-a-day e .given .1 i) ∙ date-of-day-line e i;
-      eight = λ out. ap (told textOfDate) (w .eight .1 out);
+          ap (told textOfDate) (sym (w .gives e f i (Is (dateOf e)) .1 (sym (a-day e i)))) ∙ date-of-day-line e i;
+      eight = λ out. ap (told textOfDate) (sym (w .eight MoveOutOfRange .1 (refl, out)));
     }
 
 pub search-lines-literally : Paper.Search-lines-literally

@@ -1,7 +1,7 @@
 -- `founds::answer_date` meets its contract: what `dates::day_of_date` says, told. Assumes nothing.
 use native.Mathlib.Omega.{arith}
 use mathlib.Core.Path.{ap, sym, _∙_}
-use Rattle.dates.proofs.Paper.{back-and-there}
+use Rattle.dates.proofs.Laws.{found-date}
 use Rattle.dates.specs.Promises.{saidDay}
 use Rattle.fields.proofs.Putting.{wide}
 use Rattle.told.specs.Answers.{dayLine, dateText}
@@ -26,7 +26,7 @@ put-day-of-requires c κs =
     let q = c .before .before in
     let s = q .before .before .before .before .args in
     let e = sym (q .before .before .day-of-date .ensures) ∙ ap saidDay (q .day .given .1) in
-    (back-and-there (s .year) (s .number) (s .leap) (s .day-of-month) (q .day .given .0 .0) e .0, omega arith)
+    (found-date (s .year) (s .number) (s .leap) (s .day-of-month) (q .day .given .0 .0) e .0, omega arith)
 
 enum-known-why : tie.Need-enum-known-why
 enum-known-why c = search needs
