@@ -1,12 +1,12 @@
 -- Laws of a run of stores: numbers read into a list from the front, and bytes laid into a buffer. Assumes nothing.
-use Prim.Native.Nat.{ℕ, zero, suc, _+_, _-_, _*_, _/_, _%_, _≤_, _<_}
-use native.Mathlib.Nat.{suc-add, add-suc, add-zero, mul-zero, mul-suc, mul-le-mul-left}
+use Prim.Native.Nat.{ℕ, suc, _+_, _-_, _*_, _/_, _%_, _≤_, _<_}
+use native.Mathlib.Nat.{mul-zero, mul-suc, mul-le-mul-left}
 use native.Mathlib.Numerals.{add-one}
 use native.Mathlib.Omega.{arith}
 use mathlib.Core.Path.{_≡_, refl, ap, sym, _∙_}
 use mathlib.Core.List.{List, [], _∷_, _++_}
 use lib.ListN.{length, getD, take, drop, set, length-append, length-set, length-drop, drop-of-length-le}
-use lib.Seq.{sets, sets-eq, length-sets, drop-cons}
+use lib.Seq.{sets, length-sets, drop-cons}
 use Rattle.sheet.proofs.Numbers.{length-lay}
 use Rattle.sheet.proofs.Reading.{part-all}
 use Rattle.rule.proofs.Stores.{sets-append}

@@ -9,4 +9,5 @@ pub mod Sheets
 pub mod RoundTrip
 pub mod Ends
 pub mod Faults
+pub mod Places
 pub mod Paper

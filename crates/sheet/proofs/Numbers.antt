@@ -9,13 +9,13 @@ use lib.Seq.{getD-drop, drop-drop}
 use Rattle.sheet.specs.Sheet.{number, lay}
 
 -- least byte first: two bytes and four, read; and two, laid
-pub two-read : (a b : ℕ) → number 2 (a ∷ b ∷ []) ≡ a + 256 * b
+pub two-read : (a b : ℕ) (t : List ℕ) → number 2 (a ∷ b ∷ t) ≡ a + 256 * b
 unfolding number
-two-read a b = omega arith
+two-read a b t = omega arith
 
-pub four-read : (a b c d : ℕ) → number 4 (a ∷ b ∷ c ∷ d ∷ []) ≡ a + 256 * b + 65536 * c + 16777216 * d
+pub four-read : (a b c d : ℕ) (t : List ℕ) → number 4 (a ∷ b ∷ c ∷ d ∷ t) ≡ a + 256 * b + 65536 * c + 16777216 * d
 unfolding number
-four-read a b c d = omega arith
+four-read a b c d t = omega arith
 
 pub two-laid : (x : ℕ) → lay 2 x ≡ (x % 256) ∷ (x / 256 % 256) ∷ []
 unfolding lay

@@ -1,15 +1,16 @@
 -- What the paper says of the sheet, proved, each statement under its name in small letters. Assumes nothing.
-use Prim.Native.Nat.{ℕ, zero, suc, _+_, _*_, _≤_, _<_}
+use Prim.Native.Nat.{ℕ, _+_, _*_, _≤_, _<_}
 use native.Mathlib.Omega.{arith}
 use mathlib.Core.Path.{_≡_, refl, ap, sym, _∙_, subst}
-use mathlib.Core.Logic.{⊎-elim}
+use mathlib.Core.Logic.{_↔_, Iff·trans, ⊎-elim}
 use mathlib.Core.Bool.{Bool, true, false}
-use mathlib.Core.List.{List, [], _∷_, _++_, append-nil}
-use lib.ListN.{length, take, drop, length-append, length-drop, replicate, length-replicate}
+use mathlib.Core.List.{List, [], _∷_, _++_, append-nil, append-assoc}
+use lib.ListN.{length, getD, take, drop, length-append, length-drop, replicate, length-replicate, getD-replicate}
 use lib.Dec.{leb}
-use lib.Seq.{take-at}
+use lib.Seq.{take-at, drop-at, drop-drop}
 use borrow.Author.Tests.{le-leb, lt-leb}
 use Rattle.rule.specs.Reasons.{Answer, is, refused, refused-with, guard, andThen, reasonNumber, reasonOf, afterwards}
+use Rattle.rule.specs.declared.Reason.the-variants.{SheetEndsEarly, BytesAfterLast}
 use Rattle.rule.proofs.Answers.{reason-back, read-back, once, stops, passes}
 use Rattle.sheet.specs.declared.Section.{Section}
 use Rattle.sheet.specs.declared.Counted.{Counted}
@@ -26,11 +27,11 @@ use Rattle.sheet.specs.Sheet.{
   daysPart,
   countOf,
   Lists,
+  threeLists,
   number,
   lay,
   numbers,
   layAll,
-  itemHolds,
   itemsRead,
   countRead,
   sectionRead,
@@ -51,9 +52,9 @@ use Rattle.sheet.specs.Sheet.{
   writeSheet,
   writeInto,
 }
-use Rattle.sheet.specs.Promises.{saidCounts, saidHowMany, counted, countsIn}
+use Rattle.sheet.specs.Promises.{saidCounts, saidHowMany, counted, countsAre, countsIn, ReadingSheet, WritingSheet}
 use Rattle.sheet.specs.Paper as Paper
-use Rattle.sheet.proofs.Filling.{length-sheet}
+use Rattle.sheet.proofs.Filling.{length-section, length-sheet}
 use Rattle.sheet.proofs.Ends.{section-part, section-more}
 use Rattle.sheet.proofs.Faults.{
   sheet-fault,
@@ -66,7 +67,8 @@ use Rattle.sheet.proofs.Faults.{
   given-iff,
 }
 use Rattle.sheet.proofs.Numbers.{two-read, four-read, two-laid, four-laid}
-use Rattle.sheet.proofs.RoundTrip.{bytes-drop, Fit, section-back, section-again}
+use Rattle.sheet.proofs.RoundTrip.{bytes-drop, bytes-append, bytes-section, Fit, section-back, section-again}
+use Rattle.sheet.proofs.Places.{InFront, rest-kept, stands-at, laid-at}
 use Rattle.sheet.proofs.Sheets.{
   sheet-lies,
   sheet-then,
@@ -76,8 +78,22 @@ use Rattle.sheet.proofs.Sheets.{
   each-read,
   EachWritten,
   each-written,
+  read-refused,
+  write-refused,
 }
-use Rattle.sheet.specs.Paper.{AreBytes, sheetOf11, sheetOf11and12}
+use Rattle.sheet.specs.Paper.{
+  AreBytes,
+  monthsFrom,
+  daysFrom,
+  InSection,
+  SheetFault,
+  GoodSheet,
+  GoodList,
+  GoodLists,
+  ListsFault,
+  IsSheetOf,
+  emptySheet,
+}
 
 -- an answer can be read back from what it says
 counts-once : (a b : SheetCounts) → saidCounts a ≡ saidCounts b → a ≡ b
@@ -105,29 +121,6 @@ unique-writing y m d o a b o₁ o₂ p q = (how-many-once a b (p .answer ∙ sym
 
 pub least-byte-first : Paper.Least-byte-first
 least-byte-first = record { two = two-read; four = four-read; laid-in-two = two-laid; laid-in-four = four-laid }
-
-pub empty-sheet : Paper.Empty-sheet
-unfolding readSheet sheetRead monthsRead daysRead sectionRead countRead itemsRead number listsIn itemsOf leftAfter numbers
-empty-sheet = refl
-
-pub wrong-readings : Paper.Wrong-readings
-unfolding readInto sheetRead monthsRead daysRead sectionRead countRead itemsRead number listsIn itemsOf leftAfter numbers
-wrong-readings =
-    record {
-      refusing-all = λ r y m d p. let o : _≡_ {A = Answer Counted} (refused (reasonNumber r)) (is (record { years = 0; months = 0; days = 0 })) = p .answer in let z : _≡_ {A = ℕ} 0 1 = cc in omega arith;
-      filling-none = λ a m d p. let o : _≡_ {A = List ℕ} (0 ∷ []) (11 ∷ []) = p .years in let z : _≡_ {A = ℕ} 0 11 = cc in omega arith;
-      copying-first = λ a m d p. let o : _≡_ {A = List ℕ} (11 ∷ 11 ∷ []) (11 ∷ 12 ∷ []) = p .years in let z : _≡_ {A = ℕ} 11 12 = cc in omega arith;
-      first-alone = λ a m d p. let o : _≡_ {A = List ℕ} (11 ∷ 0 ∷ []) (11 ∷ 12 ∷ []) = p .years in let z : _≡_ {A = ℕ} 0 12 = cc in omega arith;
-    }
-
-pub wrong-writings : Paper.Wrong-writings
-unfolding writeInto listsWritten sectionWritten itemsWritten sheetOf laySection lay layAll
-wrong-writings =
-    record {
-      refusing-all = λ r o p. let e : _≡_ {A = Answer ℕ} (refused (reasonNumber r)) (is 6) = p .answer in let z : _≡_ {A = ℕ} 0 1 = cc in omega arith;
-      filling-none = λ a p. let e : _≡_ {A = List ℕ} (0 ∷ 0 ∷ 0 ∷ 0 ∷ 0 ∷ 0 ∷ 0 ∷ 0 ∷ []) sheetOf11 = p .buffer in let z : _≡_ {A = ℕ} 0 1 = cc in omega arith;
-      copying-first = λ a p. let e : _≡_ {A = List ℕ} (2 ∷ 0 ∷ 11 ∷ 0 ∷ 11 ∷ 0 ∷ 0 ∷ 0 ∷ 0 ∷ 0 ∷ []) sheetOf11and12 = p .buffer in let z : _≡_ {A = ℕ} 11 12 = cc in omega arith;
-    }
 
 -- the three sections' values fit their bytes
 fit-years : Fit yearItems
@@ -174,7 +167,8 @@ module _ {B : Type 0} (l : Lists) (x : B) (e : EachWritten l x) where
       )
       (months-back _ .0 ∙ days-back _ .0)
 
-pub reading-what-was-written : Paper.Reading-what-was-written
+-- reading what was written gives the three lists back, and writing what was read gives the bytes back
+reading-what-was-written : (l : Lists) (b : List ℕ) → writeSheet l ≡ is b → readSheet b ≡ is l
 unfolding writeSheet sheetOf
 reading-what-was-written l b h =
     let a = each-written l (sheetOf l) b h in
@@ -189,7 +183,8 @@ module _ {B : Type 0} (s : List ℕ) (x : B) (bytes : AreBytes s) (e : EachRead 
   unfolding leftAfter
   months-bytes = bytes-drop (2 + 2 * countOf s) s bytes
 
-  months-again : (b : Answer (List ℕ)) → (sectionWritten monthItems (itemsOf monthItems (monthsPart s)) b ≡ b) × (laySection monthItems (itemsOf monthItems (monthsPart s)) ++ daysPart s ≡ monthsPart s)
+  months-again : (b : Answer (List ℕ)) → (sectionWritten monthItems (itemsOf monthItems (monthsPart s)) b ≡ b) ×
+      (laySection monthItems (itemsOf monthItems (monthsPart s)) ++ daysPart s ≡ monthsPart s)
   months-again b = section-again monthItems (monthsPart s) x (e .z₂) b months-bytes (e .months)
 
   days-bytes : AreBytes (daysPart s)
@@ -213,19 +208,20 @@ module _ {B : Type 0} (s : List ℕ) (x : B) (bytes : AreBytes s) (e : EachRead 
   unfolding listsWritten listsIn
   written-again b = years-again _ .0 ∙ months-again _ .0 ∙ days-again b .0
 
-pub writing-what-was-read : Paper.Writing-what-was-read
+writing-what-was-read : (s : List ℕ) (l : Lists) → AreBytes s → readSheet s ≡ is l → writeSheet l ≡ is s
 unfolding writeSheet readSheet
 writing-what-was-read s l bytes h =
     let a = each-read s (listsIn s) l h in
     subst (λ (k : Lists). writeSheet k ≡ is s) (a .1)
     (written-again s (listsIn s) bytes (a .0) (is (sheetOf (listsIn s))) ∙ ap is (read-is-laid s (listsIn s) bytes (a .0)))
 
-pub one-sheet : Paper.One-sheet
-one-sheet s t l bs bt hs ht =
+-- two sheets that read alike are the same bytes
+same-bytes : (s t : List ℕ) (l : Lists) → AreBytes s → AreBytes t → readSheet s ≡ is l → readSheet t ≡ is l → s ≡ t
+same-bytes s t l bs bt hs ht =
     let e : _≡_ {A = Answer (List ℕ)} (is s) (is t) = sym (writing-what-was-read s l bs hs) ∙ writing-what-was-read t l bt ht in cc
 
 -- how long a good sheet is
-pub size-of-a-sheet : Paper.Size-of-a-sheet
+size-of-a-sheet : (s : List ℕ) (l : Lists) → readSheet s ≡ is l → length s ≡ 6 + 2 * length (l .years) + 4 * length (l .months) + 4 * length (l .days)
 unfolding readSheet leftAfter
 size-of-a-sheet s l h =
     let a = sheet-lies s (listsIn s) l h in
@@ -264,9 +260,9 @@ module _ {A B : Type 0} (s q : List ℕ) (x : B) (e : EachRead s x) (l : 0 < len
       let m = section-more yearItems s q x (e .z₁) (monthsRead (leftAfter yearItems (s ++ q)) a) (e .years) in
       m .0 ∙ ap (λ (t : List ℕ). monthsRead t a) (m .1) ∙ months-added
 
-pub added : Paper.Added
+after-last : (s : List ℕ) (b : ℕ) (t : List ℕ) (l : Lists) (y m d : ℕ) → readSheet s ≡ is l → readInto (s ++ (b ∷ t)) y m d ≡ refused 11
 unfolding readSheet readInto
-added s b t l y m d h = sheet-added s (b ∷ t) (listsIn s) (each-read s (listsIn s) l h .0) (omega arith) _
+after-last s b t l y m d h = sheet-added s (b ∷ t) (listsIn s) (each-read s (listsIn s) l h .0) (omega arith) _
 
 -- a sheet with its end cut off ends early
 module _ {A B : Type 0} (q : List ℕ) (l : 0 < length q) (x : B) (a : Answer A) where
@@ -296,53 +292,10 @@ module _ {A B : Type 0} (q : List ℕ) (l : 0 < length q) (x : B) (a : Answer A)
       (omega (arith, e .after, ap (λ (t : List ℕ). length (leftAfter dayItems (leftAfter monthItems t))) (r .1))))
       (section-part yearItems s q x (e .z₁) (monthsRead (leftAfter yearItems s) a) (e .years))
 
-pub cut-off : Paper.Cut-off
+ends-early : (s : List ℕ) (b : ℕ) (t : List ℕ) (l : Lists) (y m d : ℕ) → readSheet (s ++ (b ∷ t)) ≡ is l → readInto s y m d ≡ refused 9
 unfolding readSheet readInto
-cut-off s b t l y m d h =
+ends-early s b t l y m d h =
     sheet-cut (b ∷ t) (omega arith) (listsIn (s ++ (b ∷ t))) _ s (each-read (s ++ (b ∷ t)) (listsIn (s ++ (b ∷ t))) l h .0)
-
--- a list of n equal items that are good
-same-items : {A : Type 0} (k : Section) (v n : ℕ) (a : Answer A) → itemHolds k v ≡ true → itemsWritten k (replicate n v) a ≡ a
-unfolding itemsWritten
-same-items k v zero a h = refl
-same-items k v (suc n) a h = rw (h) (same-items k v n a h)
-
-same-list : {A : Type 0} (k : Section) (v n : ℕ) (a : Answer A) → itemHolds k v ≡ true → n ≤ k .items → sectionWritten k (replicate n v) a ≡ a
-unfolding sectionWritten
-same-list k v n a h l = rw (length-replicate n v, le-leb n (k .items) l) (same-items k v n a h)
-
-full : (n : ℕ) → n ≤ 1000 → (s : List ℕ) × (l : Lists) × (readSheet s ≡ is l) × (length s ≡ 6 + 2 * n + 4 * n + 4 * n)
-unfolding writeSheet listsWritten
-full n h =
-    let l : Lists = record { years = replicate n 1; months = replicate n 0; days = replicate n 0 } in
-    let w : writeSheet l ≡ is (sheetOf l) =
-    same-list yearItems 1 n _ refl h ∙ same-list monthItems 0 n _ refl h ∙ same-list dayItems 0 n (is (sheetOf l)) refl h
-    in (
-      sheetOf l,
-      l,
-      reading-what-was-written l (sheetOf l) w,
-      length-sheet l ∙ rw (length-replicate {A = ℕ} n 1, length-replicate {A = ℕ} n 0) refl,
-    )
-
-pub longest-sheet : Paper.Longest-sheet
-unfolding readSheet
-longest-sheet =
-    record {
-      none-longer = λ s l h.
-          let a = sheet-lies s (listsIn s) l h in
-          let e : counted l ≡ countsIn s = ap counted (sym (a .1)) ∙ counted-lists s in
-          omega (
-            arith,
-            size-of-a-sheet s l h,
-            ap (λ (c : Counted). c .years) e,
-            ap (λ (c : Counted). c .months) e,
-            ap (λ (c : Counted). c .days) e,
-            a .0 .years .few,
-            a .0 .months .few,
-            a .0 .days .few,
-          );
-      one-so-long = full 1000 (omega arith);
-    }
 
 -- an answer made of another answer: what it was made of
 pub made-of : {A B : Type 0} (c : Answer A) (f : A → B) (y : B) → is y ≡ andThen c (λ z. is (f z)) → (z : A) × (c ≡ is z) × (y ≡ f z)
@@ -350,11 +303,17 @@ made-of {A} {B} (is z) f y h = (z, refl, (let e : _≡_ {A = Answer B} (is y) (i
 made-of (refused r) f y h = absurd (let o : _≡_ {A = ℕ} 0 1 = cc in omega arith)
 made-of (refused-with r n) f y h = absurd (let o : _≡_ {A = ℕ} 0 1 = cc in omega arith)
 
+refused-of : {A B : Type 0} (c : Answer A) (f : A → B) (k : ℕ) → refused k ≡ andThen c (λ z. is (f z)) → c ≡ refused k
+refused-of (is z) f k h = absurd (let o : _≡_ {A = ℕ} 0 1 = cc in omega arith)
+refused-of {A} {B} (refused r) f k h = let e : _≡_ {A = Answer B} (refused k) (refused r) = h in cc
+refused-of (refused-with r n) f k h = absurd (let o : _≡_ {A = ℕ} 0 1 = cc in omega arith)
+
 -- lists written into a buffer are written with no buffer in mind too
 into-written : (l : Lists) (n : ℕ) (b : List ℕ) → writeInto l n ≡ is b → writeSheet l ≡ is b
 unfolding writeInto writeSheet
 into-written l n b h =
-    lists-then l (sheetOf l) (is (sheetOf l)) ∙ go (listsWritten l (is (sheetOf l))) (leb (length (sheetOf l)) n) (sym (lists-then l (sheetOf l) (guard (leb (length (sheetOf l)) n) 12 (is (sheetOf l)))) ∙ h)
+    lists-then l (sheetOf l) (is (sheetOf l))
+    ∙ go (listsWritten l (is (sheetOf l))) (leb (length (sheetOf l)) n) (sym (lists-then l (sheetOf l) (guard (leb (length (sheetOf l)) n) 12 (is (sheetOf l)))) ∙ h)
   where
     go : (c : Answer (List ℕ)) (p : Bool) → andThen c (λ z. guard p 12 (is (sheetOf l))) ≡ is b → andThen c (λ z. is (sheetOf l)) ≡ is b
     go (is z) true h = h
@@ -373,28 +332,12 @@ read-with-room s l y m d h hy hm hd =
     ∙ passes (room (listsIn s) y m d) 12 (is (listsIn s)) g
     ∙ ap is e
 
-pub calls-there-and-back : Paper.Calls-there-and-back
-calls-there-and-back y m d o o′ y₀ m₀ d₀ y′ m′ d′ n r p q hy hm hd =
-    let l : Lists = record { years = y; months = m; days = d } in
-    let w = made-of (writeInto l (length o)) length n (p .answer) in
-    let e : o′ ≡ w .0 ++ drop (length (w .0)) o = p .buffer ∙ ap (λ (c : Answer (List ℕ)). afterwards c (λ b. b) o) (w .1) in
-    let f : take n o′ ≡ w .0 = ap (take n) e ∙ take-at (w .0) (drop (length (w .0)) o) n (sym (w .2)) in
-    let g : readInto (take n o′) (length y₀) (length m₀) (length d₀) ≡ is l =
-    ap (λ (s : List ℕ). readInto s (length y₀) (length m₀) (length d₀)) f
-    ∙ read-with-room (w .0) l (length y₀) (length m₀) (length d₀) (reading-what-was-written l (w .0) (into-written l (length o) (w .0) (w .1))) hy hm hd
-    in
-    record {
-      answer = counts-once r (Counts'.Is (counted l)) (q .answer ∙ ap (λ (c : Answer Lists). andThen c (λ k. is (counted k))) g);
-      years = q .years ∙ ap (λ (c : Answer Lists). afterwards c (λ k. k .years) y₀) g;
-      months = q .months ∙ ap (λ (c : Answer Lists). afterwards c (λ k. k .months) m₀) g;
-      days = q .days ∙ ap (λ (c : Answer Lists). afterwards c (λ k. k .days) d₀) g;
-    }
-
 -- a sheet read into lists is read with no lists in mind too
 pub into-read : (s : List ℕ) (y m d : ℕ) (l : Lists) → readInto s y m d ≡ is l → readSheet s ≡ is l
 unfolding readInto readSheet
 into-read s y m d l h =
-    sheet-then s (listsIn s) (is (listsIn s)) ∙ go (sheetRead s (is (listsIn s))) (room (listsIn s) y m d) (sym (sheet-then s (listsIn s) (guard (room (listsIn s) y m d) 12 (is (listsIn s)))) ∙ h)
+    sheet-then s (listsIn s) (is (listsIn s))
+    ∙ go (sheetRead s (is (listsIn s))) (room (listsIn s) y m d) (sym (sheet-then s (listsIn s) (guard (room (listsIn s) y m d) 12 (is (listsIn s)))) ∙ h)
   where
     go : (c : Answer Lists) (p : Bool) → andThen c (λ z. guard p 12 (is (listsIn s))) ≡ is l → andThen c (λ z. is (listsIn s)) ≡ is l
     go (is z) true h = h
@@ -416,30 +359,324 @@ write-with-room l b n h r =
 pub front : (xs old : List ℕ) (n : ℕ) (new : List ℕ) → new ≡ placed xs old → n ≡ length xs → take n new ≡ xs
 front xs old n new e h = ap (take n) e ∙ take-at xs (drop (length xs) old) n (sym h)
 
+-- where the answers of reading and writing come from
+pub reading-reason : (s : List ℕ) (y m d r : ℕ) → (readInto s y m d ≡ refused r) ↔ SheetFault s y m d r
+reading-reason s y m d r = reason-iff (readInto s y m d) (listsIn s) (sheet-fault s y m d) (sheet-given s y m d) (sheet-decided s y m d) r
+
+pub reading-given : (s : List ℕ) (y m d : ℕ) → (readInto s y m d ≡ is (listsIn s)) ↔ GoodSheet s y m d
+reading-given s y m d = given-iff (readInto s y m d) (listsIn s) (sheet-fault s y m d) (sheet-given s y m d) (sheet-decided s y m d)
+
+writing-reason : (l : Lists) (n r : ℕ) → (writeInto l n ≡ refused r) ↔ ListsFault l n r
+writing-reason l n r = reason-iff (writeInto l n) (sheetOf l) (lists-fault l n) (lists-given l n) (lists-decided l n) r
+
+writing-given : (l : Lists) (n : ℕ) → (writeInto l n ≡ is (sheetOf l)) ↔ (GoodLists l × (length (sheetOf l) ≤ n))
+writing-given l n = given-iff (writeInto l n) (sheetOf l) (lists-fault l n) (lists-given l n) (lists-decided l n)
+
+-- an answered call: what was read, and where it stands then
+record ReadAs (s y m d : List ℕ) (c : Counted) (y′ m′ d′ : List ℕ) : Type 0 where
+  into : readInto s (length y) (length m) (length d) ≡ is (listsIn s)
+  counts : c ≡ countsIn s
+  years : InFront (c .years) (listsIn s .years) y y′
+  months : InFront (c .months) (listsIn s .months) m m′
+  days : InFront (c .days) (listsIn s .days) d d′
+
+read-as : (s y m d y′ m′ d′ : List ℕ) (c : Counted) → ReadingSheet s y m d (Counts'.Is c) y′ m′ d′ → ReadAs s y m d c y′ m′ d′
+unfolding readSheet
+read-as s y m d y′ m′ d′ c p =
+    let w = made-of (readInto s (length y) (length m) (length d)) counted c (p .answer) in
+    let e : listsIn s ≡ w .0 = each-read s (listsIn s) (w .0) (into-read s (length y) (length m) (length d) (w .0) (w .1)) .1 in
+    let g : readInto s (length y) (length m) (length d) ≡ is (listsIn s) = w .1 ∙ ap is (sym e) in
+    let r = reading-given s (length y) (length m) (length d) .0 g in
+    let n = counted-lists s in
+    let h : c ≡ counted (listsIn s) = w .2 ∙ ap counted (sym e) in
+    record {
+      into = g;
+      counts = h ∙ n;
+      years =
+          record {
+            room = omega (arith, r .room-years, ap (λ (k : Counted). k .years) n);
+            count = ap (λ (k : Counted). k .years) h;
+            list = p .years ∙ ap (λ (a : Answer Lists). afterwards a (λ l. l .years) y) g;
+          };
+      months =
+          record {
+            room = omega (arith, r .room-months, ap (λ (k : Counted). k .months) n);
+            count = ap (λ (k : Counted). k .months) h;
+            list = p .months ∙ ap (λ (a : Answer Lists). afterwards a (λ l. l .months) m) g;
+          };
+      days =
+          record {
+            room = omega (arith, r .room-days, ap (λ (k : Counted). k .days) n);
+            count = ap (λ (k : Counted). k .days) h;
+            list = p .days ∙ ap (λ (a : Answer Lists). afterwards a (λ l. l .days) d) g;
+          };
+    }
+
+read-given : (s y m d : List ℕ) (l : Lists) (c : Counted) → c ≡ counted l → readInto s (length y) (length m) (length d) ≡ is l →
+    ReadingSheet s y m d (Counts'.Is c) (placed (l .years) y) (placed (l .months) m) (placed (l .days) d)
+read-given s y m d l c e h = record { answer = rw (h) (ap is e); years = rw (h); months = rw (h); days = rw (h) }
+
+-- the same of writing
+written-into : (y m d o o′ : List ℕ) (n : ℕ) → WritingSheet y m d o (HowMany'.Is n) o′ → writeInto (threeLists y m d) (length o) ≡ is (sheetOf (threeLists y m d))
+unfolding writeSheet
+written-into y m d o o′ n p =
+    let l : Lists = threeLists y m d in
+    let w = made-of (writeInto l (length o)) length n (p .answer) in
+    w .1 ∙ ap is (sym (each-written l (sheetOf l) (w .0) (into-written l (length o) (w .0) (w .1)) .1))
+
+written-as : (y m d o o′ : List ℕ) (n : ℕ) → WritingSheet y m d o (HowMany'.Is n) o′ → InFront n (sheetOf (threeLists y m d)) o o′
+written-as y m d o o′ n p =
+    let l : Lists = threeLists y m d in
+    let g : writeInto l (length o) ≡ is (sheetOf l) = written-into y m d o o′ n p in
+    let e : _≡_ {A = Answer ℕ} (is n) (is (length (sheetOf l))) = p .answer ∙ ap (λ (a : Answer (List ℕ)). andThen a (λ b. is (length b))) g in
+    record {
+      room = writing-given l (length o) .0 g .1;
+      count = cc;
+      list = p .buffer ∙ ap (λ (a : Answer (List ℕ)). afterwards a (λ b. b) o) g;
+    }
+
+write-given : (y m d o b : List ℕ) → writeInto (threeLists y m d) (length o) ≡ is b → WritingSheet y m d o (HowMany'.Is (length b)) (placed b o)
+write-given y m d o b h = record { answer = rw (h); buffer = rw (h) }
+
+pub calls-there-and-back : Paper.Calls-there-and-back
+calls-there-and-back y m d o o′ y₀ m₀ d₀ y′ m′ d′ n r p q hy hm hd =
+    let l : Lists = threeLists y m d in
+    let a = written-as y m d o o′ n p in
+    let w : writeSheet l ≡ is (sheetOf l) = into-written l (length o) (sheetOf l) (written-into y m d o o′ n p) in
+    let g : readInto (take n o′) (length y₀) (length m₀) (length d₀) ≡ is l =
+    ap (λ (s : List ℕ). readInto s (length y₀) (length m₀) (length d₀)) (front (sheetOf l) o n o′ (a .list) (a .count))
+    ∙ read-with-room (sheetOf l) l (length y₀) (length m₀) (length d₀) (reading-what-was-written l (sheetOf l) w) hy hm hd
+    in
+    let u = unique-reading (take n o′) y₀ m₀ d₀ r (Counts'.Is (counted l)) y′ m′ d′ _ _ _ q (read-given (take n o′) y₀ m₀ d₀ l (counted l) refl g) in
+    record { answer = u .0; years = u .1; months = u .2; days = u .3 }
+
 pub calls-back-and-there : Paper.Calls-back-and-there
 calls-back-and-there s y₀ m₀ d₀ y′ m′ d′ o o′ c r bytes p q h =
-    let w = made-of (readInto s (length y₀) (length m₀) (length d₀)) counted c (p .answer) in
-    let l : Lists = w .0 in
-    let y : take (c .years) y′ ≡ l .years = front (l .years) y₀ (c .years) y′ (p .years ∙ ap (λ (a : Answer Lists). afterwards a (λ k. k .years) y₀) (w .1)) (ap (λ (k : Counted). k .years) (w .2)) in
-    let m : take (c .months) m′ ≡ l .months = front (l .months) m₀ (c .months) m′ (p .months ∙ ap (λ (a : Answer Lists). afterwards a (λ k. k .months) m₀) (w .1)) (ap (λ (k : Counted). k .months) (w .2)) in
-    let d : take (c .days) d′ ≡ l .days = front (l .days) d₀ (c .days) d′ (p .days ∙ ap (λ (a : Answer Lists). afterwards a (λ k. k .days) d₀) (w .1)) (ap (λ (k : Counted). k .days) (w .2)) in
-    let e : writeInto (record { years = take (c .years) y′; months = take (c .months) m′; days = take (c .days) d′ }) (length o) ≡ is s =
-    rw (y, m, d) (write-with-room l s (length o) (writing-what-was-read s l bytes (into-read s (length y₀) (length m₀) (length d₀) l (w .1))) h)
-    in (
-      how-many-once r (HowMany'.Is (length s)) (q .answer ∙ ap (λ (a : Answer (List ℕ)). andThen a (λ b. is (length b))) e),
-      q .buffer ∙ ap (λ (a : Answer (List ℕ)). afterwards a (λ b. b) o) e,
-    )
+    let a = read-as s y₀ m₀ d₀ y′ m′ d′ c p in
+    let y = front (listsIn s .years) y₀ (c .years) y′ (a .years .list) (a .years .count) in
+    let m = front (listsIn s .months) m₀ (c .months) m′ (a .months .list) (a .months .count) in
+    let d = front (listsIn s .days) d₀ (c .days) d′ (a .days .list) (a .days .count) in
+    let w = writing-what-was-read s (listsIn s) bytes (into-read s (length y₀) (length m₀) (length d₀) (listsIn s) (a .into)) in
+    let e : writeInto (threeLists (take (c .years) y′) (take (c .months) m′) (take (c .days) d′)) (length o) ≡ is s = rw (y, m, d) (write-with-room (listsIn s) s (length o) w h) in
+    unique-writing _ _ _ o r (HowMany'.Is (length s)) o′ (placed s o) q (write-given (take (c .years) y′) (take (c .months) m′) (take (c .days) d′) o s e)
+
+pub rest-untouched : Paper.Rest-untouched
+rest-untouched =
+    record {
+      reading = λ s y m d y′ m′ d′ c p. let r = read-as s y m d y′ m′ d′ c p in (rest-kept (r .years), rest-kept (r .months), rest-kept (r .days));
+      writing = λ y m d o o′ n p. rest-kept (written-as y m d o o′ n p);
+    }
+
+pub refusal-changes-nothing : Paper.Refusal-changes-nothing
+refusal-changes-nothing =
+    record {
+      reading = λ s y m d y′ m′ d′ why p.
+          let e : readInto s (length y) (length m) (length d) ≡ refused (reasonNumber why) = refused-of (readInto s (length y) (length m) (length d)) counted (reasonNumber why) (p .answer) in (
+            p .years ∙ ap (λ (a : Answer Lists). afterwards a (λ l. l .years) y) e,
+            p .months ∙ ap (λ (a : Answer Lists). afterwards a (λ l. l .months) m) e,
+            p .days ∙ ap (λ (a : Answer Lists). afterwards a (λ l. l .days) d) e,
+          );
+      writing = λ y m d o o′ why p.
+          p .buffer ∙ ap (λ (a : Answer (List ℕ)). afterwards a (λ b. b) o) (refused-of (writeInto (threeLists y m d) (length o)) length (reasonNumber why) (p .answer));
+    }
 
 pub reasons-of-reading : Paper.Reasons-of-reading
 reasons-of-reading s y m d =
+    let a : Answer Lists = readInto s (length y) (length m) (length d) in
     record {
-      reason = reason-iff (readInto s y m d) (listsIn s) (sheet-fault s y m d) (sheet-given s y m d) (sheet-decided s y m d);
-      given = given-iff (readInto s y m d) (listsIn s) (sheet-fault s y m d) (sheet-given s y m d) (sheet-decided s y m d);
+      reason = λ why.
+          Iff·trans (λ p. refused-of a counted (reasonNumber why) (p .answer), read-refused s y m d why)
+          (reading-reason s (length y) (length m) (length d) (reasonNumber why));
+      given =
+          Iff·trans (λ p. read-as s y m d _ _ _ _ p .into, read-given s y m d (listsIn s) (countsIn s) (sym (counted-lists s)))
+          (reading-given s (length y) (length m) (length d));
     }
 
 pub reasons-of-writing : Paper.Reasons-of-writing
-reasons-of-writing l n =
+reasons-of-writing y m d o =
+    let l : Lists = threeLists y m d in
     record {
-      reason = reason-iff (writeInto l n) (sheetOf l) (lists-fault l n) (lists-given l n) (lists-decided l n);
-      given = given-iff (writeInto l n) (sheetOf l) (lists-fault l n) (lists-given l n) (lists-decided l n);
+      reason = λ why.
+          Iff·trans (λ p. refused-of (writeInto l (length o)) length (reasonNumber why) (p .answer), write-refused y m d o why)
+          (writing-reason l (length o) (reasonNumber why));
+      given =
+          Iff·trans (λ p. written-into y m d o _ _ p, write-given y m d o (sheetOf l))
+          (writing-given l (length o));
+    }
+
+-- a sheet of three lists is read as them with no lent lists in mind
+lists-same : (a b : Lists) → a .years ≡ b .years → a .months ≡ b .months → a .days ≡ b .days → a ≡ b
+lists-same a b y m d = ap (λ (x : List ℕ). threeLists x (a .months) (a .days)) y ∙ ap (λ (x : List ℕ). threeLists (b .years) x (a .days)) m ∙ ap (threeLists (b .years) (b .months)) d
+
+is-read : (l : Lists) (s : List ℕ) → IsSheetOf l s → readSheet s ≡ is l
+is-read l s h =
+    let r = read-as s (l .years) (l .months) (l .days) _ _ _ (counted l) (h .reads (l .years) (l .months) (l .days) (omega arith) (omega arith) (omega arith)) in
+    into-read s _ _ _ (listsIn s) (r .into)
+    ∙ ap is (lists-same (listsIn s) l (same (l .years) (r .years)) (same (l .months) (r .months)) (same (l .days) (r .days)))
+  where
+    same : (xs : List ℕ) {zs old : List ℕ} → InFront (length xs) zs old (placed xs old) → zs ≡ xs
+    same xs {zs} {old} a = sym (front zs old (length xs) (placed xs old) (a .list) (a .count)) ∙ front xs old (length xs) (placed xs old) refl refl
+
+is-sheet : (l : Lists) (s : List ℕ) → AreBytes s → readSheet s ≡ is l → IsSheetOf l s
+is-sheet l s b h =
+    record {
+      bytes = b;
+      reads = λ y m d hy hm hd. read-given s y m d l (counted l) refl (read-with-room s l (length y) (length m) (length d) h hy hm hd);
+    }
+
+bytes-sheet : (l : Lists) → AreBytes (sheetOf l)
+unfolding sheetOf
+bytes-sheet l =
+    bytes-append (laySection yearItems (l .years)) (laySection monthItems (l .months) ++ laySection dayItems (l .days)) (bytes-section yearItems (l .years))
+    (bytes-append (laySection monthItems (l .months)) (laySection dayItems (l .days)) (bytes-section monthItems (l .months)) (bytes-section dayItems (l .days)))
+
+-- good lists have a sheet
+sheet-of-good : (l : Lists) → GoodLists l → IsSheetOf l (sheetOf l)
+sheet-of-good l g =
+    let n : ℕ = length (sheetOf l) in
+    is-sheet l (sheetOf l) (bytes-sheet l) (reading-what-was-written l (sheetOf l) (into-written l n (sheetOf l) (lists-given l n (g, omega arith))))
+
+pub one-sheet : Paper.One-sheet
+one-sheet l g =
+    let h = sheet-of-good l g in
+    (sheetOf l, h, λ t i. same-bytes t (sheetOf l) l (i .bytes) (h .bytes) (is-read l t i) (is-read l (sheetOf l) h))
+
+pub added : Paper.Added
+added s b t l y m d h = read-refused (s ++ (b ∷ t)) y m d BytesAfterLast (after-last s b t l (length y) (length m) (length d) (is-read l s h))
+
+pub cut-off : Paper.Cut-off
+cut-off s b t l y m d h = read-refused s y m d SheetEndsEarly (ends-early s b t l (length y) (length m) (length d) (is-read l (s ++ (b ∷ t)) h))
+
+-- three lists of n equal items
+same-items : (k : Section) (v n : ℕ) → InSection k v → n ≤ k .items → GoodList k (replicate n v)
+same-items k v n h l =
+    record {
+      few = omega (arith, l, length-replicate n v);
+      items = λ j i. subst (InSection k) (sym (getD-replicate n j v 0 (omega (arith, i, length-replicate n v)))) h;
+    }
+
+full : (n : ℕ) → n ≤ 1000 → (s : List ℕ) × (l : Lists) × IsSheetOf l s × (length s ≡ 6 + 2 * n + 4 * n + 4 * n)
+full n h =
+    let l : Lists = threeLists (replicate n 1) (replicate n 0) (replicate n 0) in (
+      sheetOf l,
+      l,
+      sheet-of-good l
+          (record {
+            years = same-items yearItems 1 n (omega arith, omega arith) h;
+            months = same-items monthItems 0 n (omega arith, omega arith) h;
+            days = same-items dayItems 0 n (omega arith, omega arith) h;
+          }),
+      length-sheet l ∙ rw (length-replicate {A = ℕ} n 1, length-replicate {A = ℕ} n 0) refl,
+    )
+
+pub longest-sheet : Paper.Longest-sheet
+unfolding readSheet
+longest-sheet =
+    record {
+      none-longer = λ s l h.
+          let a = sheet-lies s (listsIn s) l (is-read l s h) in
+          let e : counted l ≡ countsIn s = ap counted (sym (a .1)) ∙ counted-lists s in
+          omega (
+            arith,
+            size-of-a-sheet s l (is-read l s h),
+            ap (λ (c : Counted). c .years) e,
+            ap (λ (c : Counted). c .months) e,
+            ap (λ (c : Counted). c .days) e,
+            a .0 .years .few,
+            a .0 .months .few,
+            a .0 .days .few,
+          );
+      one-so-long = full 1000 (omega arith);
+    }
+
+-- each section stands where the one before it ended
+read-by-item : (s y m d y′ m′ d′ : List ℕ) (c : Counted) → ReadAs s y m d c y′ m′ d′ → Paper.ReadByItem s c y′ m′ d′
+unfolding listsIn leftAfter
+read-by-item s y m d y′ m′ d′ c r =
+    let ey : c .years ≡ countOf s = ap (λ (k : Counted). k .years) (r .counts) in
+    let em : c .months ≡ countOf (monthsPart s) = ap (λ (k : Counted). k .months) (r .counts) in
+    let ed : c .days ≡ countOf (daysPart s) = ap (λ (k : Counted). k .days) (r .counts) in
+    let fm : monthsPart s ≡ drop (monthsFrom c) s = ap (λ (n : ℕ). drop (2 + 2 * n) s) (sym ey) in
+    let fd : daysPart s ≡ drop (daysFrom c) s =
+    ap (λ (n : ℕ). drop (2 + 4 * n) (monthsPart s)) (sym em) ∙ ap (drop (2 + 4 * c .months)) fm ∙ drop-drop (2 + 4 * c .months) (monthsFrom c) s
+    in
+    record {
+      years = stands-at yearItems s s y y′ 0 (c .years) refl ey (r .years);
+      months = stands-at monthItems s (monthsPart s) m m′ (monthsFrom c) (c .months) fm em (r .months);
+      days = stands-at dayItems s (daysPart s) d d′ (daysFrom c) (c .days) fd ed (r .days);
+      end = omega (arith, size-of-a-sheet s (listsIn s) (into-read s _ _ _ (listsIn s) (r .into)), r .years .count, r .months .count, r .days .count);
+    }
+
+written-by-item : (y m d o o′ : List ℕ) (n : ℕ) → InFront n (sheetOf (threeLists y m d)) o o′ → Paper.WrittenByItem y m d (countsAre (length y) (length m) (length d)) n o′
+unfolding sheetOf
+written-by-item y m d o o′ n a =
+    let c : Counted = countsAre (length y) (length m) (length d) in
+    let ly : List ℕ = laySection yearItems y in
+    let lm : List ℕ = laySection monthItems m in
+    let ld : List ℕ = laySection dayItems d in
+    let rest : List ℕ = drop (length (sheetOf (threeLists y m d))) o in
+    let fy : o′ ≡ ly ++ (lm ++ (ld ++ rest)) = a .list ∙ append-assoc ly (lm ++ ld) rest ∙ ap (λ (t : List ℕ). ly ++ t) (append-assoc lm ld rest) in
+    let fm : drop (monthsFrom c) o′ ≡ lm ++ (ld ++ rest) = ap (drop (monthsFrom c)) fy ∙ drop-at ly (lm ++ (ld ++ rest)) (monthsFrom c) (length-section yearItems y) in
+    let fd : drop (daysFrom c) o′ ≡ ld ++ rest =
+    sym (drop-drop (2 + 4 * length m) (monthsFrom c) o′) ∙ ap (drop (2 + 4 * length m)) fm ∙ drop-at lm (ld ++ rest) (2 + 4 * length m) (length-section monthItems m)
+    in
+    record {
+      years = laid-at yearItems y (lm ++ (ld ++ rest)) o′ 0 fy;
+      months = laid-at monthItems m (ld ++ rest) o′ (monthsFrom c) fm;
+      days = laid-at dayItems d rest o′ (daysFrom c) fd;
+      end = a .count ∙ length-sheet (threeLists y m d) ∙ omega arith;
+    }
+
+pub item-by-item : Paper.Item-by-item
+item-by-item =
+    record {
+      reading = λ s y m d y′ m′ d′ c p. read-by-item s y m d y′ m′ d′ c (read-as s y m d y′ m′ d′ c p);
+      writing = λ y m d o o′ n p. written-by-item y m d o o′ n (written-as y m d o o′ n p);
+    }
+
+empty-read : readSheet emptySheet ≡ is (threeLists [] [] [])
+unfolding readSheet sheetRead monthsRead daysRead sectionRead countRead itemsRead number listsIn itemsOf leftAfter numbers
+empty-read = refl
+
+pub empty-sheet : Paper.Empty-sheet
+empty-sheet y m d =
+    read-given emptySheet y m d (threeLists [] [] []) (countsAre 0 0 0) refl
+    (read-with-room emptySheet (threeLists [] [] []) (length y) (length m) (length d) empty-read (omega arith) (omega arith) (omega arith))
+
+-- two lists that differ at a place
+unlike : {xs ys : List ℕ} (i a b : ℕ) → xs ≡ ys → getD xs i 0 ≡ a → getD ys i 0 ≡ b → a < b → ⊥
+unlike i a b e f g l = omega (arith, f, g, l, ap (λ (xs : List ℕ). getD xs i 0) e)
+
+pub wrong-readings : Paper.Wrong-readings
+unfolding readInto sheetRead monthsRead daysRead sectionRead countRead itemsRead number listsIn itemsOf leftAfter numbers
+wrong-readings =
+    record {
+      refusing-all = λ why y m d p.
+          let o : _≡_ {A = Answer Counted} (refused (reasonNumber why)) (is (countsAre 0 0 0)) = p .answer in
+          let z : _≡_ {A = ℕ} 0 1 = cc in
+          omega arith;
+      filling-none = λ a m d p. unlike 0 0 11 (p .years) refl refl (omega arith);
+      copying-first-year = λ a m d p. unlike 1 11 12 (p .years) refl refl (omega arith);
+      copying-first-month = λ a y d p. unlike 1 123 134 (p .months) refl refl (omega arith);
+      copying-first-day = λ a y m p. unlike 1 28 29 (p .days) refl refl (omega arith);
+      first-year-alone = λ a m d p. unlike 1 0 12 (p .years) refl refl (omega arith);
+      first-month-alone = λ a y d p. unlike 1 0 134 (p .months) refl refl (omega arith);
+      first-day-alone = λ a y m p. unlike 1 0 29 (p .days) refl refl (omega arith);
+    }
+
+pub wrong-writings : Paper.Wrong-writings
+unfolding writeInto listsWritten sectionWritten itemsWritten sheetOf laySection lay layAll
+wrong-writings =
+    record {
+      refusing-all = λ why o p.
+          let e : _≡_ {A = Answer ℕ} (refused (reasonNumber why)) (is 6) = p .answer in
+          let z : _≡_ {A = ℕ} 0 1 = cc in
+          omega arith;
+      filling-none = λ a p. unlike 0 0 1 (p .buffer) refl refl (omega arith);
+      copying-first-year = λ a p. unlike 4 11 12 (p .buffer) refl refl (omega arith);
+      copying-first-month = λ a p. unlike 8 123 134 (p .buffer) refl refl (omega arith);
+      copying-first-day = λ a p. unlike 10 28 29 (p .buffer) refl refl (omega arith);
+      first-year-alone = λ a p. unlike 4 0 12 (p .buffer) refl refl (omega arith);
+      first-month-alone = λ a p. unlike 8 0 134 (p .buffer) refl refl (omega arith);
+      first-day-alone = λ a p. unlike 10 0 29 (p .buffer) refl refl (omega arith);
     }

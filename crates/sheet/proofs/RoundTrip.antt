@@ -56,6 +56,27 @@ lay-number (suc w) (x ∷ t) h b =
 pub bytes-drop : (n : ℕ) (s : List ℕ) → AreBytes s → AreBytes (drop n s)
 bytes-drop n s b i = rw (getD-drop n s i 0) (b (n + i))
 
+-- what is laid is bytes
+pub bytes-append : (s t : List ℕ) → AreBytes s → AreBytes t → AreBytes (s ++ t)
+bytes-append [] t b c i = c i
+bytes-append (x ∷ s) t b c zero = b 0
+bytes-append (x ∷ s) t b c (suc i) = bytes-append s t (λ j. b (suc j)) c i
+
+bytes-lay : (w x : ℕ) → AreBytes (lay w x)
+unfolding lay
+bytes-lay zero x i = omega arith
+bytes-lay (suc w) x zero = omega arith
+bytes-lay (suc w) x (suc i) = bytes-lay w (x / 256) i
+
+bytes-all : (w : ℕ) (xs : List ℕ) → AreBytes (layAll w xs)
+unfolding layAll
+bytes-all w [] i = omega arith
+bytes-all w (x ∷ xs) i = bytes-append (lay w x) (layAll w xs) (bytes-lay w x) (bytes-all w xs) i
+
+pub bytes-section : (k : Section) (xs : List ℕ) → AreBytes (laySection k xs)
+unfolding laySection
+bytes-section k xs = bytes-append (lay 2 (length xs)) (layAll (k .width) xs) (bytes-lay 2 (length xs)) (bytes-all (k .width) xs)
+
 -- a section whose values fit its bytes, and whose items fit its count
 pub record Fit (k : Section) : Type 0 where
   pub values : k .most < 256 ^ k .width
@@ -77,7 +98,8 @@ module _ (k : Section) (fit : Fit k) where
       let e : (lay (k .width) z ++ layAll (k .width) xs) ++ t ≡ lay (k .width) z ++ u = append-assoc (lay (k .width) z) (layAll (k .width) xs) t in
       let n : number (k .width) (lay (k .width) z ++ u) ≡ z = number-lay (k .width) z u (in-range z (g .0)) in
       let d : drop (k .width) (lay (k .width) z ++ u) ≡ u = drop-at (lay (k .width) z) u (k .width) (length-lay (k .width) z) in
-      let l : leb (k .width) (length (lay (k .width) z ++ u)) ≡ true = le-leb (k .width) (length (lay (k .width) z ++ u)) (omega (arith, length-append (lay (k .width) z) u, length-lay (k .width) z)) in
+      let l : leb (k .width) (length (lay (k .width) z ++ u)) ≡ true =
+      le-leb (k .width) (length (lay (k .width) z ++ u)) (omega (arith, length-append (lay (k .width) z) u, length-lay (k .width) z)) in
       (rw (e, l, n, d, g .0) (r .0), rw (e, n, d, r .1))
 
   -- a good list, laid before t

@@ -48,7 +48,10 @@ use Rattle.sheet.proofs.Writing.{list-then, list-few}
 
 pub days-then : {A B : Type 0} (s : List ℕ) (x : A) (b : Answer B) → daysRead s b ≡ andThen (daysRead s (is x)) (λ y. b)
 unfolding daysRead
-days-then {A} {B} s x b = section-then dayItems s x (guard (leb (length (leftAfter dayItems s)) 0) 11 b) ∙ go (sectionRead dayItems s (is x)) (leb (length (leftAfter dayItems s)) 0) ∙ ap (λ (c : Answer A). andThen c (λ y. b)) (sym (section-then dayItems s x (guard (leb (length (leftAfter dayItems s)) 0) 11 (is x))))
+days-then {A} {B} s x b =
+    section-then dayItems s x (guard (leb (length (leftAfter dayItems s)) 0) 11 b)
+    ∙ go (sectionRead dayItems s (is x)) (leb (length (leftAfter dayItems s)) 0)
+    ∙ ap (λ (c : Answer A). andThen c (λ y. b)) (sym (section-then dayItems s x (guard (leb (length (leftAfter dayItems s)) 0) 11 (is x))))
   where
     go : (c : Answer A) (p : Bool) → andThen c (λ y. guard p 11 b) ≡ andThen (andThen c (λ y. guard p 11 (is x))) (λ y. b)
     go (is a) true = refl

@@ -4,9 +4,10 @@ use Prim.Native.Nat.{ℕ, _+_, _*_, _/_, _%_, _≤_, _<_}
 use mathlib.Core.Path.{_≡_}
 use mathlib.Core.Logic.{_↔_}
 use mathlib.Core.List.{List, [], _∷_, _++_}
-use lib.ListN.{length, getD, take, drop}
-use Rattle.rule.specs.Reasons.{is, refused, reasonNumber}
+use lib.ListN.{length, getD, take, drop, replicate}
+use Rattle.rule.specs.Reasons.{reasonNumber}
 use Rattle.rule.specs.declared.Reason.{Reason}
+use Rattle.rule.specs.declared.Reason.the-variants.{SheetEndsEarly, BytesAfterLast}
 use Rattle.sheet.specs.declared.Section.{Section}
 use Rattle.sheet.specs.declared.Counted.{Counted}
 use Rattle.sheet.specs.declared.SheetCounts.{SheetCounts}
@@ -23,21 +24,19 @@ use Rattle.sheet.specs.Sheet.{
   countOf,
   leftAfter,
   Lists,
+  threeLists,
   monthsPart,
   daysPart,
   listsIn,
-  readSheet,
-  readInto,
   sheetOf,
-  writeSheet,
-  writeInto,
 }
-use Rattle.sheet.specs.Promises.{counted, ReadingSheet, WritingSheet}
+use Rattle.sheet.specs.Promises.{counted, countsAre, countsIn, ReadingSheet, WritingSheet}
 
--- "Numbers are least byte first", of the two bytes of a year or a count and the four of a month or a day, read and laid
+-- "Numbers are least byte first", of the two bytes of a year or a count and the four of a month or a day, read from the front of
+-- what is left, and laid
 pub record Least-byte-first : Type 0 where
-  pub two : (a b : ℕ) → number 2 (a ∷ b ∷ []) ≡ a + 256 * b
-  pub four : (a b c d : ℕ) → number 4 (a ∷ b ∷ c ∷ d ∷ []) ≡ a + 256 * b + 65536 * c + 16777216 * d
+  pub two : (a b : ℕ) (left : List ℕ) → number 2 (a ∷ b ∷ left) ≡ a + 256 * b
+  pub four : (a b c d : ℕ) (left : List ℕ) → number 4 (a ∷ b ∷ c ∷ d ∷ left) ≡ a + 256 * b + 65536 * c + 16777216 * d
   pub laid-in-two : (x : ℕ) → lay 2 x ≡ (x % 256) ∷ (x / 256 % 256) ∷ []
   pub laid-in-four : (x : ℕ) → lay 4 x ≡ (x % 256) ∷ (x / 256 % 256) ∷ (x / 256 / 256 % 256) ∷ (x / 256 / 256 / 256 % 256) ∷ []
 
@@ -45,17 +44,51 @@ pub record Least-byte-first : Type 0 where
 abbrev pub AreBytes : List ℕ → Type 0
 AreBytes s = (i : ℕ) → getD s i 0 < 256
 
--- reading what was written gives the three lists back, and writing what was read gives the bytes back
-abbrev pub Reading-what-was-written : Type 0
-Reading-what-was-written = (l : Lists) (b : List ℕ) → writeSheet l ≡ is b → readSheet b ≡ is l
+-- "each section starts where the one before it ended": where the months and the days start in a sheet with the counts c, and
+-- where the sheet ends
+abbrev pub monthsFrom : Counted → ℕ
+monthsFrom c = 2 + 2 * c .years
 
-abbrev pub Writing-what-was-read : Type 0
-Writing-what-was-read = (s : List ℕ) (l : Lists) → AreBytes s → readSheet s ≡ is l → writeSheet l ≡ is s
+abbrev pub daysFrom : Counted → ℕ
+daysFrom c = monthsFrom c + (2 + 4 * c .months)
 
--- the same over the calls: the bytes that a call wrote, read into lists with room, and the items that a call read, written
--- into a buffer with room
+abbrev pub endOf : Counted → ℕ
+endOf c = daysFrom c + (2 + 4 * c .days)
+
+-- "item by item", of a section that starts at a place of the bytes s: its count n stands there, and item j of the list xs is
+-- the number that stands at its own place, w bytes to an item
+pub record StandsAt (s : List ℕ) (from w n : ℕ) (xs : List ℕ) : Type 0 where
+  pub count : number 2 (drop from s) ≡ n
+  pub item : (j : ℕ) → j < n → getD xs j 0 ≡ number w (drop (from + 2 + w * j) s)
+
+-- the same of a section that is written: the bytes at each place are those of the count, and those of item j
+pub record LaidAt (o : List ℕ) (from w : ℕ) (xs : List ℕ) : Type 0 where
+  pub count : take 2 (drop from o) ≡ lay 2 (length xs)
+  pub item : (j : ℕ) → j < length xs → take w (drop (from + 2 + w * j) o) ≡ lay w (getD xs j 0)
+
+pub record ReadByItem (s : List ℕ) (c : Counted) (y m d : List ℕ) : Type 0 where
+  pub years : StandsAt s 0 2 (c .years) y
+  pub months : StandsAt s (monthsFrom c) 4 (c .months) m
+  pub days : StandsAt s (daysFrom c) 4 (c .days) d
+  pub end : length s ≡ endOf c
+
+pub record WrittenByItem (y m d : List ℕ) (c : Counted) (n : ℕ) (o : List ℕ) : Type 0 where
+  pub years : LaidAt o 0 2 y
+  pub months : LaidAt o (monthsFrom c) 4 m
+  pub days : LaidAt o (daysFrom c) 4 d
+  pub end : n ≡ endOf c
+
+pub record Item-by-item : Type 0 where
+  pub reading :
+      (s y m d y′ m′ d′ : List ℕ) (c : Counted) → ReadingSheet s y m d (Counts'.Is c) y′ m′ d′ → ReadByItem s c y′ m′ d′
+  pub writing :
+      (y m d o o′ : List ℕ) (n : ℕ) → WritingSheet y m d o (HowMany'.Is n) o′ →
+      WrittenByItem y m d (countsAre (length y) (length m) (length d)) n o′
+
+-- reading what was written gives the three lists back, and writing what was read gives the bytes back: the bytes that a call
+-- wrote, read into lists with room, and the items that a call read, written into a buffer with room
 pub record ReadBack (y m d y₀ m₀ d₀ : List ℕ) (r : SheetCounts) (y′ m′ d′ : List ℕ) : Type 0 where
-  pub answer : r ≡ Counts'.Is (counted (record { years = y; months = m; days = d }))
+  pub answer : r ≡ Counts'.Is (countsAre (length y) (length m) (length d))
   pub years : y′ ≡ placed y y₀
   pub months : m′ ≡ placed m m₀
   pub days : d′ ≡ placed d d₀
@@ -73,28 +106,6 @@ Calls-back-and-there =
     ReadingSheet s y₀ m₀ d₀ (Counts'.Is c) y′ m′ d′ →
     WritingSheet (take (c .years) y′) (take (c .months) m′) (take (c .days) d′) o r o′ →
     length s ≤ length o → (r ≡ HowMany'.Is (length s)) × (o′ ≡ placed s o)
-
--- "One set of three lists has one sheet": two sheets that read alike are the same bytes
-abbrev pub One-sheet : Type 0
-One-sheet = (s t : List ℕ) (l : Lists) → AreBytes s → AreBytes t → readSheet s ≡ is l → readSheet t ≡ is l → s ≡ t
-
--- every sheet that reads has 6 + 2y + 4m + 4d bytes
-abbrev pub Size-of-a-sheet : Type 0
-Size-of-a-sheet =
-    (s : List ℕ) (l : Lists) → readSheet s ≡ is l →
-    length s ≡ 6 + 2 * length (l .years) + 4 * length (l .months) + 4 * length (l .days)
-
--- "the longest sheet has 10,006 bytes": none has more, and one has as many
-pub record Longest-sheet : Type 0 where
-  pub none-longer : (s : List ℕ) (l : Lists) → readSheet s ≡ is l → length s ≤ 10006
-  pub one-so-long : (s : List ℕ) × (l : Lists) × (readSheet s ≡ is l) × (length s ≡ 10006)
-
--- bytes cut off the end of any good sheet give 9, and bytes added to it 11, whatever lists are lent
-abbrev pub Cut-off : Type 0
-Cut-off = (s : List ℕ) (b : ℕ) (t : List ℕ) (l : Lists) (y m d : ℕ) → readSheet (s ++ (b ∷ t)) ≡ is l → readInto s y m d ≡ refused 9
-
-abbrev pub Added : Type 0
-Added = (s : List ℕ) (b : ℕ) (t : List ℕ) (l : Lists) (y m d : ℕ) → readSheet s ≡ is l → readInto (s ++ (b ∷ t)) y m d ≡ refused 11
 
 -- a value of a section's item is in its range: 1 to 41,040, at most 507,599, at most 14,989,859
 abbrev pub InSection : Section → ℕ → Type 0
@@ -159,13 +170,18 @@ pub record GoodSheet (s : List ℕ) (y m d : ℕ) : Type 0 where
   pub room-months : countOf (monthsPart s) ≤ m
   pub room-days : countOf (daysPart s) ≤ d
 
--- each reason if and only if its row holds and no earlier fault does; and an answer if and only if there is no fault
-pub record ReadingReasons (s : List ℕ) (y m d : ℕ) : Type 0 where
-  pub reason : (r : ℕ) → (readInto s y m d ≡ refused r) ↔ SheetFault s y m d r
-  pub given : (readInto s y m d ≡ is (listsIn s)) ↔ GoodSheet s y m d
+-- each reason if and only if its row holds and no earlier fault does; and the sheet's own counts and items if and only if there
+-- is no fault
+pub record ReadingReasons (s y m d : List ℕ) : Type 0 where
+  pub reason :
+      (why : Reason) →
+      ReadingSheet s y m d (Counts'.Refused why) y m d ↔ SheetFault s (length y) (length m) (length d) (reasonNumber why)
+  pub given :
+      ReadingSheet s y m d (Counts'.Is (countsIn s)) (placed (listsIn s .years) y) (placed (listsIn s .months) m) (placed (listsIn s .days) d)
+      ↔ GoodSheet s (length y) (length m) (length d)
 
 abbrev pub Reasons-of-reading : Type 0
-Reasons-of-reading = (s : List ℕ) (y m d : ℕ) → ReadingReasons s y m d
+Reasons-of-reading = (s y m d : List ℕ) → ReadingReasons s y m d
 
 -- the same of a list to be written: a length above 1,000, then the first item outside its range
 pub record GoodList (k : Section) (xs : List ℕ) : Type 0 where
@@ -190,12 +206,60 @@ pub data ListsFault (l : Lists) (n r : ℕ) : Type 0 where
       GoodList yearItems (l .years) → GoodList monthItems (l .months) → ListFault dayItems (l .days) r → ListsFault l n r
   buffer-short : GoodLists l → n < length (sheetOf l) → r ≡ 12 → ListsFault l n r
 
-pub record WritingReasons (l : Lists) (n : ℕ) : Type 0 where
-  pub reason : (r : ℕ) → (writeInto l n ≡ refused r) ↔ ListsFault l n r
-  pub given : (writeInto l n ≡ is (sheetOf l)) ↔ (GoodLists l × (length (sheetOf l) ≤ n))
+pub record WritingReasons (y m d o : List ℕ) : Type 0 where
+  pub reason :
+      (why : Reason) → WritingSheet y m d o (HowMany'.Refused why) o ↔ ListsFault (threeLists y m d) (length o) (reasonNumber why)
+  pub given :
+      WritingSheet y m d o (HowMany'.Is (length (sheetOf (threeLists y m d)))) (placed (sheetOf (threeLists y m d)) o)
+      ↔ (GoodLists (threeLists y m d) × (length (sheetOf (threeLists y m d)) ≤ length o))
 
 abbrev pub Reasons-of-writing : Type 0
-Reasons-of-writing = (l : Lists) (n : ℕ) → WritingReasons l n
+Reasons-of-writing = (y m d o : List ℕ) → WritingReasons y m d o
+
+-- s is a sheet of the three lists l: bytes that are read as l, into any lists with room for them
+pub record IsSheetOf (l : Lists) (s : List ℕ) : Type 0 where
+  pub bytes : AreBytes s
+  pub reads :
+      (y m d : List ℕ) → length (l .years) ≤ length y → length (l .months) ≤ length m → length (l .days) ≤ length d →
+      ReadingSheet s y m d (Counts'.Is (counted l)) (placed (l .years) y) (placed (l .months) m) (placed (l .days) d)
+
+-- "One set of three lists has one sheet": there is one, and there is no other
+abbrev pub One-sheet : Type 0
+One-sheet = (l : Lists) → GoodLists l → (s : List ℕ) × IsSheetOf l s × ((t : List ℕ) → IsSheetOf l t → t ≡ s)
+
+-- "the longest sheet has 10,006 bytes": none has more, and one has as many
+pub record Longest-sheet : Type 0 where
+  pub none-longer : (s : List ℕ) (l : Lists) → IsSheetOf l s → length s ≤ 10006
+  pub one-so-long : (s : List ℕ) × (l : Lists) × IsSheetOf l s × (length s ≡ 10006)
+
+-- bytes cut off the end of any sheet give 9, and bytes added to it 11, whatever lists are lent
+abbrev pub Cut-off : Type 0
+Cut-off =
+    (s : List ℕ) (b : ℕ) (t : List ℕ) (l : Lists) (y m d : List ℕ) → IsSheetOf l (s ++ (b ∷ t)) →
+    ReadingSheet s y m d (Counts'.Refused SheetEndsEarly) y m d
+
+abbrev pub Added : Type 0
+Added =
+    (s : List ℕ) (b : ℕ) (t : List ℕ) (l : Lists) (y m d : List ℕ) → IsSheetOf l s →
+    ReadingSheet (s ++ (b ∷ t)) y m d (Counts'.Refused BytesAfterLast) y m d
+
+-- "All lent memory stays as before the call": a refused call changes nothing
+pub record Refusal-changes-nothing : Type 0 where
+  pub reading :
+      (s y m d y′ m′ d′ : List ℕ) (why : Reason) → ReadingSheet s y m d (Counts'.Refused why) y′ m′ d′ →
+      (y′ ≡ y) × (m′ ≡ m) × (d′ ≡ d)
+  pub writing : (y m d o o′ : List ℕ) (why : Reason) → WritingSheet y m d o (HowMany'.Refused why) o′ → o′ ≡ o
+
+-- "Both leave places beyond what they fill untouched", where n places are filled
+pub record RestKept (n : ℕ) (old new : List ℕ) : Type 0 where
+  pub places : length new ≡ length old
+  pub rest : drop n new ≡ drop n old
+
+pub record Rest-untouched : Type 0 where
+  pub reading :
+      (s y m d y′ m′ d′ : List ℕ) (c : Counted) → ReadingSheet s y m d (Counts'.Is c) y′ m′ d′ →
+      RestKept (c .years) y y′ × RestKept (c .months) m m′ × RestKept (c .days) d d′
+  pub writing : (y m d o o′ : List ℕ) (n : ℕ) → WritingSheet y m d o (HowMany'.Is n) o′ → RestKept n o o′
 
 -- each promise leaves one answer and one state of lent memory
 abbrev pub Unique-reading : Type 0
@@ -209,32 +273,55 @@ Unique-writing =
     (y m d o : List ℕ) (a b : HowMany) (o₁ o₂ : List ℕ) →
     WritingSheet y m d o a o₁ → WritingSheet y m d o b o₂ → (a ≡ b) × (o₁ ≡ o₂)
 
--- the empty sheet of case 12, the sheet of the year 11 alone, and one of the years 11 and 12
+-- the empty sheet of case 12, and the sheet of the year 11 alone
 abbrev pub emptySheet : List ℕ
 emptySheet = 0 ∷ 0 ∷ 0 ∷ 0 ∷ 0 ∷ 0 ∷ []
 
 abbrev pub sheetOf11 : List ℕ
 sheetOf11 = 1 ∷ 0 ∷ 11 ∷ 0 ∷ 0 ∷ 0 ∷ 0 ∷ 0 ∷ []
 
-abbrev pub sheetOf11and12 : List ℕ
-sheetOf11and12 = 2 ∷ 0 ∷ 11 ∷ 0 ∷ 12 ∷ 0 ∷ 0 ∷ 0 ∷ 0 ∷ 0 ∷ []
-
 -- case 12: "three zero counts"
 abbrev pub Empty-sheet : Type 0
-Empty-sheet = readSheet emptySheet ≡ is (record { years = []; months = []; days = [] })
+Empty-sheet = (y m d : List ℕ) → ReadingSheet emptySheet y m d (Counts'.Is (countsAre 0 0 0)) y m d
 
--- wrong versions, each shut out at some input: refusing all, filling no list, copying the first item over the rest, and
+-- a sheet with two items in each list: the years 11 and 12, the months 123 and 134, the days 28 and 29
+abbrev pub sheetOfTwos : List ℕ
+sheetOfTwos =
+    (2 ∷ 0 ∷ 11 ∷ 0 ∷ 12 ∷ 0 ∷ [])
+    ++ ((2 ∷ 0 ∷ 123 ∷ 0 ∷ 0 ∷ 0 ∷ 134 ∷ 0 ∷ 0 ∷ 0 ∷ []) ++ (2 ∷ 0 ∷ 28 ∷ 0 ∷ 0 ∷ 0 ∷ 29 ∷ 0 ∷ 0 ∷ 0 ∷ []))
+
+-- what a call may do that reads it into lists of two noughts
+abbrev pub ReadingTwos : SheetCounts → List ℕ → List ℕ → List ℕ → Type 0
+ReadingTwos = ReadingSheet sheetOfTwos (0 ∷ 0 ∷ []) (0 ∷ 0 ∷ []) (0 ∷ 0 ∷ [])
+
+-- wrong versions, each shut out at a named input: refusing all, filling no list, copying the first item over the rest, and
 -- leaving out the rest
 pub record Wrong-readings : Type 0 where
-  pub refusing-all : (r : Reason) (y m d : List ℕ) → ReadingSheet emptySheet [] [] [] (Counts'.Refused r) y m d → ⊥
+  pub refusing-all : (why : Reason) (y m d : List ℕ) → ReadingSheet emptySheet [] [] [] (Counts'.Refused why) y m d → ⊥
   pub filling-none : (a : SheetCounts) (m d : List ℕ) → ReadingSheet sheetOf11 (0 ∷ []) [] [] a (0 ∷ []) m d → ⊥
-  pub copying-first : (a : SheetCounts) (m d : List ℕ) → ReadingSheet sheetOf11and12 (0 ∷ 0 ∷ []) [] [] a (11 ∷ 11 ∷ []) m d → ⊥
-  pub first-alone : (a : SheetCounts) (m d : List ℕ) → ReadingSheet sheetOf11and12 (0 ∷ 0 ∷ []) [] [] a (11 ∷ 0 ∷ []) m d → ⊥
+  pub copying-first-year : (a : SheetCounts) (m d : List ℕ) → ReadingTwos a (11 ∷ 11 ∷ []) m d → ⊥
+  pub copying-first-month : (a : SheetCounts) (y d : List ℕ) → ReadingTwos a y (123 ∷ 123 ∷ []) d → ⊥
+  pub copying-first-day : (a : SheetCounts) (y m : List ℕ) → ReadingTwos a y m (28 ∷ 28 ∷ []) → ⊥
+  pub first-year-alone : (a : SheetCounts) (m d : List ℕ) → ReadingTwos a (11 ∷ 0 ∷ []) m d → ⊥
+  pub first-month-alone : (a : SheetCounts) (y d : List ℕ) → ReadingTwos a y (123 ∷ 0 ∷ []) d → ⊥
+  pub first-day-alone : (a : SheetCounts) (y m : List ℕ) → ReadingTwos a y m (28 ∷ 0 ∷ []) → ⊥
+
+-- what a call may do that writes two years, two months or two days into a buffer of noughts
+abbrev pub WritingYears : HowMany → List ℕ → Type 0
+WritingYears = WritingSheet (11 ∷ 12 ∷ []) [] [] (replicate 10 0)
+
+abbrev pub WritingMonths : HowMany → List ℕ → Type 0
+WritingMonths = WritingSheet [] (123 ∷ 134 ∷ []) [] (replicate 14 0)
+
+abbrev pub WritingDays : HowMany → List ℕ → Type 0
+WritingDays = WritingSheet [] [] (28 ∷ 29 ∷ []) (replicate 14 0)
 
 pub record Wrong-writings : Type 0 where
-  pub refusing-all : (r : Reason) (o : List ℕ) → WritingSheet [] [] [] emptySheet (HowMany'.Refused r) o → ⊥
-  pub filling-none : (a : HowMany) → WritingSheet (11 ∷ []) [] [] (0 ∷ 0 ∷ 0 ∷ 0 ∷ 0 ∷ 0 ∷ 0 ∷ 0 ∷ []) a (0 ∷ 0 ∷ 0 ∷ 0 ∷ 0 ∷ 0 ∷ 0 ∷ 0 ∷ []) → ⊥
-  pub copying-first :
-      (a : HowMany) →
-      WritingSheet (11 ∷ 12 ∷ []) [] [] (0 ∷ 0 ∷ 0 ∷ 0 ∷ 0 ∷ 0 ∷ 0 ∷ 0 ∷ 0 ∷ 0 ∷ []) a (2 ∷ 0 ∷ 11 ∷ 0 ∷ 11 ∷ 0 ∷ 0 ∷ 0 ∷ 0 ∷ 0 ∷ []) →
-      ⊥
+  pub refusing-all : (why : Reason) (o : List ℕ) → WritingSheet [] [] [] (replicate 6 0) (HowMany'.Refused why) o → ⊥
+  pub filling-none : (a : HowMany) → WritingSheet (11 ∷ []) [] [] (replicate 8 0) a (replicate 8 0) → ⊥
+  pub copying-first-year : (a : HowMany) → WritingYears a (2 ∷ 0 ∷ 11 ∷ 0 ∷ 11 ∷ 0 ∷ 0 ∷ 0 ∷ 0 ∷ 0 ∷ []) → ⊥
+  pub copying-first-month : (a : HowMany) → WritingMonths a (0 ∷ 0 ∷ 2 ∷ 0 ∷ 123 ∷ 0 ∷ 0 ∷ 0 ∷ 123 ∷ 0 ∷ 0 ∷ 0 ∷ 0 ∷ 0 ∷ []) → ⊥
+  pub copying-first-day : (a : HowMany) → WritingDays a (0 ∷ 0 ∷ 0 ∷ 0 ∷ 2 ∷ 0 ∷ 28 ∷ 0 ∷ 0 ∷ 0 ∷ 28 ∷ 0 ∷ 0 ∷ 0 ∷ []) → ⊥
+  pub first-year-alone : (a : HowMany) → WritingYears a (2 ∷ 0 ∷ 11 ∷ 0 ∷ 0 ∷ 0 ∷ 0 ∷ 0 ∷ 0 ∷ 0 ∷ []) → ⊥
+  pub first-month-alone : (a : HowMany) → WritingMonths a (0 ∷ 0 ∷ 2 ∷ 0 ∷ 123 ∷ 0 ∷ 0 ∷ 0 ∷ 0 ∷ 0 ∷ 0 ∷ 0 ∷ 0 ∷ 0 ∷ []) → ⊥
+  pub first-day-alone : (a : HowMany) → WritingDays a (0 ∷ 0 ∷ 0 ∷ 0 ∷ 2 ∷ 0 ∷ 28 ∷ 0 ∷ 0 ∷ 0 ∷ 0 ∷ 0 ∷ 0 ∷ 0 ∷ []) → ⊥

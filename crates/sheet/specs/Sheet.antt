@@ -5,8 +5,7 @@ use mathlib.Core.Bool.{Bool, _&&_}
 use mathlib.Core.List.{List, [], _∷_, _++_}
 use lib.Dec.{leb}
 use lib.ListN.{length, getD, drop}
-use Rattle.rule.specs.Lists.{placed}
-use Rattle.rule.specs.Reasons.{Answer, is, refused, refused-with, guard, andThen, within, reasonNumber, intoRoom}
+use Rattle.rule.specs.Reasons.{Answer, is, guard, andThen, within, reasonNumber, intoRoom}
 use Rattle.rule.specs.declared.Reason.the-variants.{NoSuchYear, NoSuchMonth, NoSuchDay}
 use Rattle.sheet.specs.declared.Section.{Section}
 
@@ -74,6 +73,10 @@ pub record Lists : Type 0 where
   pub years : List ℕ
   pub months : List ℕ
   pub days : List ℕ
+
+-- "three whole lists"
+abbrev pub threeLists : List ℕ → List ℕ → List ℕ → Lists
+threeLists y m d = record { years = y; months = m; days = d }
 
 abbrev pub monthsPart : List ℕ → List ℕ
 monthsPart s = leftAfter yearItems s
