@@ -1,19 +1,19 @@
 -- The statements of specs/Paper, proved, each under its own name. Assumes nothing.
-use Prim.Native.Nat.{ℕ, _+_, _≤_, _<_}
+use Prim.Native.Nat.{ℕ, _≤_, _<_}
 use native.Mathlib.Omega.{arith}
 use mathlib.Core.Path.{_≡_, refl, ap, ap₂, sym, _∙_, subst}
 use mathlib.Core.Bool.{Bool, true, false}
 use mathlib.Core.List.{List, [], _∷_, _++_, append-assoc}
-use mathlib.Core.Logic.{_↔_}
-use native.Mathlib.Decide.{decLt}
+use mathlib.Core.Logic.{_↔_, Iff·trans}
 use lib.Dec.{leb}
-use lib.ListN.{length, getD, take, drop, take-append-drop}
-use lib.Seq.{take-all, length-take-le}
+use lib.ListN.{length, getD}
+use borrow.Author.Tests.{leb-true}
 use Rattle.rule.specs.Counts.{dayName, yearName}
 use Rattle.rule.specs.Rule.{
   monthStart,
   monthLength,
   monthOfDay,
+  yearOfMonth,
   firstMonth,
   monthsInYear,
   midTermsBefore,
@@ -29,13 +29,15 @@ use Rattle.rule.specs.Rule.{
 use Rattle.rule.specs.Lists.{those, placed}
 use Rattle.rule.specs.Reasons.{Answer, is, refused, guard, within, andThen, reasonNumber, intoRoom, afterwards}
 use Rattle.rule.specs.declared.Reason.{Reason}
-use Rattle.rule.proofs.Answers.{within-true, at-most, two-given, two-first, two-second}
-use Rattle.rule.proofs.Lists.{table, table-length}
+use Rattle.rule.specs.declared.Reason.the-variants.{NoSuchYear, NoSuchMonth, NoSuchDay, LentTooShort}
+use Rattle.rule.proofs.Answers.{within-true, holds-all, at-most, two-given, two-first, two-second, given-not}
 use Rattle.dates.specs.Dates.{dateIn, dateOf}
 use Rattle.facts.specs.Facts.{monthFacts, yearFacts}
 use Rattle.sheet.specs.declared.HowMany.{HowMany}
 use Rattle.sheet.specs.declared.HowMany.the-variants as HowMany'
-use Rattle.sheet.proofs.Paper.{how-many-once}
+use Rattle.sheet.specs.Paper.{RestKept}
+use Rattle.sheet.proofs.Places.{unlike, InFront, rest-kept}
+use Rattle.sheet.proofs.Paper.{how-many-once, made-of, refused-of}
 use Rattle.sheet.specs.Sheet.{
   number,
   numbers,
@@ -50,7 +52,7 @@ use Rattle.sheet.specs.Sheet.{
   sheetRead,
   readSheet,
 }
-use Rattle.fields.specs.Fields.{word, digits, decimal, mark, followed, joined, lined, each}
+use Rattle.fields.specs.Fields.{word, digits, decimal, followed, joined, each}
 use Rattle.lines.specs.Lines.{
   fieldsOfYear,
   monthLine,
@@ -65,8 +67,9 @@ use Rattle.lines.specs.Lines.{
   listing,
 }
 use Rattle.fields.proofs.Paper.{first-tells}
-use Rattle.lines.specs.Promises.{yearBlockAt, monthLineAt, monthItemAt, dayItemAt, Printed, PrintYear}
-use Rattle.lines.specs.Paper.{inLines}
+use Rattle.lines.specs.Promises.{yearBlockAt, monthLineAt, monthItemAt, dayItemAt, Printed}
+use Rattle.lines.specs.Paper.{inLines, exampleOf11}
+use Rattle.lines.proofs.Printing.{printed-refused}
 use Rattle.lines.specs.Paper as Paper
 
 pub example-of-the-paper : Paper.Example-of-the-paper
@@ -133,14 +136,46 @@ day-line-literally d = rw (number-at (monthOfDay d), mark-at (monthOfDay d)) ref
 pub two-months-two-lines : Paper.Two-months-two-lines
 two-months-two-lines n m e = first-tells n m _ _ (sym (month-line-literally n) ∙ e ∙ month-line-literally m)
 
+-- an answered call: the whole text, in a buffer with room for it
+module _ (t : Bool) (k : ℕ) (text o : List ℕ) where
+  text-given : {n : ℕ} {o′ : List ℕ} → Printed (guard t k (intoRoom (length o) text)) o (HowMany'.Is n) o′ → guard t k (intoRoom (length o) text) ≡ is text
+  text-given {n} p =
+      let w = made-of (guard t k (intoRoom (length o) text)) length n (p .answer) in
+      let r = holds-all t k (intoRoom (length o) text) (w .0) .0 (w .1) in
+      w .1 ∙ sym (holds-all (leb (length text) (length o)) 12 (is text) (w .0) .0 (r .1) .1)
+
+  text-in-front : (o′ : List ℕ) (n : ℕ) → Printed (guard t k (intoRoom (length o) text)) o (HowMany'.Is n) o′ → RestKept n o o′
+  text-in-front o′ n p =
+      let g = text-given p in
+      let r = holds-all t k (intoRoom (length o) text) text .0 g in
+      let e : _≡_ {A = Answer ℕ} (is n) (is (length text)) = p .answer ∙ ap (λ (a : Answer (List ℕ)). andThen a (λ b. is (length b))) g in
+      let f : InFront n text o o′ =
+      record {
+        room = leb-true (length text) (length o) (holds-all (leb (length text) (length o)) 12 (is text) text .0 (r .1) .0);
+        count = cc;
+        list = p .buffer ∙ ap (λ (a : Answer (List ℕ)). afterwards a (λ b. b) o) g;
+      }
+      in
+      rest-kept f
+
+pub rest-untouched : Paper.Rest-untouched
+unfolding yearBlockAt monthLineAt monthItemAt dayItemAt
+rest-untouched =
+    record {
+      year = λ y o. text-in-front (within 1 _ y) 1 (yearBlock y) o;
+      month-line = λ n o. text-in-front (leb n _) 7 (monthLined n) o;
+      month = λ n o. text-in-front (leb n _) 7 (monthItem n) o;
+      day = λ d o. text-in-front (leb d _) 6 (dayItem d) o;
+    }
+
 pub reasons-of-printing : Paper.Reasons-of-printing
 unfolding yearBlockAt monthLineAt monthItemAt dayItemAt
 reasons-of-printing =
     record {
-      year = λ y n. of-text (within 1 _ y) 1 (omega arith) (yearBlock y) n (years-to y (omega arith));
-      month-line = λ m n. of-text (leb m _) 7 (omega arith) (monthLined m) n (to m (omega arith));
-      month = λ m n. of-text (leb m _) 7 (omega arith) (monthItem m) n (to m (omega arith));
-      day = λ d n. of-text (leb d _) 6 (omega arith) (dayItem d) n (to d (omega arith));
+      year = λ y o. of-text (within 1 _ y) NoSuchYear (omega arith) (yearBlock y) o (years-to y (omega arith));
+      month-line = λ m o. of-text (leb m _) NoSuchMonth (omega arith) (monthLined m) o (to m (omega arith));
+      month = λ m o. of-text (leb m _) NoSuchMonth (omega arith) (monthItem m) o (to m (omega arith));
+      day = λ d o. of-text (leb d _) NoSuchDay (omega arith) (dayItem d) o (to d (omega arith));
     }
   where
     -- the range that is tested is the range that is said
@@ -150,16 +185,34 @@ reasons-of-printing =
     years-to : (x : ℕ) {k n : ℕ} → k ≡ n → (within 1 k x ≡ true) ↔ ((1 ≤ x) × (x ≤ n))
     years-to x {k} e = subst (λ (n : ℕ). (within 1 k x ≡ true) ↔ ((1 ≤ x) × (x ≤ n))) e (within-true 1 k x)
 
-    of-text : {There : Type 0} (t : Bool) (k : ℕ) → k < 12 → (text : List ℕ) (n : ℕ) → ((t ≡ true) ↔ There) →
-        Paper.PrintReasons There k text n (guard t k (intoRoom n text))
-    of-text t k l text n e =
+    refusal : (a : Answer (List ℕ)) (o : List ℕ) (why : Reason) → Printed a o (HowMany'.Refused why) o ↔ (a ≡ refused (reasonNumber why))
+    refusal a o why = (λ p. refused-of a length (reasonNumber why) (p .answer), printed-refused o why)
+
+    of-text : {There : Type 0} (t : Bool) (why : Reason) → reasonNumber why < 12 → (text o : List ℕ) → ((t ≡ true) ↔ There) →
+        Paper.PrintReasons There why text o (Printed (guard t (reasonNumber why) (intoRoom (length o) text)) o)
+    of-text t why l text o e =
+        let k : ℕ = reasonNumber why in
+        let s : Bool = leb (length text) (length o) in
+        let f = at-most (length text) (length o) in
         record {
-          absent = two-first t (leb (length text) n) k 12 l text e (at-most (length text) n);
-          short = two-second t (leb (length text) n) k 12 l text e (at-most (length text) n);
-          given = two-given t (leb (length text) n) k 12 l text e (at-most (length text) n);
+          absent = Iff·trans (refusal (guard t k (intoRoom (length o) text)) o why) (two-first t s k 12 l text e f);
+          short = Iff·trans (refusal (guard t k (intoRoom (length o) text)) o LentTooShort) (two-second t s k 12 l text e f);
+          given = Iff·trans (text-given t k text o, λ h. record { answer = rw (h); buffer = rw (h) }) (two-given t s k 12 l text e f);
         }
 
 -- whatever the answer is that was to be printed
+printed-kept : (a : Answer (List ℕ)) (o o′ : List ℕ) (why : Reason) → Printed a o (HowMany'.Refused why) o′ → o′ ≡ o
+printed-kept a o o′ why p = p .buffer ∙ ap (λ (c : Answer (List ℕ)). afterwards c (λ b. b) o) (refused-of a length (reasonNumber why) (p .answer))
+
+pub refusal-changes-nothing : Paper.Refusal-changes-nothing
+refusal-changes-nothing =
+    record {
+      year = λ y o. printed-kept (yearBlockAt y (length o)) o;
+      month-line = λ n o. printed-kept (monthLineAt n (length o)) o;
+      month = λ n o. printed-kept (monthItemAt n (length o)) o;
+      day = λ d o. printed-kept (dayItemAt d (length o)) o;
+    }
+
 printed-once : (x : Answer (List ℕ)) (o : List ℕ) (a b : HowMany) (o₁ o₂ : List ℕ) → Printed x o a o₁ → Printed x o b o₂ → (a ≡ b) × (o₁ ≡ o₂)
 printed-once x o a b o₁ o₂ p q = (how-many-once a b (p .answer ∙ sym (q .answer)), p .buffer ∙ sym (q .buffer))
 
@@ -172,59 +225,40 @@ unique-printing =
       day = λ d o. printed-once (dayItemAt d (length o)) o;
     }
 
--- a buffer of noughts with room for a text, and one more
-abbrev noughts : List ℕ → List ℕ
-noughts text = 0 ∷ table (λ i. 0) 0 (length text)
+-- what is given at a named input: a refusal is shut out, and so is a buffer that differs from it at a place
+not-refused : {a : Answer (List ℕ)} {text o o′ : List ℕ} {why : Reason} → a ≡ is text → Printed a o (HowMany'.Refused why) o′ → ⊥
+not-refused {a} {text} {why = why} e p = given-not a text (reasonNumber why) e (refused-of a length (reasonNumber why) (p .answer))
 
-room-in-noughts : (text : List ℕ) → length text ≤ length (noughts text)
-room-in-noughts text = omega (arith, table-length (λ i. 0) 0 (length text))
+not-so : {a : Answer (List ℕ)} {text o o′ : List ℕ} {r : HowMany} (i x z : ℕ) → a ≡ is text → Printed a o r o′ → getD o′ i 0 ≡ x → getD (placed text o) i 0 ≡ z → x < z → ⊥
+not-so {o = o} i x z e p f g l = unlike i x z (p .buffer ∙ ap (λ (c : Answer (List ℕ)). afterwards c (λ s. s) o) e) f g l
 
-not-refused : {a : Answer (List ℕ)} {text o o′ : List ℕ} {r : Reason} → a ≡ is text → Printed a o (HowMany'.Refused r) o′ → ⊥
-not-refused {a} {text} {r = r} e p =
-    let f : _≡_ {A = Answer ℕ} (refused (reasonNumber r)) (is (length text)) = p .answer ∙ ap (λ (c : Answer (List ℕ)). andThen c (λ b. is (length b))) e in
-    let o : _≡_ {A = ℕ} 0 1 = cc in
-    omega arith
+year-11 : yearBlockAt 11 300 ≡ is exampleOf11
+unfolding yearBlockAt inLines yearBlock monthLined monthFacts yearFacts dayName yearName monthStart monthLength firstMonth monthsInYear midTermsBefore leap midTermNumber monthNumber monthAt eclipse those digits decimal followed each
+year-11 = refl
 
-not-unwritten : {a : Answer (List ℕ)} {b : ℕ} {rest : List ℕ} (text : List ℕ) {r : HowMany} → a ≡ is text → text ≡ b ∷ rest → 1 ≤ b → Printed a (noughts text) r (noughts text) → ⊥
-not-unwritten {b = b} {rest} text e f l p =
-    let g : noughts text ≡ placed text (noughts text) = p .buffer ∙ ap (λ (c : Answer (List ℕ)). afterwards c (λ s. s) (noughts text)) e in
-    let h : 0 ≡ b = ap (λ (s : List ℕ). getD s 0 0) g ∙ ap (λ (s : List ℕ). getD (s ++ drop (length text) (noughts text)) 0 0) f in
-    omega (arith, h, l)
+line-134 : monthLineAt 134 300 ≡ is (inLines (word "134 9 L 58 29 E" ∷ []))
+unfolding monthLineAt inLines monthLined monthFacts dayName monthStart monthLength midTermsBefore leap midTermNumber monthNumber monthAt eclipse digits decimal followed
+line-134 = refl
 
--- after the header, in place 26, a line follows and not what was lent
-year-11-given : yearBlockAt 11 (length (noughts (yearBlock 11))) ≡ is (yearBlock 11)
-year-11-given = reasons-of-printing .year 11 (length (noughts (yearBlock 11))) .given .1 ((omega arith, omega arith), room-in-noughts (yearBlock 11))
+month-134 : monthItemAt 134 300 ≡ is (inLines (word "MONTH 134 9 L 58 29 E" ∷ []))
+unfolding monthItemAt inLines monthItem monthFacts dayName monthStart monthLength midTermsBefore leap midTermNumber monthNumber monthAt eclipse digits decimal followed
+month-134 = refl
 
-not-header : {a : HowMany} → PrintYear 11 (noughts (yearBlock 11)) a (placed (lined (fieldsOfYear 11 (yearFacts 11))) (noughts (yearBlock 11))) → ⊥
-unfolding yearBlock monthLined monthFacts yearFacts dayName yearName monthStart monthLength firstMonth monthsInYear midTermsBefore leap midTermNumber monthNumber monthAt eclipse those table digits decimal followed each
-not-header p =
-    let g = p .buffer ∙ ap (λ (c : Answer (List ℕ)). afterwards c (λ s. s) (noughts (yearBlock 11))) year-11-given in
-    let h : _≡_ {A = ℕ} 0 49 = ap (λ (s : List ℕ). getD s 26 0) g in
-    omega (arith, h)
+day-0 : dayItemAt 0 300 ≡ is (inLines (word "DAY 0 1 11 - 1 1" ∷ []))
+unfolding dayItemAt inLines dayItem dateOf dateIn monthOfDay yearOfMonth yearName dayName monthStart monthLength midTermsBefore leap midTermNumber monthNumber monthAt digits decimal followed
+day-0 = refl
 
 pub wrong-printings : Paper.Wrong-printings
-unfolding yearBlock monthLined monthItem dayItem followed digits decimal
+unfolding inLines
 wrong-printings =
     record {
-      year-refused = λ h. not-refused year-given (h 1 (noughts (yearBlock 1)) .1);
-      year-unwritten = λ h. not-unwritten (yearBlock 1) year-given refl (omega arith) (h 1 (noughts (yearBlock 1)) .1);
-      header-alone = λ h. not-header (h 11 (noughts (yearBlock 11)) .1);
-      month-line-refused = λ h. not-refused line-given (h 0 (noughts (monthLined 0)) .1);
-      month-line-unwritten = λ h. not-unwritten (monthLined 0) line-given refl (omega arith) (h 0 (noughts (monthLined 0)) .1);
-      month-refused = λ h. not-refused month-given (h 0 (noughts (monthItem 0)) .1);
-      month-unwritten = λ h. not-unwritten (monthItem 0) month-given refl (omega arith) (h 0 (noughts (monthItem 0)) .1);
-      day-refused = λ h. not-refused day-given (h 0 (noughts (dayItem 0)) .1);
-      day-unwritten = λ h. not-unwritten (dayItem 0) day-given refl (omega arith) (h 0 (noughts (dayItem 0)) .1);
+      year-refused = λ why o p. not-refused year-11 p;
+      year-unwritten = λ a p. not-so 0 0 89 year-11 p refl refl (omega arith);
+      header-alone = λ a p. not-so 26 0 49 year-11 p refl refl (omega arith);
+      month-line-refused = λ why o p. not-refused line-134 p;
+      month-line-unwritten = λ a p. not-so 0 0 49 line-134 p refl refl (omega arith);
+      month-refused = λ why o p. not-refused month-134 p;
+      month-unwritten = λ a p. not-so 0 0 77 month-134 p refl refl (omega arith);
+      day-refused = λ why o p. not-refused day-0 p;
+      day-unwritten = λ a p. not-so 0 0 68 day-0 p refl refl (omega arith);
     }
-  where
-    year-given : yearBlockAt 1 (length (noughts (yearBlock 1))) ≡ is (yearBlock 1)
-    year-given = reasons-of-printing .year 1 (length (noughts (yearBlock 1))) .given .1 ((omega arith, omega arith), room-in-noughts (yearBlock 1))
-
-    line-given : monthLineAt 0 (length (noughts (monthLined 0))) ≡ is (monthLined 0)
-    line-given = reasons-of-printing .month-line 0 (length (noughts (monthLined 0))) .given .1 (omega arith, room-in-noughts (monthLined 0))
-
-    month-given : monthItemAt 0 (length (noughts (monthItem 0))) ≡ is (monthItem 0)
-    month-given = reasons-of-printing .month 0 (length (noughts (monthItem 0))) .given .1 (omega arith, room-in-noughts (monthItem 0))
-
-    day-given : dayItemAt 0 (length (noughts (dayItem 0))) ≡ is (dayItem 0)
-    day-given = reasons-of-printing .day 0 (length (noughts (dayItem 0))) .given .1 (omega arith, room-in-noughts (dayItem 0))

@@ -1,15 +1,15 @@
 -- Laws of a text made in a space of one's own and handed over: what does not exist first, 12 last. Assumes nothing.
-use Prim.Native.Nat.{ℕ, _+_, _≤_, _<_}
+use Prim.Native.Nat.{ℕ, _≤_, _<_}
 use native.Mathlib.Omega.{arith}
 use mathlib.Core.Path.{_≡_, refl, ap, sym, _∙_, subst}
 use mathlib.Core.Bool.{Bool, true, false}
-use mathlib.Core.List.{List, _++_}
+use mathlib.Core.List.{List}
 use lib.Dec.{leb}
 use lib.ListN.{length, take, drop}
 use lib.Seq.{take-append-seam}
 use borrow.Author.Tests.{le-leb, lt-leb}
 use Rattle.rule.specs.Lists.{placed}
-use Rattle.rule.specs.Reasons.{Answer, is, refused, guard, andThen, reasonNumber, intoRoom}
+use Rattle.rule.specs.Reasons.{Answer, is, refused, guard, reasonNumber, intoRoom}
 use Rattle.rule.specs.declared.Reason.{Reason}
 use Rattle.rule.specs.declared.Reason.the-variants.{LentTooShort}
 use Rattle.rule.proofs.Answers.{stops, passes}
@@ -23,7 +23,7 @@ printed-as : {a b : Answer (List ℕ)} {o o′ : List ℕ} {r : HowMany} → a �
 printed-as {o = o} {o′} {r} e p = subst (λ (x : Answer (List ℕ)). Printed x o r o′) e p
 
 -- a refusal, and nothing changed
-printed-refused : {a : Answer (List ℕ)} (o : List ℕ) (r : Reason) → a ≡ refused (reasonNumber r) → Printed a o (HowMany'.Refused r) o
+pub printed-refused : {a : Answer (List ℕ)} (o : List ℕ) (r : Reason) → a ≡ refused (reasonNumber r) → Printed a o (HowMany'.Refused r) o
 printed-refused o r e = printed-as (sym e) (record { answer = refl; buffer = refl })
 
 -- 12, or the whole text at the front of the buffer

@@ -1,7 +1,7 @@
 -- "The listing program": the text of its lines and of a whole listing, as lists of bytes; and the words of the reasons.
 -- Assumes nothing.
 use Prim.Native.Nat.{ℕ}
-use mathlib.Core.Bool.{Bool, true}
+use mathlib.Core.Bool.{true}
 use mathlib.Core.List.{List, [], _∷_, _++_}
 use Rattle.rule.specs.Lists.{those}
 use Rattle.rule.specs.Rule.{numberOf, leapMark}

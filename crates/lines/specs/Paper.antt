@@ -1,45 +1,34 @@
 -- What the paper says of the printed lines, as statements. proofs/Paper.antt proves each under the same name in small letters.
 -- Assumes nothing.
-use Prim.Native.Nat.{ℕ, _+_, _-_, _≤_, _<_}
+use Prim.Native.Nat.{ℕ, _+_, _-_, _≤_}
 use mathlib.Core.Path.{_≡_}
 use mathlib.Core.Logic.{_↔_}
 use mathlib.Core.Bool.{true}
 use mathlib.Core.List.{List, [], _∷_, _++_}
-use lib.ListN.{length, take}
+use lib.ListN.{length, replicate}
 use Rattle.rule.specs.Counts.{YearInRange, MonthInRange, DayInRange, dayName, yearName}
 use Rattle.rule.specs.Rule.{monthStart, monthLength, monthOfDay, monthsInYear, yearOfMonth, leap, monthNumber, eclipse}
 use Rattle.rule.specs.Paper.{monthsOf}
-use Rattle.rule.specs.Reasons.{Answer, is, refused}
+use Rattle.rule.specs.Reasons.{is, refused}
 use Rattle.rule.specs.declared.Reason.{Reason}
+use Rattle.rule.specs.declared.Reason.the-variants.{NoSuchYear, NoSuchMonth, NoSuchDay, LentTooShort}
 use Rattle.sheet.specs.declared.HowMany.{HowMany}
 use Rattle.sheet.specs.declared.HowMany.the-variants as HowMany'
 use Rattle.sheet.specs.Sheet.{Lists, readSheet}
-use Rattle.sheet.specs.Paper.{emptySheet, sheetOf11}
+use Rattle.sheet.specs.Paper.{RestKept, emptySheet, sheetOf11}
 use Rattle.rule.specs.Lists.{placed}
-use Rattle.facts.specs.Facts.{yearFacts}
-use Rattle.fields.specs.Fields.{word, decimal, mark, lined, each}
+use Rattle.fields.specs.Fields.{word, decimal, mark, each}
 use Rattle.lines.specs.Lines.{
   letterL,
   letterE,
-  fieldsOfYear,
   monthLine,
   monthLined,
   yearBlock,
   monthItem,
   dayItem,
-  refusedLine,
   listing,
 }
-use Rattle.lines.specs.Promises.{
-  yearBlockAt,
-  monthLineAt,
-  monthItemAt,
-  dayItemAt,
-  PrintYear,
-  PrintMonthLine,
-  PrintMonth,
-  PrintDay,
-}
+use Rattle.lines.specs.Promises.{PrintYear, PrintMonthLine, PrintMonth, PrintDay}
 
 -- lines, each with its newline
 unfoldable pub inLines : List (List ℕ) → List ℕ
@@ -131,16 +120,36 @@ Two-months-two-lines = (n m : ℕ) → monthLine n ≡ monthLine m → n ≡ m
 
 -- each reason if and only if its row holds and no earlier one's does: what does not exist (1, 7 or 6), then "a lent list or
 -- buffer too short for the whole answer"
-pub record PrintReasons (There : Type 0) (k : ℕ) (text : List ℕ) (n : ℕ) (a : Answer (List ℕ)) : Type 0 where
-  pub absent : (a ≡ refused k) ↔ (There → ⊥)
-  pub short : (a ≡ refused 12) ↔ (There × (length text ≤ n → ⊥))
-  pub given : (a ≡ is text) ↔ (There × (length text ≤ n))
+pub record PrintReasons (There : Type 0) (why : Reason) (text o : List ℕ) (Call : HowMany → List ℕ → Type 0) : Type 0 where
+  pub absent : Call (HowMany'.Refused why) o ↔ (There → ⊥)
+  pub short : Call (HowMany'.Refused LentTooShort) o ↔ (There × (length text ≤ length o → ⊥))
+  pub given : Call (HowMany'.Is (length text)) (placed text o) ↔ (There × (length text ≤ length o))
 
 pub record Reasons-of-printing : Type 0 where
-  pub year : (y n : ℕ) → PrintReasons (YearInRange y) 1 (yearBlock y) n (yearBlockAt y n)
-  pub month-line : (m n : ℕ) → PrintReasons (MonthInRange m) 7 (monthLined m) n (monthLineAt m n)
-  pub month : (m n : ℕ) → PrintReasons (MonthInRange m) 7 (monthItem m) n (monthItemAt m n)
-  pub day : (d n : ℕ) → PrintReasons (DayInRange d) 6 (dayItem d) n (dayItemAt d n)
+  pub year : (y : ℕ) (o : List ℕ) → PrintReasons (YearInRange y) NoSuchYear (yearBlock y) o (PrintYear y o)
+  pub month-line : (m : ℕ) (o : List ℕ) → PrintReasons (MonthInRange m) NoSuchMonth (monthLined m) o (PrintMonthLine m o)
+  pub month : (m : ℕ) (o : List ℕ) → PrintReasons (MonthInRange m) NoSuchMonth (monthItem m) o (PrintMonth m o)
+  pub day : (d : ℕ) (o : List ℕ) → PrintReasons (DayInRange d) NoSuchDay (dayItem d) o (PrintDay d o)
+
+-- "All lent memory stays as before the call": a refused call changes nothing
+abbrev pub ChangesNothing : (ℕ → List ℕ → HowMany → List ℕ → Type 0) → Type 0
+ChangesNothing P = (x : ℕ) (o o′ : List ℕ) (why : Reason) → P x o (HowMany'.Refused why) o′ → o′ ≡ o
+
+pub record Refusal-changes-nothing : Type 0 where
+  pub year : ChangesNothing PrintYear
+  pub month-line : ChangesNothing PrintMonthLine
+  pub month : ChangesNothing PrintMonth
+  pub day : ChangesNothing PrintDay
+
+-- places beyond the text are untouched
+abbrev pub KeepsRest : (ℕ → List ℕ → HowMany → List ℕ → Type 0) → Type 0
+KeepsRest P = (x : ℕ) (o o′ : List ℕ) (n : ℕ) → P x o (HowMany'.Is n) o′ → RestKept n o o′
+
+pub record Rest-untouched : Type 0 where
+  pub year : KeepsRest PrintYear
+  pub month-line : KeepsRest PrintMonthLine
+  pub month : KeepsRest PrintMonth
+  pub day : KeepsRest PrintDay
 
 -- each promise leaves one answer and one state of the lent buffer
 abbrev pub Once : (ℕ → List ℕ → HowMany → List ℕ → Type 0) → Type 0
@@ -152,20 +161,18 @@ pub record Unique-printing : Type 0 where
   pub month : Once PrintMonth
   pub day : Once PrintDay
 
--- wrong versions, each shut out at some input: refusing all, writing nothing, and a year's header without its months
-abbrev pub Refuses-all : (ℕ → List ℕ → HowMany → List ℕ → Type 0) → Type 0
-Refuses-all P = (x : ℕ) (o : List ℕ) → (r : Reason) × P x o (HowMany'.Refused r) o
-
-abbrev pub Writes-nothing : (ℕ → List ℕ → HowMany → List ℕ → Type 0) → Type 0
-Writes-nothing P = (x : ℕ) (o : List ℕ) → (a : HowMany) × P x o a o
+-- wrong versions, each shut out at a named input, in a buffer of 300 noughts: refusing all, writing nothing, and a year's header
+-- without its months
+abbrev pub noughts : List ℕ
+noughts = replicate 300 0
 
 pub record Wrong-printings : Type 0 where
-  pub year-refused : Refuses-all PrintYear → ⊥
-  pub year-unwritten : Writes-nothing PrintYear → ⊥
-  pub header-alone : ((y : ℕ) (o : List ℕ) → (a : HowMany) × PrintYear y o a (placed (lined (fieldsOfYear y (yearFacts y))) o)) → ⊥
-  pub month-line-refused : Refuses-all PrintMonthLine → ⊥
-  pub month-line-unwritten : Writes-nothing PrintMonthLine → ⊥
-  pub month-refused : Refuses-all PrintMonth → ⊥
-  pub month-unwritten : Writes-nothing PrintMonth → ⊥
-  pub day-refused : Refuses-all PrintDay → ⊥
-  pub day-unwritten : Writes-nothing PrintDay → ⊥
+  pub year-refused : (why : Reason) (o : List ℕ) → PrintYear 11 noughts (HowMany'.Refused why) o → ⊥
+  pub year-unwritten : (a : HowMany) → PrintYear 11 noughts a noughts → ⊥
+  pub header-alone : (a : HowMany) → PrintYear 11 noughts a (placed (inLines (word "YEAR 11 NAME 27 MONTHS 13" ∷ [])) noughts) → ⊥
+  pub month-line-refused : (why : Reason) (o : List ℕ) → PrintMonthLine 134 noughts (HowMany'.Refused why) o → ⊥
+  pub month-line-unwritten : (a : HowMany) → PrintMonthLine 134 noughts a noughts → ⊥
+  pub month-refused : (why : Reason) (o : List ℕ) → PrintMonth 134 noughts (HowMany'.Refused why) o → ⊥
+  pub month-unwritten : (a : HowMany) → PrintMonth 134 noughts a noughts → ⊥
+  pub day-refused : (why : Reason) (o : List ℕ) → PrintDay 0 noughts (HowMany'.Refused why) o → ⊥
+  pub day-unwritten : (a : HowMany) → PrintDay 0 noughts a noughts → ⊥

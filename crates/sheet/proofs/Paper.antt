@@ -5,7 +5,7 @@ use mathlib.Core.Path.{_≡_, refl, ap, sym, _∙_, subst}
 use mathlib.Core.Logic.{_↔_, Iff·trans, ⊎-elim}
 use mathlib.Core.Bool.{Bool, true, false}
 use mathlib.Core.List.{List, [], _∷_, _++_, append-nil, append-assoc}
-use lib.ListN.{length, getD, take, drop, length-append, length-drop, replicate, length-replicate, getD-replicate}
+use lib.ListN.{length, take, drop, length-append, length-drop, replicate, length-replicate, getD-replicate}
 use lib.Dec.{leb}
 use lib.Seq.{take-at, drop-at, drop-drop}
 use borrow.Author.Tests.{le-leb, lt-leb}
@@ -68,7 +68,7 @@ use Rattle.sheet.proofs.Faults.{
 }
 use Rattle.sheet.proofs.Numbers.{two-read, four-read, two-laid, four-laid}
 use Rattle.sheet.proofs.RoundTrip.{bytes-drop, bytes-append, bytes-section, Fit, section-back, section-again}
-use Rattle.sheet.proofs.Places.{InFront, rest-kept, stands-at, laid-at}
+use Rattle.sheet.proofs.Places.{unlike, InFront, rest-kept, stands-at, laid-at}
 use Rattle.sheet.proofs.Sheets.{
   sheet-lies,
   sheet-then,
@@ -303,7 +303,7 @@ made-of {A} {B} (is z) f y h = (z, refl, (let e : _≡_ {A = Answer B} (is y) (i
 made-of (refused r) f y h = absurd (let o : _≡_ {A = ℕ} 0 1 = cc in omega arith)
 made-of (refused-with r n) f y h = absurd (let o : _≡_ {A = ℕ} 0 1 = cc in omega arith)
 
-refused-of : {A B : Type 0} (c : Answer A) (f : A → B) (k : ℕ) → refused k ≡ andThen c (λ z. is (f z)) → c ≡ refused k
+pub refused-of : {A B : Type 0} (c : Answer A) (f : A → B) (k : ℕ) → refused k ≡ andThen c (λ z. is (f z)) → c ≡ refused k
 refused-of (is z) f k h = absurd (let o : _≡_ {A = ℕ} 0 1 = cc in omega arith)
 refused-of {A} {B} (refused r) f k h = let e : _≡_ {A = Answer B} (refused k) (refused r) = h in cc
 refused-of (refused-with r n) f k h = absurd (let o : _≡_ {A = ℕ} 0 1 = cc in omega arith)
@@ -642,10 +642,6 @@ pub empty-sheet : Paper.Empty-sheet
 empty-sheet y m d =
     read-given emptySheet y m d (threeLists [] [] []) (countsAre 0 0 0) refl
     (read-with-room emptySheet (threeLists [] [] []) (length y) (length m) (length d) empty-read (omega arith) (omega arith) (omega arith))
-
--- two lists that differ at a place
-unlike : {xs ys : List ℕ} (i a b : ℕ) → xs ≡ ys → getD xs i 0 ≡ a → getD ys i 0 ≡ b → a < b → ⊥
-unlike i a b e f g l = omega (arith, f, g, l, ap (λ (xs : List ℕ). getD xs i 0) e)
 
 pub wrong-readings : Paper.Wrong-readings
 unfolding readInto sheetRead monthsRead daysRead sectionRead countRead itemsRead number listsIn itemsOf leftAfter numbers

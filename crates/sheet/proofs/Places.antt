@@ -12,6 +12,10 @@ use Rattle.sheet.specs.Sheet.{number, numbers, lay, layAll, countOf, ite
 use Rattle.sheet.specs.Paper.{RestKept, StandsAt, LaidAt}
 use Rattle.sheet.proofs.Numbers.{length-lay}
 
+-- two lists that differ at a place
+pub unlike : {xs ys : List ℕ} (i a b : ℕ) → xs ≡ ys → getD xs i 0 ≡ a → getD ys i 0 ≡ b → a < b → ⊥
+unlike i a b e f g l = omega (arith, f, g, l, ap (λ (xs : List ℕ). getD xs i 0) e)
+
 -- a lent list that holds the n items xs at its front
 pub record InFront (n : ℕ) (xs old new : List ℕ) : Type 0 where
   pub room : length xs ≤ length old
