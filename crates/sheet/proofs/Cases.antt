@@ -1,7 +1,8 @@
--- A sheet at which a wrong order of the reasons shows at once. Assumes nothing.
+-- Small cases at which a wrong order of the reasons, and a wrong promise, show at once. Assumes nothing.
 use mathlib.Core.Path.{_≡_, refl}
 use mathlib.Core.List.{[], _∷_}
 use Rattle.rule.specs.Reasons.{refused}
+use Rattle.sheet.specs.declared.SheetCounts.the-variants as Counts'
 use Rattle.sheet.specs.Sheet.{
   number,
   numbers,
@@ -16,8 +17,14 @@ use Rattle.sheet.specs.Sheet.{
   sheetRead,
   readInto,
 }
+use Rattle.sheet.specs.Promises.{countsAre, ReadingSheet}
 
 -- the paper's sheet of the year 11 with a byte after it, read into no places at all: 11 comes before 12
 pub eleven-first : readInto (1 ∷ 0 ∷ 11 ∷ 0 ∷ 0 ∷ 0 ∷ 0 ∷ 0 ∷ 9 ∷ []) 0 0 0 ≡ refused 11
 unfolding number numbers itemsRead countRead sectionRead itemsOf leftAfter listsIn daysRead monthsRead sheetRead readInto
 eleven-first = refl
+
+-- the same sheet without that byte, read into two places that held 7: the second is kept
+pub second-kept : ReadingSheet (1 ∷ 0 ∷ 11 ∷ 0 ∷ 0 ∷ 0 ∷ 0 ∷ 0 ∷ []) (7 ∷ 7 ∷ []) [] [] (Counts'.Is (countsAre 1 0 0)) (11 ∷ 7 ∷ []) [] []
+unfolding number numbers itemsRead countRead sectionRead itemsOf leftAfter listsIn daysRead monthsRead sheetRead readInto
+second-kept = record { answer = refl; years = refl; months = refl; days = refl }
