@@ -542,10 +542,14 @@ one-sheet l g =
     (sheetOf l, h, λ t i. same-bytes t (sheetOf l) l (i .bytes) (h .bytes) (is-read l t i) (is-read l (sheetOf l) h))
 
 pub added : Paper.Added
-added s b t l y m d h = read-refused (s ++ (b ∷ t)) y m d BytesAfterLast (after-last s b t l (length y) (length m) (length d) (is-read l s h))
+added s b t l h y m d y′ m′ d′ r p =
+    unique-reading (s ++ (b ∷ t)) y m d r _ y′ m′ d′ y m d p
+    (read-refused (s ++ (b ∷ t)) y m d BytesAfterLast (after-last s b t l (length y) (length m) (length d) (is-read l s h))) .0
 
 pub cut-off : Paper.Cut-off
-cut-off s b t l y m d h = read-refused s y m d SheetEndsEarly (ends-early s b t l (length y) (length m) (length d) (is-read l (s ++ (b ∷ t)) h))
+cut-off s b t l h y m d y′ m′ d′ r p =
+    unique-reading s y m d r _ y′ m′ d′ y m d p
+    (read-refused s y m d SheetEndsEarly (ends-early s b t l (length y) (length m) (length d) (is-read l (s ++ (b ∷ t)) h))) .0
 
 -- three lists of n equal items
 same-items : (k : Section) (v n : ℕ) → InSection k v → n ≤ k .items → GoodList k (replicate n v)
@@ -639,9 +643,9 @@ unfolding readSheet sheetRead monthsRead daysRead sectionRead countRead itemsRea
 empty-read = refl
 
 pub empty-sheet : Paper.Empty-sheet
-empty-sheet y m d =
-    read-given emptySheet y m d (threeLists [] [] []) (countsAre 0 0 0) refl
-    (read-with-room emptySheet (threeLists [] [] []) (length y) (length m) (length d) empty-read (omega arith) (omega arith) (omega arith))
+empty-sheet y m d y′ m′ d′ r p =
+    let e = read-with-room emptySheet (threeLists [] [] []) (length y) (length m) (length d) empty-read (omega arith) (omega arith) (omega arith) in
+    unique-reading emptySheet y m d r _ y′ m′ d′ y m d p (read-given emptySheet y m d (threeLists [] [] []) (countsAre 0 0 0) refl e) .0
 
 pub wrong-readings : Paper.Wrong-readings
 unfolding readInto sheetRead monthsRead daysRead sectionRead countRead itemsRead number listsIn itemsOf leftAfter numbers

@@ -235,13 +235,13 @@ pub record Longest-sheet : Type 0 where
 -- bytes cut off the end of any sheet give 9, and bytes added to it 11, whatever lists are lent
 abbrev pub Cut-off : Type 0
 Cut-off =
-    (s : List ℕ) (b : ℕ) (t : List ℕ) (l : Lists) (y m d : List ℕ) → IsSheetOf l (s ++ (b ∷ t)) →
-    ReadingSheet s y m d (Counts'.Refused SheetEndsEarly) y m d
+    (s : List ℕ) (b : ℕ) (t : List ℕ) (l : Lists) → IsSheetOf l (s ++ (b ∷ t)) →
+    (y m d y′ m′ d′ : List ℕ) (r : SheetCounts) → ReadingSheet s y m d r y′ m′ d′ → r ≡ Counts'.Refused SheetEndsEarly
 
 abbrev pub Added : Type 0
 Added =
-    (s : List ℕ) (b : ℕ) (t : List ℕ) (l : Lists) (y m d : List ℕ) → IsSheetOf l s →
-    ReadingSheet (s ++ (b ∷ t)) y m d (Counts'.Refused BytesAfterLast) y m d
+    (s : List ℕ) (b : ℕ) (t : List ℕ) (l : Lists) → IsSheetOf l s →
+    (y m d y′ m′ d′ : List ℕ) (r : SheetCounts) → ReadingSheet (s ++ (b ∷ t)) y m d r y′ m′ d′ → r ≡ Counts'.Refused BytesAfterLast
 
 -- "All lent memory stays as before the call": a refused call changes nothing
 pub record Refusal-changes-nothing : Type 0 where
@@ -282,7 +282,8 @@ sheetOf11 = 1 ∷ 0 ∷ 11 ∷ 0 ∷ 0 ∷ 0 ∷ 0 ∷ 0 ∷ []
 
 -- case 12: "three zero counts"
 abbrev pub Empty-sheet : Type 0
-Empty-sheet = (y m d : List ℕ) → ReadingSheet emptySheet y m d (Counts'.Is (countsAre 0 0 0)) y m d
+Empty-sheet =
+    (y m d y′ m′ d′ : List ℕ) (r : SheetCounts) → ReadingSheet emptySheet y m d r y′ m′ d′ → r ≡ Counts'.Is (countsAre 0 0 0)
 
 -- a sheet with two items in each list: the years 11 and 12, the months 123 and 134, the days 28 and 29
 abbrev pub sheetOfTwos : List ℕ
