@@ -34,7 +34,7 @@ module _ {n : ℕ} {xs old new : List ℕ} (a : InFront n xs old new) where
   item-in-front j h = ap (λ (l : List ℕ). getD l j 0) (a .list) ∙ List·getD-append xs (drop (length xs) old) 0 j (omega (arith, h, a .count))
 
 -- item j of the numbers in s
-number-at : (w n j : ℕ) (s : List ℕ) → j < n → getD (numbers w n s) j 0 ≡ number w (drop (w * j) s)
+pub number-at : (w n j : ℕ) (s : List ℕ) → j < n → getD (numbers w n s) j 0 ≡ number w (drop (w * j) s)
 unfolding numbers
 number-at w zero j s h = absurd (omega arith)
 number-at w (suc n) zero s h = ap (λ (i : ℕ). number w (drop i s)) (sym (mul-zero w))
