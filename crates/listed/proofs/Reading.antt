@@ -1,12 +1,9 @@
 -- What a sheet read into three lists of 1,000 places says, for its listing. Assumes nothing.
-use Prim.Native.Nat.{ℕ, zero, suc, _+_, _*_, _≤_, _<_}
-use native.Mathlib.Nat.{mul-zero, mul-suc, le-of-suc-le-suc, not-suc-le-zero}
+use Prim.Native.Nat.{ℕ, _≤_, _<_}
 use native.Mathlib.Omega.{arith}
 use mathlib.Core.Path.{_≡_, refl, ap, sym, _∙_, subst}
-use mathlib.Core.Bool.{Bool, true, false}
-use mathlib.Core.List.{List, [], _∷_, _++_}
-use lib.ListN.{length, getD, take, drop, length-append}
-use lib.Seq.{drop-drop}
+use mathlib.Core.List.{List}
+use lib.ListN.{length, take, drop, length-append}
 use Rattle.rule.specs.Lists.{placed}
 use Rattle.rule.specs.Reasons.{Answer, is, refused, refused-with, guard, andThen, reasonNumber, afterwards}
 use Rattle.rule.specs.declared.Reason.{Reason}
@@ -15,8 +12,6 @@ use Rattle.sheet.specs.declared.Counted.{Counted}
 use Rattle.sheet.specs.declared.SheetCounts.{SheetCounts}
 use Rattle.sheet.specs.declared.SheetCounts.the-variants as Counts'
 use Rattle.sheet.specs.Sheet.{
-  number,
-  numbers,
   yearItems,
   monthItems,
   dayItems,
@@ -26,7 +21,6 @@ use Rattle.sheet.specs.Sheet.{
   daysPart,
   Lists,
   listsIn,
-  sheetRead,
   readSheet,
   readInto,
   room,
@@ -34,16 +28,8 @@ use Rattle.sheet.specs.Sheet.{
 use Rattle.sheet.specs.Promises.{saidCounts, counted, countsIn, ReadingSheet}
 use Rattle.sheet.specs.Paper.{InSection, GoodSection, GoodSections, GoodList, GoodLists}
 use Rattle.sheet.proofs.Sheets.{sheet-then, each-read, sheet-lies, length-numbers, counted-lists}
-use Rattle.sheet.proofs.Paper.{made-of, read-with-room, into-read, front, reasons-of-reading}
-
--- item j of a section's list
-item-there : (w n j : ℕ) (t : List ℕ) → j < n → getD (numbers w n t) j 0 ≡ number w (drop (w * j) t)
-unfolding numbers
-item-there w zero j t h = absurd (not-suc-le-zero h)
-item-there w (suc n) zero t h = ap (λ (k : ℕ). number w (drop k t)) (sym (mul-zero w))
-item-there w (suc n) (suc j) t h =
-    item-there w n j (drop w t) (le-of-suc-le-suc h)
-    ∙ ap (number w) (drop-drop (w * j) w t ∙ ap (λ (k : ℕ). drop k t) {x = w + w * j} {y = w * suc j} (omega (arith, mul-suc w j)))
+use Rattle.sheet.proofs.Places.{number-at}
+use Rattle.sheet.proofs.Paper.{made-of, read-with-room, into-read, front, reading-given}
 
 good-list : (k : Section) (t : List ℕ) → GoodSection k t → GoodList k (itemsOf k t)
 unfolding itemsOf
@@ -53,7 +39,7 @@ good-list k t g =
       few = omega (arith, e, g .count .few);
       items = λ j h.
           let l : j < countOf t = omega (arith, h, e) in
-          subst (InSection k) (sym (item-there (k .width) (countOf t) j (drop 2 t) l)) (g .items j l .1);
+          subst (InSection k) (sym (number-at (k .width) (countOf t) j (drop 2 t) l)) (g .items j l .1);
     }
 
 good-lists : (s : List ℕ) → GoodSections s → GoodLists (listsIn s)
@@ -108,7 +94,7 @@ module _ {s y m d y′ m′ d′ : List ℕ} {r : SheetCounts} (p : ReadingSheet
   unfolding readSheet
   all-good =
       let e : listsIn s ≡ read .0 = each-read s (listsIn s) (read .0) sheet-says .1 in
-      let g = reasons-of-reading s (length y) (length m) (length d) .given .0 (read .1 ∙ ap is (sym e)) in
+      let g = reading-given s (length y) (length m) (length d) .0 (read .1 ∙ ap is (sym e)) in
       subst GoodLists e (good-lists s (g .sections))
 
 -- a sheet that came back from lists of 1,000 places comes back for its own fault: such lists are never too short
