@@ -1,8 +1,8 @@
--- The statement of specs/Paper, proved under its own name. Assumes nothing.
+-- The statement of specs/Paper, proved under its own name, and what follows for a room into which an input was read. Assumes nothing.
 use Prim.Native.Nat.{ℕ, _≤_, _<_}
 use native.Mathlib.Omega.{arith}
 use native.Mathlib.Decide.{decLt}
-use mathlib.Core.Path.{_≡_, ap, _∙_}
+use mathlib.Core.Path.{_≡_, ap, sym, _∙_}
 use mathlib.Core.List.{List, _++_}
 use lib.ListN.{length, take, drop, take-append-drop}
 use lib.Seq.{take-all, length-take-le}
@@ -26,3 +26,11 @@ front-of k h s = go (decLt k (length s))
 
 pub front-is-enough : Paper.Front-is-enough
 front-is-enough = front-of Paper.held (omega arith)
+
+-- the listing of what a room of so many bytes has taken is that of the whole input
+pub taken-listing : (room : List ℕ) (n : ℕ) (s : List ℕ) → Paper.held ≡ length room → Paper.TakenInto room n s → listing (take n room) ≡ listing s
+taken-listing room n s h e = ap listing (e ∙ ap (λ (k : ℕ). take k s) (sym h)) ∙ front-is-enough s
+
+-- a room has taken what stands in it
+pub taken-itself : (room : List ℕ) (n : ℕ) → n ≤ length room → Paper.TakenInto room n (take n room)
+taken-itself room n h = sym (take-all (length room) (take n room) (omega (arith, length-take-le n room h)))

@@ -1,10 +1,12 @@
 // The listing of a whole sheet, and the listing program's own code: a sheet is read from a descriptor, its listing printed.
 ghost use Prim.Native.Nat.{_+_, _*_, _≤_};
+ghost use mathlib.Core.Path.{_≡_};
 ghost use lib.ListN.{length};
 ghost use Rattle.sheet.specs.Sheet.{yearItems, monthItems, dayItems};
 ghost use Rattle.sheet.specs.Paper.{GoodList, GoodLists};
 ghost use Rattle.fields.specs.Fields.{Put, each};
 ghost use Rattle.lines.specs.Lines.{yearBlock, monthItem, dayItem, listingOf, listing};
+ghost use Rattle.listed.specs.Paper.{held, InputListed};
 use sheet::SheetCounts;
 
 // The blocks of years.
@@ -88,10 +90,19 @@ fn room() -> [u8; 789000] {
     [0u8; 789000]
 }
 
-// The longest sheet has 10,006 bytes; one byte more shows that an input is longer, and the front says what the whole does
-// (Front-is-enough).
-fn sheet_room() -> [u8; 10007] {
+// The longest sheet has 10,006 bytes; one byte more shows that an input is longer.
+fn sheet_room() -> [u8; 10007]
+    ensures { λ r. ⌜ held ≡ length r ⌝ }
+{
     [0u8; 10007]
+}
+
+// The listing of the input of which n bytes were taken into a room: the front says what the whole does (Front-is-enough).
+fn list_taken(bytes: &[u8], n: usize, out: &mut [u8]) -> usize
+    requires { ⌜ (held ≡ length (now bytes)) × (n ≤ length (now bytes)) × (789000 ≤ length (now out)) ⌝ }
+    ensures { λ r. ⌜ InputListed (now (bytes .entry)) n (now (out .entry)) (now (out .exit)) r ⌝ }
+{
+    list_sheet(&bytes[0..n], out)
 }
 
 // A sheet's listing.
@@ -99,6 +110,6 @@ pub fn list_from(fd: i32) {
     let mut bytes = sheet_room();
     let mut out = room();
     let n = io::read_full(fd, &mut bytes);
-    let m = list_sheet(&bytes[..n], &mut out);
+    let m = list_taken(&bytes, n, &mut out);
     io::write_all(1, &out[..m]);
 }

@@ -1,6 +1,7 @@
 -- `listed::list_from` is safe and ends: the listing lies in its room. Assumes nothing.
 use native.Mathlib.Omega.{arith}
 use Rattle.lines.proofs.Printing.{made-size}
+use Rattle.listed.proofs.Paper.{taken-itself}
 use borrow.Author.Needs.{needs}
 use Rattle.listed.proofs.list_from.Statement.{statement}
 use Rattle.listed.proofs.list_from.Tie as tie
@@ -8,7 +9,7 @@ use Rattle.listed.proofs.list_from.Reads as reads
 use Rattle.listed.proofs.list_from.Lts as lts
 use Rattle.io.proofs.read_full.Reads as read-full-reads
 use Rattle.io.proofs.write_all.Reads as write-all-reads
-use Rattle.listed.proofs.list_sheet.Reads as list-sheet-reads
+use Rattle.listed.proofs.list_taken.Reads as list-taken-reads
 use Rattle.listed.proofs.room.Reads as room-reads
 use Rattle.listed.proofs.sheet_room.Reads as sheet-room-reads
 
@@ -24,23 +25,25 @@ slice-aggregate-read-full c = search needs
 read-full-requires : tie.Need-read-full-requires
 read-full-requires c κs = search needs
 
-array-share-prefix-bytes : tie.Need-array-share-prefix-bytes
-array-share-prefix-bytes c = search needs
+slice-aggregate-list-taken : tie.Need-slice-aggregate-list-taken
+slice-aggregate-list-taken c = search needs
 
-slice-aggregate-list-sheet : tie.Need-slice-aggregate-list-sheet
-slice-aggregate-list-sheet c = search needs
+slice-aggregate-list-taken-2 : tie.Need-slice-aggregate-list-taken-2
+slice-aggregate-list-taken-2 c = search needs
 
-slice-aggregate-list-sheet-2 : tie.Need-slice-aggregate-list-sheet-2
-slice-aggregate-list-sheet-2 c = search needs
-
-list-sheet-requires : tie.Need-list-sheet-requires
-list-sheet-requires c κs = search needs
+list-taken-requires : tie.Need-list-taken-requires
+list-taken-requires c κs = search needs
 
 array-share-prefix-out : tie.Need-array-share-prefix-out
-array-share-prefix-out c = search needs
+array-share-prefix-out c =
+    let q = c .before in
+    let p = q .list-taken .ensures _ (taken-itself _ (q .before .before .before .before .read-full .result) (omega arith)) in
+    omega (arith, p .few)
 
 slice-aggregate-write-all : tie.Need-slice-aggregate-write-all
-slice-aggregate-write-all c = made-size (c .before .before .list-sheet .ensures) (omega arith)
+slice-aggregate-write-all c =
+    let q = c .before .before in
+    made-size (q .list-taken .ensures _ (taken-itself _ (q .before .before .before .before .read-full .result) (omega arith))) (omega arith)
 
 write-all-requires : tie.Need-write-all-requires
 write-all-requires c κs = search needs
@@ -56,10 +59,9 @@ list-from-spec =
     room-requires
     slice-aggregate-read-full
     read-full-requires
-    array-share-prefix-bytes
-    slice-aggregate-list-sheet
-    slice-aggregate-list-sheet-2
-    list-sheet-requires
+    slice-aggregate-list-taken
+    slice-aggregate-list-taken-2
+    list-taken-requires
     array-share-prefix-out
     slice-aggregate-write-all
     write-all-requires
