@@ -32,7 +32,6 @@ answer-all-requires c κs = search needs
 returns : tie.Need-returns
 returns c = search needs
 
--- antt refused `main-spec` as it was built: the module's report says why
 pub main-spec : {M : Type 1} → statement M
 main-spec =
     tie.close

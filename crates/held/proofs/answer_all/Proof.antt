@@ -1,18 +1,19 @@
--- `desk::answer_all` meets its contract: the lent lists keep their lengths, and the turns fall. Assumes nothing.
+-- `held::answer_all` meets its contract: the lent lists keep their lengths, and the turns fall. Assumes nothing.
 use Prim.Native.Nat.{_≤_}
 use native.Mathlib.Omega.{arith}
 use mathlib.Core.Path.{_≡_, refl}
 use lib.ListN.{length}
 use borrow.Author.Needs.{needs}
-use Rattle.desk.proofs.answer_all.Statement.{statement}
-use Rattle.desk.proofs.answer_all.Tie as tie
-use Rattle.desk.proofs.answer_all.Reads as reads
-use Rattle.desk.proofs.answer_all.Lts as lts
-use Rattle.desk.proofs.end_input.Reads as end-input-reads
-use Rattle.desk.proofs.take_some.Reads as take-some-reads
+use Rattle.held.proofs.answer_all.Statement.{statement}
+use Rattle.held.proofs.answer_all.Tie as tie
+use Rattle.held.proofs.answer_all.Reads as reads
+use Rattle.held.proofs.answer_all.Lts as lts
+use Rattle.held.proofs.end_input.Reads as end-input-reads
+use Rattle.held.proofs.take_some.Reads as take-some-reads
 
 abbrev Inv-loop : tie.InvT-loop
-Inv-loop bytes₀ line₀ days₀ out₀ held₀ turns₀ bytes line days out held turns = (held ≤ 201) × (length bytes ≡ length bytes₀) × (length line ≡ length line₀) × (length days ≡ length days₀) × (length out ≡ length out₀)
+Inv-loop bytes₀ line₀ days₀ out₀ held₀ turns₀ bytes line days out held turns =
+    (held ≤ 201) × (length bytes ≡ length bytes₀) × (length line ≡ length line₀) × (length days ≡ length days₀) × (length out ≡ length out₀)
 
 abbrev μ-loop : tie.MeasureT-loop
 μ-loop bytes₀ line₀ days₀ out₀ held₀ turns₀ bytes line days out held turns = turns

@@ -1,0 +1,77 @@
+-- `held::take_bytes` meets its contract: what became of the line is held after each byte, and the lent lists keep their lengths. Assumes
+-- nothing.
+use Prim.Native.Nat.{_-_}
+use native.Mathlib.Omega.{arith}
+use mathlib.Core.Path.{_≡_, refl}
+use lib.ListN.{length, take}
+use Rattle.held.specs.Held.{lineAfterAll, Becomes}
+use Rattle.held.proofs.Holding.{no-byte, next-byte, all-bytes}
+use borrow.Author.Needs.{needs}
+use Rattle.held.proofs.take_bytes.Statement.{statement}
+use Rattle.held.proofs.take_bytes.Tie as tie
+use Rattle.held.proofs.take_bytes.Reads as reads
+use Rattle.held.proofs.take_bytes.Lts as lts
+use Rattle.held.proofs.take_byte.Reads as take-byte-reads
+
+abbrev Inv-loop : tie.InvT-loop
+Inv-loop bytes line₀ held days₀ out₀ now-held₀ i₀ line days out now-held i =
+    Becomes (λ l. lineAfterAll l (take i bytes)) line₀ held line now-held × (length line ≡ length line₀) × (length days ≡ length days₀) × (length out ≡ length out₀)
+
+abbrev μ-loop : tie.MeasureT-loop
+μ-loop bytes line₀ held days₀ out₀ now-held₀ i₀ line days out now-held i = length bytes - i
+
+loop-holds : tie.Need-loop-holds Inv-loop μ-loop
+loop-holds c =
+    let a = c .before .before .before .before in
+    (no-byte (a .args .bytes .now) _ _ (a .pre .0), refl, refl, refl)
+
+shared-slice-read-take-byte : tie.Need-shared-slice-read-take-byte Inv-loop μ-loop
+shared-slice-read-take-byte c = omega arith
+
+take-byte-requires : tie.Need-take-byte-requires Inv-loop μ-loop
+take-byte-requires c κs = search needs
+
+add-i : tie.Need-add-i Inv-loop μ-loop
+add-i c = omega arith
+
+loop-less : tie.Need-loop-less Inv-loop μ-loop
+loop-less c = omega arith
+
+loop-again : tie.Need-loop-again Inv-loop μ-loop
+loop-again c =
+    let p = c .before .before .before .before .before .before in
+    let q = p .before .before .before .before .before .before in
+    let a = q .before .before .before .before .before in
+    (next-byte (a .args .bytes .now) _ _ {i = q .loop .i} (omega arith) (q .loop .inv .0) (p .take-byte .ensures .0), search needs, search needs, search needs)
+
+same-length : tie.Need-same-length Inv-loop μ-loop
+same-length c = search needs
+
+same-length-2 : tie.Need-same-length-2 Inv-loop μ-loop
+same-length-2 c = search needs
+
+same-length-3 : tie.Need-same-length-3 Inv-loop μ-loop
+same-length-3 c = search needs
+
+returns : tie.Need-returns Inv-loop μ-loop
+returns c =
+    let q = c .before in
+    let a = q .before .before .before .before .before in
+    all-bytes (a .args .bytes .now) _ _ {i = q .loop .i} (omega arith) (q .loop .inv .0)
+
+pub take-bytes-spec : {M : Type 1} → statement M
+take-bytes-spec =
+    tie.close
+    (tie.spec
+    Inv-loop
+    μ-loop
+    loop-holds
+    shared-slice-read-take-byte
+    take-byte-requires
+    add-i
+    loop-less
+    loop-again
+    same-length
+    same-length-2
+    same-length-3
+    returns)

@@ -1,0 +1,39 @@
+-- What holds of lines and of what is held of them, as statements. proofs/Paper.antt proves each under the same name in small letters.
+-- Assumes nothing.
+use Prim.Native.Nat.{ℕ, _≤_, _<_}
+use mathlib.Core.Path.{_≡_}
+use mathlib.Core.List.{List, [], _∷_, _++_}
+use lib.ListN.{length, getD, take}
+use Rattle.queries.specs.Queries.{answerTo}
+use Rattle.held.specs.Held.{lineAfter, lineAfterAll, saidTo, Holds, Becomes}
+
+-- no newline stands in it
+abbrev pub OneLine : List ℕ → Type 0
+OneLine s = (i : ℕ) → i < length s → getD s i 0 ≡ 10 → ⊥
+
+-- what is held of a line has the answer of the whole
+abbrev pub Held-is-enough : Type 0
+Held-is-enough = (room : List ℕ) (n : ℕ) (l : List ℕ) → Holds room n l → answerTo (take n room) ≡ answerTo l
+
+-- the line so far is what came since the last newline, or all that came, where there was none
+pub record Since-last-newline : Type 0 where
+  pub some : (l p s : List ℕ) → OneLine s → lineAfterAll l (p ++ (10 ∷ s)) ≡ s
+  pub none : (l s : List ℕ) → OneLine s → lineAfterAll l s ≡ l ++ s
+
+-- "one query a line", answered in input order; "A final line without a newline counts"; and nothing else is said
+pub record Line-by-line : Type 0 where
+  pub line : (l s : List ℕ) → OneLine l → saidTo [] (l ++ (10 ∷ s)) ≡ answerTo l ++ saidTo [] s
+  pub final : (b : ℕ) (l : List ℕ) → OneLine (b ∷ l) → saidTo [] (b ∷ l) ≡ answerTo (b ∷ l)
+  pub nothing : saidTo [] [] ≡ []
+
+-- a room of 201 places holds a line in one way
+abbrev pub One-holding : Type 0
+One-holding =
+    (a b : List ℕ) (m n : ℕ) (l : List ℕ) → length a ≡ 201 → length b ≡ 201 → m ≤ 201 → n ≤ 201 → Holds a m l → Holds b n l →
+    (m ≡ n) × (take m a ≡ take n b)
+
+-- wrong versions: a byte that is lost, a line of which 200 bytes are held, a newline that ends nothing
+pub record Wrong-holdings : Type 0 where
+  pub byte-lost : (room room′ : List ℕ) → Becomes (λ l. lineAfter l 65) room 0 (0 ∷ room′) 1 → ⊥
+  pub two-hundred : (room room′ : List ℕ) → length room ≡ 201 → Becomes (λ l. lineAfter l 65) room 200 room′ 200 → ⊥
+  pub never-ending : (room : List ℕ) → Becomes (λ l. lineAfter l 10) (65 ∷ room) 1 (65 ∷ room) 1 → ⊥
