@@ -26,8 +26,9 @@ module _ {w : ℕ} {f : ℕ → List ℕ} {xs old : List ℕ} {at : ℕ} {out : 
       let e : w * (i + 1) ≤ w * length xs = mul-le-mul-left w (omega arith) in
       omega (arith, put-kept (a .put), a .put .few, mul-suc w i, ap (λ (k : ℕ). w * k) (add-one i))
 
-  pub next-item : i < length xs → {out′ : List ℕ} {to′ : ℕ} → Put w out to (f (getD xs i 0)) out′ to′ → ItemsPut w f xs old at out′ to′ (i + 1)
-  next-item l p = record { inside = omega arith; put = turn i (each-next f xs i l) (a .put) p }
+  -- the item j that is put next is item i
+  pub next-item : i < length xs → (j : ℕ) {out′ : List ℕ} {to′ : ℕ} → Put w out to (f (getD xs j 0)) out′ to′ → j ≡ i → ItemsPut w f xs old at out′ to′ (i + 1)
+  next-item l j p e = record { inside = omega arith; put = turn i (each-next f xs i l) (a .put) (put-as (ap (λ (k : ℕ). f (getD xs k 0)) e) p) }
 
   pub all-items : length xs ≤ i → Put (w * length xs) old at (each f xs) out to
   all-items l = wide (mul-le-mul-left w (a .inside)) (put-as (ap (each f) (take-all i xs l)) (a .put))

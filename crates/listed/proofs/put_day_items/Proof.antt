@@ -39,7 +39,10 @@ loop-less : tie.Need-loop-less Inv-loop μ-loop
 loop-less c = omega arith
 
 loop-again : tie.Need-loop-again Inv-loop μ-loop
-loop-again c = next-item (c .before .before .before .before .before .before .loop .inv) (c .before .before .before .before .before .loop-test .taken) (c .before .before .put-day .ensures)
+loop-again c =
+    let p = c .before .before in
+    let l = p .before .before .before in
+    next-item (l .before .loop .inv) (l .loop-test .taken) _ (p .put-day .ensures) (omega arith)
 
 same-length : tie.Need-same-length Inv-loop μ-loop
 same-length c = put-kept (c .before .loop .inv .put)
