@@ -7,9 +7,9 @@ use mathlib.Core.List.{List, [], _∷_, _++_, append-nil, append-assoc}
 use lib.ListN.{length, getD, take, length-append, length-take}
 use lib.Seq.{sets, take-all}
 use borrow.Author.Tests.{ne-eqb}
-use Rattle.fields.specs.Fields.{Put}
-use Rattle.queries.specs.Queries.{answerTo}
-use Rattle.queries.proofs.Paper.{front-is-enough}
+use Rattle.fields.specs.Fields.{followed, Put}
+use Rattle.queries.specs.Queries.{unreadable, answerTo}
+use Rattle.queries.proofs.Paper.{front-is-enough, too-long}
 use Rattle.held.specs.Held.{lineAfter, lineAfterAll, saidAt, saidAtEnd, saidTo, Becomes, Answers}
 use Rattle.held.specs.Paper as Paper
 use Rattle.held.proofs.Holding.{how-many, lines-append}
@@ -113,5 +113,12 @@ never-ending room p =
     let o : _≡_ {A = ℕ} 0 1 = cc in
     omega arith
 
+unanswered : (room : List ℕ) → length room ≡ 201 → Answers (λ l. saidAt l 10) room 201 (0 ∷ []) (0 ∷ []) → ⊥
+unfolding saidAt unreadable followed
+unanswered room h p =
+    let e : _≡_ {A = List ℕ} (0 ∷ []) (85 ∷ []) = p .said room refl ∙ ap (sets (0 ∷ []) 0) (too-long room (omega arith)) in
+    let o : _≡_ {A = ℕ} 0 85 = cc in
+    omega arith
+
 pub wrong-holdings : Paper.Wrong-holdings
-wrong-holdings = record { byte-lost = byte-lost; two-hundred = two-hundred; never-ending = never-ending }
+wrong-holdings = record { byte-lost = byte-lost; two-hundred = two-hundred; never-ending = never-ending; unanswered = unanswered }

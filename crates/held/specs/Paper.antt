@@ -5,7 +5,7 @@ use mathlib.Core.Path.{_≡_}
 use mathlib.Core.List.{List, [], _∷_, _++_}
 use lib.ListN.{length, getD, take}
 use Rattle.queries.specs.Queries.{answerTo}
-use Rattle.held.specs.Held.{lineAfter, lineAfterAll, saidTo, Holds, Becomes}
+use Rattle.held.specs.Held.{lineAfter, lineAfterAll, saidAt, saidTo, Holds, Becomes, Answers}
 
 -- no newline stands in it
 abbrev pub OneLine : List ℕ → Type 0
@@ -32,8 +32,9 @@ One-holding =
     (a b : List ℕ) (m n : ℕ) (l : List ℕ) → length a ≡ 201 → length b ≡ 201 → m ≤ 201 → n ≤ 201 → Holds a m l → Holds b n l →
     (m ≡ n) × (take m a ≡ take n b)
 
--- wrong versions: a byte that is lost, a line of which 200 bytes are held, a newline that ends nothing
+-- wrong versions: a byte that is lost, a line of which 200 bytes are held, a newline that ends nothing, a line that is not answered
 pub record Wrong-holdings : Type 0 where
   pub byte-lost : (room room′ : List ℕ) → Becomes (λ l. lineAfter l 65) room 0 (0 ∷ room′) 1 → ⊥
   pub two-hundred : (room room′ : List ℕ) → length room ≡ 201 → Becomes (λ l. lineAfter l 65) room 200 room′ 200 → ⊥
   pub never-ending : (room : List ℕ) → Becomes (λ l. lineAfter l 10) (65 ∷ room) 1 (65 ∷ room) 1 → ⊥
+  pub unanswered : (room : List ℕ) → length room ≡ 201 → Answers (λ l. saidAt l 10) room 201 (0 ∷ []) (0 ∷ []) → ⊥
