@@ -60,7 +60,7 @@ use Rattle.sheet.specs.declared.SheetCounts.the-variants as Counts'
 use Rattle.sheet.specs.declared.HowMany.{HowMany}
 use Rattle.sheet.specs.declared.HowMany.the-variants as HowMany'
 use Rattle.sheet.specs.Promises.{saidCounts, saidHowMany, ReadingSheet, WritingSheet}
-use Rattle.sheet.specs.Paper.{emptySheet, sheetOf11, sheetOf11and12}
+use Rattle.sheet.specs.Paper.{emptySheet, sheetOf11, sheetOfTwos}
 use Rattle.lines.specs.Promises.{PrintYear, PrintMonthLine, PrintMonth, PrintDay}
 use Rattle.flat.specs.declared.CDate.{CDate}
 use Rattle.flat.specs.declared.CDay.{CDay}
@@ -345,7 +345,7 @@ pub record Wrong-exported : Type 0 where
   pub inventing : (a : CFound) (new : List ℕ) → CSearch nothingRead 0 0 (5 ∷ []) a new → a .total ≢ 1 → ⊥
   pub inventing-at-12 : (a : CFound) (new : List ℕ) → CSearch nothingRead 0 1 (5 ∷ []) a new → a .total ≢ 2 → ⊥
   pub reading-none : (r : CSheetCounts) (m d : List ℕ) → CReadSheet sheetOf11 (0 ∷ []) [] [] r (0 ∷ []) m d → ⊥
-  pub reading-first-over : (r : CSheetCounts) (m d : List ℕ) → CReadSheet sheetOf11and12 (0 ∷ 0 ∷ []) [] [] r (11 ∷ 11 ∷ []) m d → ⊥
+  pub reading-first-over : (r : CSheetCounts) (m d : List ℕ) → CReadSheet sheetOfTwos (0 ∷ 0 ∷ []) (0 ∷ 0 ∷ []) (0 ∷ 0 ∷ []) r (11 ∷ 11 ∷ []) m d → ⊥
   pub writing-none :
       (r : CLength) →
       CWriteSheet (11 ∷ []) [] [] (0 ∷ 0 ∷ 0 ∷ 0 ∷ 0 ∷ 0 ∷ 0 ∷ 0 ∷ []) r (0 ∷ 0 ∷ 0 ∷ 0 ∷ 0 ∷ 0 ∷ 0 ∷ 0 ∷ []) →

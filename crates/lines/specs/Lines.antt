@@ -32,21 +32,14 @@ use Rattle.facts.specs.declared.MonthFacts.{MonthFacts}
 use Rattle.facts.specs.declared.YearFacts.{YearFacts}
 use Rattle.facts.specs.Facts.{monthFacts, yearFacts}
 use Rattle.sheet.specs.Sheet.{Lists, readSheet}
-use Rattle.fields.specs.Fields.{word, decimal, mark, joined, lined, each}
-
--- the letters of the two marks, `L` and `E`
-abbrev pub letterL : ℕ
-letterL = 76
-
-abbrev pub letterE : ℕ
-letterE = 69
+use Rattle.fields.specs.Fields.{word, decimal, mark, joined, lined, each, letterE, leapText}
 
 -- "Fields of a month's line: month count, number, `L` for leap, first day's name, length, `E` for eclipse month"
 abbrev pub fieldsOfMonth : ℕ → MonthFacts → List (List ℕ)
 fieldsOfMonth n f =
     decimal n
     ∷ decimal (numberOf (f .month))
-    ∷ (mark (leapMark (f .month)) letterL ∷ [])
+    ∷ leapText (leapMark (f .month))
     ∷ decimal (f .«first_name»)
     ∷ decimal (f .«month_length»)
     ∷ (mark (f .eclipse) letterE ∷ [])
@@ -63,7 +56,7 @@ fieldsOfDay d r =
     ∷ decimal d
     ∷ decimal (r .year)
     ∷ decimal (numberOf (r .month))
-    ∷ (mark (leapMark (r .month)) letterL ∷ [])
+    ∷ leapText (leapMark (r .month))
     ∷ decimal (r .«day_of_month»)
     ∷ decimal (r .«day_name»)
     ∷ []

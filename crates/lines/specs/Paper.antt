@@ -17,10 +17,8 @@ use Rattle.sheet.specs.declared.HowMany.the-variants as HowMany'
 use Rattle.sheet.specs.Sheet.{Lists, readSheet}
 use Rattle.sheet.specs.Paper.{RestKept, emptySheet, sheetOf11}
 use Rattle.rule.specs.Lists.{placed}
-use Rattle.fields.specs.Fields.{word, decimal, mark, each}
+use Rattle.fields.specs.Fields.{word, decimal, mark, each, letterL, letterE}
 use Rattle.lines.specs.Lines.{
-  letterL,
-  letterE,
   monthLine,
   monthLined,
   yearBlock,

@@ -7,10 +7,9 @@ ghost use Rattle.rule.specs.Counts.{YearInRange, MonthInRange, DayInRange};
 ghost use Rattle.rule.specs.Reasons.{reasonNumber, intoRoom};
 ghost use Rattle.rule.specs.Lists.{those};
 ghost use Rattle.rule.specs.Rule.{numberOf, leapMark};
-ghost use Rattle.fields.specs.Fields.{Put, decimal, mark, joined, each};
+ghost use Rattle.fields.specs.Fields.{Put, decimal, leapText, joined, each};
 ghost use Rattle.facts.specs.Facts.{monthFacts};
 ghost use Rattle.lines.specs.Lines.{
-  letterL,
   fieldsOfMonth,
   fieldsOfYear,
   fieldsOfDay,
@@ -31,7 +30,7 @@ use sheet::HowMany;
 // Two fields that both a month's and a day's line have: the month's number, and `L` for leap.
 fn put_number_and_mark(m: Month, out: &mut [u8], at: usize) -> usize
     requires { ⌜ at + 13 ≤ length (now out) ⌝ }
-    ensures { λ r. ⌜ Put 13 (now (out .entry)) at (32 ∷ joined (decimal (numberOf m) ∷ (mark (leapMark m) letterL ∷ []) ∷ []))
+    ensures { λ r. ⌜ Put 13 (now (out .entry)) at (32 ∷ joined (decimal (numberOf m) ∷ leapText (leapMark m) ∷ []))
         (now (out .exit)) r ⌝ }
 {
     let to = fields::put_next(rule::number_of(m) as u32, out, at);

@@ -38,8 +38,8 @@ use Rattle.reading.specs.declared.Reading.{Reading}
 use Rattle.reading.specs.Readings.{windowDays, fitting}
 use Rattle.reading.specs.Search.{searchAt}
 use Rattle.reading.specs.Paper.{FieldsInRange, IsWindow}
-use Rattle.fields.specs.Fields.{word, decimal, mark, each}
-use Rattle.lines.specs.Lines.{letterL, letterE, wordsOf}
+use Rattle.fields.specs.Fields.{word, decimal, mark, each, letterL, letterE}
+use Rattle.lines.specs.Lines.{wordsOf}
 use Rattle.told.specs.Answers.{
   places,
   wordsNumbered,

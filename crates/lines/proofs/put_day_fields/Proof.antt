@@ -1,7 +1,6 @@
 -- `lines::put_day_fields` meets its contract. Assumes nothing.
-use Rattle.fields.specs.Fields.{mark, followed}
+use Rattle.fields.specs.Fields.{mark, letterL, followed}
 use Rattle.rule.specs.Rule.{numberOf, leapMark}
-use Rattle.lines.specs.Lines.{letterL}
 use Rattle.lines.proofs.Joining.{number-and-mark}
 use native.Mathlib.Omega.{arith}
 use Rattle.fields.proofs.Putting.{then, put-kept}

@@ -3,9 +3,8 @@ use Prim.Native.Nat.{ℕ}
 use mathlib.Core.Path.{ap}
 use mathlib.Core.Bool.{Bool}
 use mathlib.Core.List.{[], _∷_}
-use Rattle.fields.specs.Fields.{decimal, mark, followed}
+use Rattle.fields.specs.Fields.{decimal, mark, letterL, followed}
 use Rattle.fields.proofs.Putting.{then, put-as}
-use Rattle.lines.specs.Lines.{letterL}
 use borrow.Author.Needs.{needs}
 use Rattle.lines.proofs.put_number_and_mark.Statement.{statement}
 use Rattle.lines.proofs.put_number_and_mark.Tie as tie
