@@ -17,7 +17,7 @@ use Rattle.rule.specs.declared.Reason.the-variants.{NoSuchDay, BadWindow, Field
 use Rattle.dates.specs.declared.Date.{Date}
 use Rattle.dates.specs.declared.Dated.{Dated}
 use Rattle.dates.specs.declared.Dated.the-variants as Dated'
-use Rattle.dates.specs.declared.DayFound.the-variants as DayFound'
+use Rattle.dates.specs.declared.DayTold.the-variants as DayTold'
 use Rattle.dates.specs.Dates.{dateIn, dateOf, dateAt, namedMonth, dayInMonth, dayOfNamed, dayOfDate}
 use Rattle.dates.specs.Promises.{saidDate, saidDay}
 use Rattle.moves.specs.Moves.{moved}
@@ -454,7 +454,7 @@ pub says-what-the-call-says : Paper.Says-what-the-call-says
 says-what-the-call-says =
     record {
       date-of-day = λ d r. date-said (Sound.date-sound d) r;
-      day-of-date = λ y k l m r. as-said saidDay DayFound'.Is DayFound'.Refused (λ x. refl) (λ w. refl) flatDay (Sound.day-sound y k l m) r;
+      day-of-date = λ y k l m r. as-said saidDay DayTold'.Is DayTold'.Refused (λ x. refl) (λ w. refl) flatDay (Sound.day-sound y k l m) r;
       move-date = λ y k l m n r. date-said (Sound.move-sound y k l m n) r;
       solstice-year = λ y r. as-said saidSolsticeYear Solstice'.Is Solstice'.Refused (λ x. refl) (λ w. refl) flatSolstice (Sound.solstice-sound y) r;
       year-facts = λ y r. as-said saidYear Year'.Is Year'.Refused (λ x. refl) (λ w. refl) flatYear (Sound.year-sound y) r;

@@ -12,8 +12,8 @@ use Rattle.rule.specs.declared.Quarter.{Quarter}
 use Rattle.dates.specs.declared.Date.{Date}
 use Rattle.dates.specs.declared.Dated.{Dated}
 use Rattle.dates.specs.declared.Dated.the-variants as Dated'
-use Rattle.dates.specs.declared.DayFound.{DayFound}
-use Rattle.dates.specs.declared.DayFound.the-variants as DayFound'
+use Rattle.dates.specs.declared.DayTold.{DayTold}
+use Rattle.dates.specs.declared.DayTold.the-variants as DayTold'
 use Rattle.dates.specs.Promises.{saidDate, saidDay, DateOfDay, DayOfDate}
 use Rattle.moves.specs.Moves.{MoveDate}
 use Rattle.facts.specs.declared.SolsticeYear.{SolsticeYear}
@@ -59,7 +59,7 @@ use Rattle.sheet.specs.declared.SheetCounts.{SheetCounts}
 use Rattle.sheet.specs.declared.SheetCounts.the-variants as Counts'
 use Rattle.sheet.specs.declared.HowMany.{HowMany}
 use Rattle.sheet.specs.declared.HowMany.the-variants as HowMany'
-use Rattle.sheet.specs.Promises.{saidCounts, saidHowMany, ReadingSheet, WritingSheet}
+use Rattle.sheet.specs.Promises.{saidCounts, saidHowMany, ReadSheet, WriteSheet}
 use Rattle.sheet.specs.Paper.{emptySheet, sheetOf11, sheetOfTwos}
 use Rattle.lines.specs.Promises.{PrintYear, PrintMonthLine, PrintMonth, PrintDay}
 use Rattle.flat.specs.declared.CDate.{CDate}
@@ -204,7 +204,7 @@ pub record Says-what-the-call-says : Type 0 where
   pub date-of-day : (d : ℕ) (r : CDate) → CDateOfDay d r ↔ ((a : Dated) × DateOfDay d a × (r ≡ flatDate (saidDate a)))
   pub day-of-date :
       (y k : ℕ) (l : Bool) (m : ℕ) (r : CDay) →
-      CDayOfDate y k l m r ↔ ((a : DayFound) × DayOfDate y k l m a × (r ≡ flatDay (saidDay a)))
+      CDayOfDate y k l m r ↔ ((a : DayTold) × DayOfDate y k l m a × (r ≡ flatDay (saidDay a)))
   pub move-date :
       (y k : ℕ) (l : Bool) (m : ℕ) (n : ℤ) (r : CDate) →
       CMoveDate y k l m n r ↔ ((a : Dated) × MoveDate y k l m n a × (r ≡ flatDate (saidDate a)))
@@ -227,10 +227,10 @@ pub record Says-what-the-call-says : Type 0 where
       ↔ ((f : Found) × Searched (readingOf r) first last old f new × (a ≡ flatFound (saidFound f)))
   pub read-sheet :
       (s y m d : List ℕ) (r : CSheetCounts) (y′ m′ d′ : List ℕ) →
-      CReadSheet s y m d r y′ m′ d′ ↔ ((a : SheetCounts) × ReadingSheet s y m d a y′ m′ d′ × (r ≡ flatCounts (saidCounts a)))
+      CReadSheet s y m d r y′ m′ d′ ↔ ((a : SheetCounts) × ReadSheet s y m d a y′ m′ d′ × (r ≡ flatCounts (saidCounts a)))
   pub write-sheet :
       (y m d o : List ℕ) (r : CLength) (o′ : List ℕ) →
-      CWriteSheet y m d o r o′ ↔ ((a : HowMany) × WritingSheet y m d o a o′ × (r ≡ flatLength (saidHowMany a)))
+      CWriteSheet y m d o r o′ ↔ ((a : HowMany) × WriteSheet y m d o a o′ × (r ≡ flatLength (saidHowMany a)))
   pub print-year : PrintSaid CPrintYear PrintYear
   pub print-month-line : PrintSaid CPrintMonthLine PrintMonthLine
   pub print-month : PrintSaid CPrintMonth PrintMonth
@@ -246,7 +246,7 @@ pub record Reason-0-iff-answered : Type 0 where
   pub date-of-day : (d : ℕ) (r : CDate) → CDateOfDay d r → (r .reason ≡ 0) ↔ ((x : Date) × DateOfDay d (Dated'.Is x) × (r ≡ givenDate x))
   pub day-of-date :
       (y k : ℕ) (l : Bool) (m : ℕ) (r : CDay) →
-      CDayOfDate y k l m r → (r .reason ≡ 0) ↔ ((x : ℕ) × DayOfDate y k l m (DayFound'.Is x) × (r ≡ givenDay x))
+      CDayOfDate y k l m r → (r .reason ≡ 0) ↔ ((x : ℕ) × DayOfDate y k l m (DayTold'.Is x) × (r ≡ givenDay x))
   pub move-date :
       (y k : ℕ) (l : Bool) (m : ℕ) (n : ℤ) (r : CDate) →
       CMoveDate y k l m n r → (r .reason ≡ 0) ↔ ((x : Date) × MoveDate y k l m n (Dated'.Is x) × (r ≡ givenDate x))
@@ -276,11 +276,11 @@ pub record Reason-0-iff-answered : Type 0 where
   pub read-sheet :
       (s y m d : List ℕ) (r : CSheetCounts) (y′ m′ d′ : List ℕ) →
       CReadSheet s y m d r y′ m′ d′ →
-      (r .reason ≡ 0) ↔ ((c : Counted) × ReadingSheet s y m d (Counts'.Is c) y′ m′ d′ × (r ≡ givenCounts c))
+      (r .reason ≡ 0) ↔ ((c : Counted) × ReadSheet s y m d (Counts'.Is c) y′ m′ d′ × (r ≡ givenCounts c))
   pub write-sheet :
       (y m d o : List ℕ) (r : CLength) (o′ : List ℕ) →
       CWriteSheet y m d o r o′ →
-      (r .reason ≡ 0) ↔ ((n : ℕ) × WritingSheet y m d o (HowMany'.Is n) o′ × (r ≡ givenLength n))
+      (r .reason ≡ 0) ↔ ((n : ℕ) × WriteSheet y m d o (HowMany'.Is n) o′ × (r ≡ givenLength n))
   pub print-year : ZeroPrint CPrintYear PrintYear
   pub print-month-line : ZeroPrint CPrintMonthLine PrintMonthLine
   pub print-month : ZeroPrint CPrintMonth PrintMonth

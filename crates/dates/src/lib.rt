@@ -23,7 +23,7 @@ pub enum Dated {
 }
 
 // The answer for a date: its day, or why it has none.
-pub enum DayFound {
+pub enum DayTold {
     Is(u32),
     Refused(Reason),
 }
@@ -66,18 +66,18 @@ pub fn named_month(year: u16, number: u8) -> u32
 }
 
 // A day of a month, or reason 5.
-fn day_in_month(n: u32, day_of_month: u32) -> DayFound
+fn day_in_month(n: u32, day_of_month: u32) -> DayTold
     requires { ⌜ MonthInRange n × DayOfMonthInRange «day_of_month» ⌝ }
     ensures { λ r. ⌜ saidDay r ≡ dayInMonth n «day_of_month» ⌝ }
 {
     if (rule::month_length(n) as u32) < day_of_month {
-        return DayFound::Refused(Reason::NoThirtiethDay);
+        return DayTold::Refused(Reason::NoThirtiethDay);
     }
-    DayFound::Is(rule::month_start(n) + (day_of_month - 1))
+    DayTold::Is(rule::month_start(n) + (day_of_month - 1))
 }
 
 // The day of a date whose four things are each in their range: reason 4 or 5 can still be met.
-fn day_of_named(year: u16, number: u8, leap: bool, day_of_month: u32) -> DayFound
+fn day_of_named(year: u16, number: u8, leap: bool, day_of_month: u32) -> DayTold
     requires { ⌜ YearInRange year × NumberInRange number × DayOfMonthInRange «day_of_month» ⌝ }
     ensures { λ r. ⌜ saidDay r ≡ dayOfNamed year number leap «day_of_month» ⌝ }
 {
@@ -86,23 +86,23 @@ fn day_of_named(year: u16, number: u8, leap: bool, day_of_month: u32) -> DayFoun
         return day_in_month(n, day_of_month);
     }
     if !rule::is_leap(n + 1) {
-        return DayFound::Refused(Reason::NoSuchLeapMonth);
+        return DayTold::Refused(Reason::NoSuchLeapMonth);
     }
     day_in_month(n + 1, day_of_month)
 }
 
 // Date to day.
-pub fn day_of_date(year: u32, number: u32, leap: bool, day_of_month: u32) -> DayFound
+pub fn day_of_date(year: u32, number: u32, leap: bool, day_of_month: u32) -> DayTold
     ensures { λ r. ⌜ DayOfDate year number leap «day_of_month» r ⌝ }
 {
     if !rule::in_range(1, 41040, year) {
-        return DayFound::Refused(Reason::NoSuchYear);
+        return DayTold::Refused(Reason::NoSuchYear);
     }
     if !rule::in_range(1, 12, number) {
-        return DayFound::Refused(Reason::NoSuchMonthNumber);
+        return DayTold::Refused(Reason::NoSuchMonthNumber);
     }
     if !rule::in_range(1, 30, day_of_month) {
-        return DayFound::Refused(Reason::NoSuchDayOfMonth);
+        return DayTold::Refused(Reason::NoSuchDayOfMonth);
     }
     day_of_named(year as u16, number as u8, leap, day_of_month)
 }

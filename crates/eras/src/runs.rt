@@ -4,7 +4,7 @@ use crate::answer;
 use crate::answer::Answer;
 use crate::months;
 use crate::words;
-use dates::DayFound;
+use dates::DayTold;
 use facts::MonthFacts;
 use facts::SolsticeYearTold;
 
@@ -29,8 +29,8 @@ pub fn answer(kind: usize, a: u32, b: u32) -> Answer {
 // The first day of month 1 of a year, nought where there is none.
 fn new_year(year: u32) -> u32 {
     match dates::day_of_date(year, 1, false, 1) {
-        DayFound::Is(day) => day,
-        DayFound::Refused(_) => 0,
+        DayTold::Is(day) => day,
+        DayTold::Refused(_) => 0,
     }
 }
 

@@ -38,7 +38,7 @@ ghost use Rattle.flat.specs.Flat.{
 };
 use dates::Date;
 use dates::Dated;
-use dates::DayFound;
+use dates::DayTold;
 use facts::LeapMonth;
 use facts::MonthFacts;
 use facts::MonthTold;
@@ -227,12 +227,12 @@ fn no_day(reason: u8) -> CDay
     }
 }
 
-pub fn flat_day(a: DayFound) -> CDay
+pub fn flat_day(a: DayTold) -> CDay
     ensures { λ r. ⌜ r ≡ flatDay (saidDay a) ⌝ }
 {
     match a {
-        DayFound::Is(d) => CDay { reason: 0, day: d },
-        DayFound::Refused(why) => no_day(rule::reason_number(why)),
+        DayTold::Is(d) => CDay { reason: 0, day: d },
+        DayTold::Refused(why) => no_day(rule::reason_number(why)),
     }
 }
 

@@ -17,7 +17,7 @@ ghost use Rattle.told.specs.Answers.{
 };
 use dates::Date;
 use dates::Dated;
-use dates::DayFound;
+use dates::DayTold;
 use reading::Found;
 use reading::Reading;
 use rule::Reason;
@@ -65,8 +65,8 @@ pub fn answer_date(
     ensures { λ r. ⌜ Put 120 (now (out .entry)) at (dateText year number leap «day_of_month») (now (out .exit)) r ⌝ }
 {
     match dates::day_of_date(year, number, leap, day_of_month) {
-        DayFound::Is(day) => put_day_of(day, out, at),
-        DayFound::Refused(why) => answers::put_refusal(why, out, at),
+        DayTold::Is(day) => put_day_of(day, out, at),
+        DayTold::Refused(why) => answers::put_refusal(why, out, at),
     }
 }
 

@@ -1,7 +1,7 @@
 // One question of the paper's known dates and what is answered, on a line; of an answer only what the paper gives is printed.
 use dates::Date;
 use dates::Dated;
-use dates::DayFound;
+use dates::DayTold;
 use facts::MonthTold;
 use facts::QuarterTold;
 use facts::SolsticeYearTold;
@@ -188,8 +188,8 @@ pub fn first_name(n: u32) {
 pub fn is_month(year: u32, number: u32, leap: bool, n: u32) {
     date_text(year, number, leap, 1);
     match dates::day_of_date(year, number, leap, 1) {
-        DayFound::Is(day) => starts(n, day),
-        DayFound::Refused(why) => show::reason(why),
+        DayTold::Is(day) => starts(n, day),
+        DayTold::Refused(why) => show::reason(why),
     }
     show::next(n);
     show::text(b"\n");

@@ -25,7 +25,7 @@ use Rattle.sheet.specs.Sheet.{
   readInto,
   room,
 }
-use Rattle.sheet.specs.Promises.{saidCounts, counted, countsIn, ReadingSheet}
+use Rattle.sheet.specs.Promises.{saidCounts, counted, countsIn, ReadSheet}
 use Rattle.sheet.specs.Paper.{InSection, GoodSection, GoodSections, GoodList, GoodLists}
 use Rattle.sheet.proofs.Sheets.{sheet-then, each-read, sheet-lies, length-numbers, counted-lists}
 use Rattle.sheet.proofs.Places.{number-at}
@@ -56,7 +56,7 @@ fits : (xs old : List ℕ) (n : ℕ) (new : List ℕ) → new ≡ placed xs old 
 fits xs old n new e h = omega (arith, ap length e, length-append xs (drop (length xs) old))
 
 -- a sheet that was read: what it says, where the lists stand, and that its items are in their ranges
-module _ {s y m d y′ m′ d′ : List ℕ} {r : SheetCounts} (p : ReadingSheet s y m d r y′ m′ d′) {c : Counted} (e : r ≡ Counts'.Is c) where
+module _ {s y m d y′ m′ d′ : List ℕ} {r : SheetCounts} (p : ReadSheet s y m d r y′ m′ d′) {c : Counted} (e : r ≡ Counts'.Is c) where
   pub read : (l : Lists) × (readInto s (length y) (length m) (length d) ≡ is l) × (c ≡ counted l)
   read = made-of (readInto s (length y) (length m) (length d)) counted c (ap saidCounts (sym e) ∙ p .answer)
 
@@ -98,7 +98,7 @@ module _ {s y m d y′ m′ d′ : List ℕ} {r : SheetCounts} (p : ReadingSheet
       subst GoodLists e (good-lists s (g .sections))
 
 -- a sheet that came back from lists of 1,000 places comes back for its own fault: such lists are never too short
-module _ {s y m d y′ m′ d′ : List ℕ} {a : SheetCounts} (p : ReadingSheet s y m d a y′ m′ d′) {r : Reason} (e : a ≡ Counts'.Refused r) (hy : 1000 ≤ length y) (hm : 1000 ≤ length m) (hd : 1000 ≤ length d) where
+module _ {s y m d y′ m′ d′ : List ℕ} {a : SheetCounts} (p : ReadSheet s y m d a y′ m′ d′) {r : Reason} (e : a ≡ Counts'.Refused r) (hy : 1000 ≤ length y) (hm : 1000 ≤ length m) (hd : 1000 ≤ length d) where
   back : (a : Answer Lists) → readInto s (length y) (length m) (length d) ≡ a → _≡_ {A = Answer Counted} (refused (reasonNumber r)) (andThen a (λ l. is (counted l)))
   back b f = ap saidCounts (sym e) ∙ p .answer ∙ ap (λ (b : Answer Lists). andThen b (λ l. is (counted l))) f
 

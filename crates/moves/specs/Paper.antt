@@ -14,7 +14,7 @@ use Rattle.rule.specs.declared.Reason.the-variants.{MoveOutOfRange}
 use Rattle.dates.specs.declared.Date.{Date}
 use Rattle.dates.specs.declared.Dated.{Dated}
 use Rattle.dates.specs.declared.Dated.the-variants as Dated'
-use Rattle.dates.specs.declared.DayFound.the-variants as DayFound'
+use Rattle.dates.specs.declared.DayTold.the-variants as DayTold'
 use Rattle.dates.specs.Promises.{DateOfDay, DayOfDate}
 use Rattle.moves.specs.Moves.{MoveDate}
 
@@ -27,13 +27,13 @@ pub record MoveOfADate (y k : ℕ) (l : Bool) (m d : ℕ) (n : ℤ) : Type 0 whe
       MoveDate y k l m n (Dated'.Refused why) ↔ ((why ≡ MoveOutOfRange) × (((e : ℕ) × (pos d +ℤ n ≡ pos e) × DayInRange e) → ⊥))
 
 abbrev pub Move-of-a-date : Type 0
-Move-of-a-date = (y k : ℕ) (l : Bool) (m d : ℕ) (n : ℤ) → DayOfDate y k l m (DayFound'.Is d) → MoveOfADate y k l m d n
+Move-of-a-date = (y k : ℕ) (l : Bool) (m d : ℕ) (n : ℤ) → DayOfDate y k l m (DayTold'.Is d) → MoveOfADate y k l m d n
 
 -- "a move first the date's own reasons, then 8": with any reason but 8 a move is refused exactly where its date is
 abbrev pub Date's-own-reasons : Type 0
 Date's-own-reasons =
     (y k : ℕ) (l : Bool) (m : ℕ) (n : ℤ) (why : Reason) → reasonNumber why ≢ 8 →
-    MoveDate y k l m n (Dated'.Refused why) ↔ DayOfDate y k l m (DayFound'.Refused why)
+    MoveDate y k l m n (Dated'.Refused why) ↔ DayOfDate y k l m (DayTold'.Refused why)
 
 -- "If the move by a stays in range and a plus b can be written, moving by a and then b equals moving by a plus b, refusals
 -- too": over the calls' own answers, the second move taking the first one's date by its own four things

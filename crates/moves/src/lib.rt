@@ -5,7 +5,7 @@ ghost use Rattle.rule.specs.Counts.{DayInRange};
 ghost use Rattle.dates.specs.Promises.{saidDate};
 ghost use Rattle.moves.specs.Moves.{wayOf, stepped, MoveDate};
 use dates::Dated;
-use dates::DayFound;
+use dates::DayTold;
 use rule::Reason;
 
 // Which way a move goes: so many days on, or so many and one more back. (So the least number of 64 bits is no special case.)
@@ -52,8 +52,8 @@ pub fn move_date(year: u32, number: u32, leap: bool, day_of_month: u32, days: i6
     ensures { λ r. ⌜ MoveDate year number leap «day_of_month» days r ⌝ }
 {
     match dates::day_of_date(year, number, leap, day_of_month) {
-        DayFound::Refused(reason) => Dated::Refused(reason),
-        DayFound::Is(day) => match way_of(days) {
+        DayTold::Refused(reason) => Dated::Refused(reason),
+        DayTold::Is(day) => match way_of(days) {
             Way::On(n) => on(day, n),
             Way::Back(n) => back(day, n),
         },

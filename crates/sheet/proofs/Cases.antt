@@ -17,7 +17,7 @@ use Rattle.sheet.specs.Sheet.{
   sheetRead,
   readInto,
 }
-use Rattle.sheet.specs.Promises.{countsAre, ReadingSheet}
+use Rattle.sheet.specs.Promises.{countsAre, ReadSheet}
 
 -- the paper's sheet of the year 11 with a byte after it, read into no places at all: 11 comes before 12
 pub eleven-first : readInto (1 ∷ 0 ∷ 11 ∷ 0 ∷ 0 ∷ 0 ∷ 0 ∷ 0 ∷ 9 ∷ []) 0 0 0 ≡ refused 11
@@ -25,6 +25,6 @@ unfolding number numbers itemsRead countRead sectionRead itemsOf leftAfter lists
 eleven-first = refl
 
 -- the same sheet without that byte, read into two places that held 7: the second is kept
-pub second-kept : ReadingSheet (1 ∷ 0 ∷ 11 ∷ 0 ∷ 0 ∷ 0 ∷ 0 ∷ 0 ∷ []) (7 ∷ 7 ∷ []) [] [] (Counts'.Is (countsAre 1 0 0)) (11 ∷ 7 ∷ []) [] []
+pub second-kept : ReadSheet (1 ∷ 0 ∷ 11 ∷ 0 ∷ 0 ∷ 0 ∷ 0 ∷ 0 ∷ []) (7 ∷ 7 ∷ []) [] [] (Counts'.Is (countsAre 1 0 0)) (11 ∷ 7 ∷ []) [] []
 unfolding number numbers itemsRead countRead sectionRead itemsOf leftAfter listsIn daysRead monthsRead sheetRead readInto
 second-kept = record { answer = refl; years = refl; months = refl; days = refl }

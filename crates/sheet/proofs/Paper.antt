@@ -52,7 +52,7 @@ use Rattle.sheet.specs.Sheet.{
   writeSheet,
   writeInto,
 }
-use Rattle.sheet.specs.Promises.{saidCounts, saidHowMany, counted, countsAre, countsIn, ReadingSheet, WritingSheet}
+use Rattle.sheet.specs.Promises.{saidCounts, saidHowMany, counted, countsAre, countsIn, ReadSheet, WriteSheet}
 use Rattle.sheet.specs.Paper as Paper
 use Rattle.sheet.proofs.Filling.{length-section, length-sheet}
 use Rattle.sheet.proofs.Ends.{section-part, section-more}
@@ -112,12 +112,12 @@ how-many-once a b e = once saidHowMany HowMany'.Is (λ k. HowMany'.Refused (reas
     again (HowMany'.Is c) = refl
     again (HowMany'.Refused r) = ap HowMany'.Refused (reason-back r)
 
-pub unique-reading : Paper.Unique-reading
-unique-reading s y m d a b y₁ m₁ d₁ y₂ m₂ d₂ p q =
+pub unique-read-sheet : Paper.Unique-read-sheet
+unique-read-sheet s y m d a b y₁ m₁ d₁ y₂ m₂ d₂ p q =
     (counts-once a b (p .answer ∙ sym (q .answer)), p .years ∙ sym (q .years), p .months ∙ sym (q .months), p .days ∙ sym (q .days))
 
-pub unique-writing : Paper.Unique-writing
-unique-writing y m d o a b o₁ o₂ p q = (how-many-once a b (p .answer ∙ sym (q .answer)), p .buffer ∙ sym (q .buffer))
+pub unique-write-sheet : Paper.Unique-write-sheet
+unique-write-sheet y m d o a b o₁ o₂ p q = (how-many-once a b (p .answer ∙ sym (q .answer)), p .buffer ∙ sym (q .buffer))
 
 pub least-byte-first : Paper.Least-byte-first
 least-byte-first = record { two = two-read; four = four-read; laid-in-two = two-laid; laid-in-four = four-laid }
@@ -168,9 +168,9 @@ module _ {B : Type 0} (l : Lists) (x : B) (e : EachWritten l x) where
       (months-back _ .0 ∙ days-back _ .0)
 
 -- reading what was written gives the three lists back, and writing what was read gives the bytes back
-reading-what-was-written : (l : Lists) (b : List ℕ) → writeSheet l ≡ is b → readSheet b ≡ is l
+what-was-written-is-read : (l : Lists) (b : List ℕ) → writeSheet l ≡ is b → readSheet b ≡ is l
 unfolding writeSheet sheetOf
-reading-what-was-written l b h =
+what-was-written-is-read l b h =
     let a = each-written l (sheetOf l) b h in
     subst (λ (s : List ℕ). readSheet s ≡ is l) (a .1) (laid-is-read l (sheetOf l) (a .0))
 
@@ -208,9 +208,9 @@ module _ {B : Type 0} (s : List ℕ) (x : B) (bytes : AreBytes s) (e : EachRead 
   unfolding listsWritten listsIn
   written-again b = years-again _ .0 ∙ months-again _ .0 ∙ days-again b .0
 
-writing-what-was-read : (s : List ℕ) (l : Lists) → AreBytes s → readSheet s ≡ is l → writeSheet l ≡ is s
+what-was-read-is-written : (s : List ℕ) (l : Lists) → AreBytes s → readSheet s ≡ is l → writeSheet l ≡ is s
 unfolding writeSheet readSheet
-writing-what-was-read s l bytes h =
+what-was-read-is-written s l bytes h =
     let a = each-read s (listsIn s) l h in
     subst (λ (k : Lists). writeSheet k ≡ is s) (a .1)
     (written-again s (listsIn s) bytes (a .0) (is (sheetOf (listsIn s))) ∙ ap is (read-is-laid s (listsIn s) bytes (a .0)))
@@ -218,7 +218,7 @@ writing-what-was-read s l bytes h =
 -- two sheets that read alike are the same bytes
 same-bytes : (s t : List ℕ) (l : Lists) → AreBytes s → AreBytes t → readSheet s ≡ is l → readSheet t ≡ is l → s ≡ t
 same-bytes s t l bs bt hs ht =
-    let e : _≡_ {A = Answer (List ℕ)} (is s) (is t) = sym (writing-what-was-read s l bs hs) ∙ writing-what-was-read t l bt ht in cc
+    let e : _≡_ {A = Answer (List ℕ)} (is s) (is t) = sym (what-was-read-is-written s l bs hs) ∙ what-was-read-is-written t l bt ht in cc
 
 -- how long a good sheet is
 size-of-a-sheet : (s : List ℕ) (l : Lists) → readSheet s ≡ is l → length s ≡ 6 + 2 * length (l .years) + 4 * length (l .months) + 4 * length (l .days)
@@ -380,7 +380,7 @@ record ReadAs (s y m d : List ℕ) (c : Counted) (y′ m′ d′ : List ℕ) : T
   months : InFront (c .months) (listsIn s .months) m m′
   days : InFront (c .days) (listsIn s .days) d d′
 
-read-as : (s y m d y′ m′ d′ : List ℕ) (c : Counted) → ReadingSheet s y m d (Counts'.Is c) y′ m′ d′ → ReadAs s y m d c y′ m′ d′
+read-as : (s y m d y′ m′ d′ : List ℕ) (c : Counted) → ReadSheet s y m d (Counts'.Is c) y′ m′ d′ → ReadAs s y m d c y′ m′ d′
 unfolding readSheet
 read-as s y m d y′ m′ d′ c p =
     let w = made-of (readInto s (length y) (length m) (length d)) counted c (p .answer) in
@@ -413,18 +413,18 @@ read-as s y m d y′ m′ d′ c p =
     }
 
 read-given : (s y m d : List ℕ) (l : Lists) (c : Counted) → c ≡ counted l → readInto s (length y) (length m) (length d) ≡ is l →
-    ReadingSheet s y m d (Counts'.Is c) (placed (l .years) y) (placed (l .months) m) (placed (l .days) d)
+    ReadSheet s y m d (Counts'.Is c) (placed (l .years) y) (placed (l .months) m) (placed (l .days) d)
 read-given s y m d l c e h = record { answer = rw (h) (ap is e); years = rw (h); months = rw (h); days = rw (h) }
 
 -- the same of writing
-written-into : (y m d o o′ : List ℕ) (n : ℕ) → WritingSheet y m d o (HowMany'.Is n) o′ → writeInto (threeLists y m d) (length o) ≡ is (sheetOf (threeLists y m d))
+written-into : (y m d o o′ : List ℕ) (n : ℕ) → WriteSheet y m d o (HowMany'.Is n) o′ → writeInto (threeLists y m d) (length o) ≡ is (sheetOf (threeLists y m d))
 unfolding writeSheet
 written-into y m d o o′ n p =
     let l : Lists = threeLists y m d in
     let w = made-of (writeInto l (length o)) length n (p .answer) in
     w .1 ∙ ap is (sym (each-written l (sheetOf l) (w .0) (into-written l (length o) (w .0) (w .1)) .1))
 
-written-as : (y m d o o′ : List ℕ) (n : ℕ) → WritingSheet y m d o (HowMany'.Is n) o′ → InFront n (sheetOf (threeLists y m d)) o o′
+written-as : (y m d o o′ : List ℕ) (n : ℕ) → WriteSheet y m d o (HowMany'.Is n) o′ → InFront n (sheetOf (threeLists y m d)) o o′
 written-as y m d o o′ n p =
     let l : Lists = threeLists y m d in
     let g : writeInto l (length o) ≡ is (sheetOf l) = written-into y m d o o′ n p in
@@ -435,7 +435,7 @@ written-as y m d o o′ n p =
       list = p .buffer ∙ ap (λ (a : Answer (List ℕ)). afterwards a (λ b. b) o) g;
     }
 
-write-given : (y m d o b : List ℕ) → writeInto (threeLists y m d) (length o) ≡ is b → WritingSheet y m d o (HowMany'.Is (length b)) (placed b o)
+write-given : (y m d o b : List ℕ) → writeInto (threeLists y m d) (length o) ≡ is b → WriteSheet y m d o (HowMany'.Is (length b)) (placed b o)
 write-given y m d o b h = record { answer = rw (h); buffer = rw (h) }
 
 pub calls-there-and-back : Paper.Calls-there-and-back
@@ -445,9 +445,9 @@ calls-there-and-back y m d o o′ y₀ m₀ d₀ y′ m′ d′ n r p q hy hm hd
     let w : writeSheet l ≡ is (sheetOf l) = into-written l (length o) (sheetOf l) (written-into y m d o o′ n p) in
     let g : readInto (take n o′) (length y₀) (length m₀) (length d₀) ≡ is l =
     ap (λ (s : List ℕ). readInto s (length y₀) (length m₀) (length d₀)) (front (sheetOf l) o n o′ (a .list) (a .count))
-    ∙ read-with-room (sheetOf l) l (length y₀) (length m₀) (length d₀) (reading-what-was-written l (sheetOf l) w) hy hm hd
+    ∙ read-with-room (sheetOf l) l (length y₀) (length m₀) (length d₀) (what-was-written-is-read l (sheetOf l) w) hy hm hd
     in
-    let u = unique-reading (take n o′) y₀ m₀ d₀ r (Counts'.Is (counted l)) y′ m′ d′ _ _ _ q (read-given (take n o′) y₀ m₀ d₀ l (counted l) refl g) in
+    let u = unique-read-sheet (take n o′) y₀ m₀ d₀ r (Counts'.Is (counted l)) y′ m′ d′ _ _ _ q (read-given (take n o′) y₀ m₀ d₀ l (counted l) refl g) in
     record { answer = u .0; years = u .1; months = u .2; days = u .3 }
 
 pub calls-back-and-there : Paper.Calls-back-and-there
@@ -456,9 +456,9 @@ calls-back-and-there s y₀ m₀ d₀ y′ m′ d′ o o′ c r bytes p q h =
     let y = front (listsIn s .years) y₀ (c .years) y′ (a .years .list) (a .years .count) in
     let m = front (listsIn s .months) m₀ (c .months) m′ (a .months .list) (a .months .count) in
     let d = front (listsIn s .days) d₀ (c .days) d′ (a .days .list) (a .days .count) in
-    let w = writing-what-was-read s (listsIn s) bytes (into-read s (length y₀) (length m₀) (length d₀) (listsIn s) (a .into)) in
+    let w = what-was-read-is-written s (listsIn s) bytes (into-read s (length y₀) (length m₀) (length d₀) (listsIn s) (a .into)) in
     let e : writeInto (threeLists (take (c .years) y′) (take (c .months) m′) (take (c .days) d′)) (length o) ≡ is s = rw (y, m, d) (write-with-room (listsIn s) s (length o) w h) in
-    unique-writing _ _ _ o r (HowMany'.Is (length s)) o′ (placed s o) q (write-given (take (c .years) y′) (take (c .months) m′) (take (c .days) d′) o s e)
+    unique-write-sheet _ _ _ o r (HowMany'.Is (length s)) o′ (placed s o) q (write-given (take (c .years) y′) (take (c .months) m′) (take (c .days) d′) o s e)
 
 pub rest-untouched : Paper.Rest-untouched
 rest-untouched =
@@ -480,8 +480,8 @@ refusal-changes-nothing =
           p .buffer ∙ ap (λ (a : Answer (List ℕ)). afterwards a (λ b. b) o) (refused-of (writeInto (threeLists y m d) (length o)) length (reasonNumber why) (p .answer));
     }
 
-pub reasons-of-reading : Paper.Reasons-of-reading
-reasons-of-reading s y m d =
+pub reasons-of-a-sheet : Paper.Reasons-of-a-sheet
+reasons-of-a-sheet s y m d =
     let a : Answer Lists = readInto s (length y) (length m) (length d) in
     record {
       reason = λ why.
@@ -492,8 +492,8 @@ reasons-of-reading s y m d =
           (reading-given s (length y) (length m) (length d));
     }
 
-pub reasons-of-writing : Paper.Reasons-of-writing
-reasons-of-writing y m d o =
+pub reasons-of-lists : Paper.Reasons-of-lists
+reasons-of-lists y m d o =
     let l : Lists = threeLists y m d in
     record {
       reason = λ why.
@@ -534,7 +534,7 @@ bytes-sheet l =
 sheet-of-good : (l : Lists) → GoodLists l → IsSheetOf l (sheetOf l)
 sheet-of-good l g =
     let n : ℕ = length (sheetOf l) in
-    is-sheet l (sheetOf l) (bytes-sheet l) (reading-what-was-written l (sheetOf l) (into-written l n (sheetOf l) (lists-given l n (g, omega arith))))
+    is-sheet l (sheetOf l) (bytes-sheet l) (what-was-written-is-read l (sheetOf l) (into-written l n (sheetOf l) (lists-given l n (g, omega arith))))
 
 pub one-sheet : Paper.One-sheet
 one-sheet l g =
@@ -543,12 +543,12 @@ one-sheet l g =
 
 pub added : Paper.Added
 added s b t l h y m d y′ m′ d′ r p =
-    unique-reading (s ++ (b ∷ t)) y m d r _ y′ m′ d′ y m d p
+    unique-read-sheet (s ++ (b ∷ t)) y m d r _ y′ m′ d′ y m d p
     (read-refused (s ++ (b ∷ t)) y m d BytesAfterLast (after-last s b t l (length y) (length m) (length d) (is-read l s h))) .0
 
 pub cut-off : Paper.Cut-off
 cut-off s b t l h y m d y′ m′ d′ r p =
-    unique-reading s y m d r _ y′ m′ d′ y m d p
+    unique-read-sheet s y m d r _ y′ m′ d′ y m d p
     (read-refused s y m d SheetEndsEarly (ends-early s b t l (length y) (length m) (length d) (is-read l (s ++ (b ∷ t)) h))) .0
 
 -- three lists of n equal items
@@ -645,11 +645,11 @@ empty-read = refl
 pub empty-sheet : Paper.Empty-sheet
 empty-sheet y m d y′ m′ d′ r p =
     let e = read-with-room emptySheet (threeLists [] [] []) (length y) (length m) (length d) empty-read (omega arith) (omega arith) (omega arith) in
-    unique-reading emptySheet y m d r _ y′ m′ d′ y m d p (read-given emptySheet y m d (threeLists [] [] []) (countsAre 0 0 0) refl e) .0
+    unique-read-sheet emptySheet y m d r _ y′ m′ d′ y m d p (read-given emptySheet y m d (threeLists [] [] []) (countsAre 0 0 0) refl e) .0
 
-pub wrong-readings : Paper.Wrong-readings
+pub wrong-sheets : Paper.Wrong-sheets
 unfolding readInto sheetRead monthsRead daysRead sectionRead countRead itemsRead number listsIn itemsOf leftAfter numbers
-wrong-readings =
+wrong-sheets =
     record {
       refusing-all = λ why y m d p.
           let o : _≡_ {A = Answer Counted} (refused (reasonNumber why)) (is (countsAre 0 0 0)) = p .answer in

@@ -37,7 +37,7 @@ use Rattle.sheet.specs.Sheet.{
   sheetOf,
   writeInto,
 }
-use Rattle.sheet.specs.Promises.{counted, countsIn, ReadingSheet, WritingSheet}
+use Rattle.sheet.specs.Promises.{counted, countsIn, ReadSheet, WriteSheet}
 use Rattle.sheet.specs.Steps.{Filling, Filled, RoomToLay, sizeWithDays, sizeWithMonths, sizeWithYears}
 use Rattle.sheet.proofs.Reading.{section-then, SectionLies, section-lies}
 use Rattle.rule.proofs.Stores.{from-front}
@@ -152,7 +152,7 @@ module _ (s y m d : List ℕ) where
   kept r h f old = sym (ap (λ (a : Answer Lists). afterwards a f old) h)
 
   -- each way that reading is refused
-  pub read-refused : (r : Reason) → readInto s (length y) (length m) (length d) ≡ refused (reasonNumber r) → ReadingSheet s y m d (Counts'.Refused r) y m d
+  pub read-refused : (r : Reason) → readInto s (length y) (length m) (length d) ≡ refused (reasonNumber r) → ReadSheet s y m d (Counts'.Refused r) y m d
   read-refused r h =
       record {
         answer = rw (h);
@@ -204,7 +204,7 @@ module _ (s y m d : List ℕ) where
             room-days = leb-true (c .days) (length d) (r .2);
           }
 
-      pub read-filled : (y′ m′ d′ : List ℕ) → Filled s y m d y′ m′ d′ → ReadingSheet s y m d (Counts'.Is c) y′ m′ d′
+      pub read-filled : (y′ m′ d′ : List ℕ) → Filled s y m d y′ m′ d′ → ReadSheet s y m d (Counts'.Is c) y′ m′ d′
       read-filled y′ m′ d′ w =
           let r = all-three _ _ _ (the-room ∙ f) in
           record {
@@ -275,7 +275,7 @@ module _ (y m d o : List ℕ) where
   written : Answer (List ℕ)
   written = guard (leb (length (sheetOf the-lists)) (length o)) 12 (is (sheetOf the-lists))
 
-  pub write-refused : (r : Reason) → writeInto the-lists (length o) ≡ refused (reasonNumber r) → WritingSheet y m d o (HowMany'.Refused r) o
+  pub write-refused : (r : Reason) → writeInto the-lists (length o) ≡ refused (reasonNumber r) → WriteSheet y m d o (HowMany'.Refused r) o
   write-refused r h = record { answer = rw (h); buffer = rw (h) }
 
   pub write-bad : (r : ℕ) → sizeWithYears y m d ≡ refused r → writeInto the-lists (length o) ≡ refused r
@@ -300,7 +300,7 @@ module _ (y m d o : List ℕ) where
         let a = lists-few the-lists sized n (sym sizes ∙ h) in
         record { years = a .0 .years; months = a .0 .months; days = a .0 .days; room = omega (arith, a .1) }
 
-    pub write-laid : n ≤ length o → (o′ : List ℕ) → o′ ≡ sets o 0 (sheetOf the-lists) → WritingSheet y m d o (HowMany'.Is n) o′
+    pub write-laid : n ≤ length o → (o′ : List ℕ) → o′ ≡ sets o 0 (sheetOf the-lists) → WriteSheet y m d o (HowMany'.Is n) o′
     unfolding written
     write-laid l o′ w =
         let g : writeInto the-lists (length o) ≡ is (sheetOf the-lists) = goes-on ∙ passes _ 12 _ (le-leb (length (sheetOf the-lists)) (length o) (omega (arith, the-size))) in

@@ -30,7 +30,7 @@ use Rattle.sheet.specs.Sheet.{
   listsIn,
   sheetOf,
 }
-use Rattle.sheet.specs.Promises.{counted, countsAre, countsIn, ReadingSheet, WritingSheet}
+use Rattle.sheet.specs.Promises.{counted, countsAre, countsIn, ReadSheet, WriteSheet}
 
 -- "Numbers are least byte first", of the two bytes of a year or a count and the four of a month or a day, read from the front of
 -- what is left, and laid
@@ -80,9 +80,9 @@ pub record WrittenByItem (y m d : List ℕ) (c : Counted) (n : ℕ) (o : List �
 
 pub record Item-by-item : Type 0 where
   pub reading :
-      (s y m d y′ m′ d′ : List ℕ) (c : Counted) → ReadingSheet s y m d (Counts'.Is c) y′ m′ d′ → ReadByItem s c y′ m′ d′
+      (s y m d y′ m′ d′ : List ℕ) (c : Counted) → ReadSheet s y m d (Counts'.Is c) y′ m′ d′ → ReadByItem s c y′ m′ d′
   pub writing :
-      (y m d o o′ : List ℕ) (n : ℕ) → WritingSheet y m d o (HowMany'.Is n) o′ →
+      (y m d o o′ : List ℕ) (n : ℕ) → WriteSheet y m d o (HowMany'.Is n) o′ →
       WrittenByItem y m d (countsAre (length y) (length m) (length d)) n o′
 
 -- reading what was written gives the three lists back, and writing what was read gives the bytes back: the bytes that a call
@@ -96,15 +96,15 @@ pub record ReadBack (y m d y₀ m₀ d₀ : List ℕ) (r : SheetCounts) (y′ m�
 abbrev pub Calls-there-and-back : Type 0
 Calls-there-and-back =
     (y m d o o′ y₀ m₀ d₀ y′ m′ d′ : List ℕ) (n : ℕ) (r : SheetCounts) →
-    WritingSheet y m d o (HowMany'.Is n) o′ → ReadingSheet (take n o′) y₀ m₀ d₀ r y′ m′ d′ →
+    WriteSheet y m d o (HowMany'.Is n) o′ → ReadSheet (take n o′) y₀ m₀ d₀ r y′ m′ d′ →
     length y ≤ length y₀ → length m ≤ length m₀ → length d ≤ length d₀ →
     ReadBack y m d y₀ m₀ d₀ r y′ m′ d′
 
 abbrev pub Calls-back-and-there : Type 0
 Calls-back-and-there =
     (s y₀ m₀ d₀ y′ m′ d′ o o′ : List ℕ) (c : Counted) (r : HowMany) → AreBytes s →
-    ReadingSheet s y₀ m₀ d₀ (Counts'.Is c) y′ m′ d′ →
-    WritingSheet (take (c .years) y′) (take (c .months) m′) (take (c .days) d′) o r o′ →
+    ReadSheet s y₀ m₀ d₀ (Counts'.Is c) y′ m′ d′ →
+    WriteSheet (take (c .years) y′) (take (c .months) m′) (take (c .days) d′) o r o′ →
     length s ≤ length o → (r ≡ HowMany'.Is (length s)) × (o′ ≡ placed s o)
 
 -- a value of a section's item is in its range: 1 to 41,040, at most 507,599, at most 14,989,859
@@ -172,16 +172,16 @@ pub record GoodSheet (s : List ℕ) (y m d : ℕ) : Type 0 where
 
 -- each reason if and only if its row holds and no earlier fault does; and the sheet's own counts and items if and only if there
 -- is no fault
-pub record ReadingReasons (s y m d : List ℕ) : Type 0 where
+pub record SheetReasons (s y m d : List ℕ) : Type 0 where
   pub reason :
       (why : Reason) →
-      ReadingSheet s y m d (Counts'.Refused why) y m d ↔ SheetFault s (length y) (length m) (length d) (reasonNumber why)
+      ReadSheet s y m d (Counts'.Refused why) y m d ↔ SheetFault s (length y) (length m) (length d) (reasonNumber why)
   pub given :
-      ReadingSheet s y m d (Counts'.Is (countsIn s)) (placed (listsIn s .years) y) (placed (listsIn s .months) m) (placed (listsIn s .days) d)
+      ReadSheet s y m d (Counts'.Is (countsIn s)) (placed (listsIn s .years) y) (placed (listsIn s .months) m) (placed (listsIn s .days) d)
       ↔ GoodSheet s (length y) (length m) (length d)
 
-abbrev pub Reasons-of-reading : Type 0
-Reasons-of-reading = (s y m d : List ℕ) → ReadingReasons s y m d
+abbrev pub Reasons-of-a-sheet : Type 0
+Reasons-of-a-sheet = (s y m d : List ℕ) → SheetReasons s y m d
 
 -- the same of a list to be written: a length above 1,000, then the first item outside its range
 pub record GoodList (k : Section) (xs : List ℕ) : Type 0 where
@@ -206,22 +206,22 @@ pub data ListsFault (l : Lists) (n r : ℕ) : Type 0 where
       GoodList yearItems (l .years) → GoodList monthItems (l .months) → ListFault dayItems (l .days) r → ListsFault l n r
   buffer-short : GoodLists l → n < length (sheetOf l) → r ≡ 12 → ListsFault l n r
 
-pub record WritingReasons (y m d o : List ℕ) : Type 0 where
+pub record ListsReasons (y m d o : List ℕ) : Type 0 where
   pub reason :
-      (why : Reason) → WritingSheet y m d o (HowMany'.Refused why) o ↔ ListsFault (threeLists y m d) (length o) (reasonNumber why)
+      (why : Reason) → WriteSheet y m d o (HowMany'.Refused why) o ↔ ListsFault (threeLists y m d) (length o) (reasonNumber why)
   pub given :
-      WritingSheet y m d o (HowMany'.Is (length (sheetOf (threeLists y m d)))) (placed (sheetOf (threeLists y m d)) o)
+      WriteSheet y m d o (HowMany'.Is (length (sheetOf (threeLists y m d)))) (placed (sheetOf (threeLists y m d)) o)
       ↔ (GoodLists (threeLists y m d) × (length (sheetOf (threeLists y m d)) ≤ length o))
 
-abbrev pub Reasons-of-writing : Type 0
-Reasons-of-writing = (y m d o : List ℕ) → WritingReasons y m d o
+abbrev pub Reasons-of-lists : Type 0
+Reasons-of-lists = (y m d o : List ℕ) → ListsReasons y m d o
 
 -- s is a sheet of the three lists l: bytes that are read as l, into any lists with room for them
 pub record IsSheetOf (l : Lists) (s : List ℕ) : Type 0 where
   pub bytes : AreBytes s
   pub reads :
       (y m d : List ℕ) → length (l .years) ≤ length y → length (l .months) ≤ length m → length (l .days) ≤ length d →
-      ReadingSheet s y m d (Counts'.Is (counted l)) (placed (l .years) y) (placed (l .months) m) (placed (l .days) d)
+      ReadSheet s y m d (Counts'.Is (counted l)) (placed (l .years) y) (placed (l .months) m) (placed (l .days) d)
 
 -- "One set of three lists has one sheet": there is one, and there is no other
 abbrev pub One-sheet : Type 0
@@ -236,19 +236,19 @@ pub record Longest-sheet : Type 0 where
 abbrev pub Cut-off : Type 0
 Cut-off =
     (s : List ℕ) (b : ℕ) (t : List ℕ) (l : Lists) → IsSheetOf l (s ++ (b ∷ t)) →
-    (y m d y′ m′ d′ : List ℕ) (r : SheetCounts) → ReadingSheet s y m d r y′ m′ d′ → r ≡ Counts'.Refused SheetEndsEarly
+    (y m d y′ m′ d′ : List ℕ) (r : SheetCounts) → ReadSheet s y m d r y′ m′ d′ → r ≡ Counts'.Refused SheetEndsEarly
 
 abbrev pub Added : Type 0
 Added =
     (s : List ℕ) (b : ℕ) (t : List ℕ) (l : Lists) → IsSheetOf l s →
-    (y m d y′ m′ d′ : List ℕ) (r : SheetCounts) → ReadingSheet (s ++ (b ∷ t)) y m d r y′ m′ d′ → r ≡ Counts'.Refused BytesAfterLast
+    (y m d y′ m′ d′ : List ℕ) (r : SheetCounts) → ReadSheet (s ++ (b ∷ t)) y m d r y′ m′ d′ → r ≡ Counts'.Refused BytesAfterLast
 
 -- "All lent memory stays as before the call": a refused call changes nothing
 pub record Refusal-changes-nothing : Type 0 where
   pub reading :
-      (s y m d y′ m′ d′ : List ℕ) (why : Reason) → ReadingSheet s y m d (Counts'.Refused why) y′ m′ d′ →
+      (s y m d y′ m′ d′ : List ℕ) (why : Reason) → ReadSheet s y m d (Counts'.Refused why) y′ m′ d′ →
       (y′ ≡ y) × (m′ ≡ m) × (d′ ≡ d)
-  pub writing : (y m d o o′ : List ℕ) (why : Reason) → WritingSheet y m d o (HowMany'.Refused why) o′ → o′ ≡ o
+  pub writing : (y m d o o′ : List ℕ) (why : Reason) → WriteSheet y m d o (HowMany'.Refused why) o′ → o′ ≡ o
 
 -- "Both leave places beyond what they fill untouched", where n places are filled
 pub record RestKept (n : ℕ) (old new : List ℕ) : Type 0 where
@@ -257,21 +257,21 @@ pub record RestKept (n : ℕ) (old new : List ℕ) : Type 0 where
 
 pub record Rest-untouched : Type 0 where
   pub reading :
-      (s y m d y′ m′ d′ : List ℕ) (c : Counted) → ReadingSheet s y m d (Counts'.Is c) y′ m′ d′ →
+      (s y m d y′ m′ d′ : List ℕ) (c : Counted) → ReadSheet s y m d (Counts'.Is c) y′ m′ d′ →
       RestKept (c .years) y y′ × RestKept (c .months) m m′ × RestKept (c .days) d d′
-  pub writing : (y m d o o′ : List ℕ) (n : ℕ) → WritingSheet y m d o (HowMany'.Is n) o′ → RestKept n o o′
+  pub writing : (y m d o o′ : List ℕ) (n : ℕ) → WriteSheet y m d o (HowMany'.Is n) o′ → RestKept n o o′
 
 -- each promise leaves one answer and one state of lent memory
-abbrev pub Unique-reading : Type 0
-Unique-reading =
+abbrev pub Unique-read-sheet : Type 0
+Unique-read-sheet =
     (s y m d : List ℕ) (a b : SheetCounts) (y₁ m₁ d₁ y₂ m₂ d₂ : List ℕ) →
-    ReadingSheet s y m d a y₁ m₁ d₁ → ReadingSheet s y m d b y₂ m₂ d₂ →
+    ReadSheet s y m d a y₁ m₁ d₁ → ReadSheet s y m d b y₂ m₂ d₂ →
     (a ≡ b) × (y₁ ≡ y₂) × (m₁ ≡ m₂) × (d₁ ≡ d₂)
 
-abbrev pub Unique-writing : Type 0
-Unique-writing =
+abbrev pub Unique-write-sheet : Type 0
+Unique-write-sheet =
     (y m d o : List ℕ) (a b : HowMany) (o₁ o₂ : List ℕ) →
-    WritingSheet y m d o a o₁ → WritingSheet y m d o b o₂ → (a ≡ b) × (o₁ ≡ o₂)
+    WriteSheet y m d o a o₁ → WriteSheet y m d o b o₂ → (a ≡ b) × (o₁ ≡ o₂)
 
 -- the empty sheet of case 12, and the sheet of the year 11 alone
 abbrev pub emptySheet : List ℕ
@@ -283,7 +283,7 @@ sheetOf11 = 1 ∷ 0 ∷ 11 ∷ 0 ∷ 0 ∷ 0 ∷ 0 ∷ 0 ∷ []
 -- case 12: "three zero counts"
 abbrev pub Empty-sheet : Type 0
 Empty-sheet =
-    (y m d y′ m′ d′ : List ℕ) (r : SheetCounts) → ReadingSheet emptySheet y m d r y′ m′ d′ → r ≡ Counts'.Is (countsAre 0 0 0)
+    (y m d y′ m′ d′ : List ℕ) (r : SheetCounts) → ReadSheet emptySheet y m d r y′ m′ d′ → r ≡ Counts'.Is (countsAre 0 0 0)
 
 -- a sheet with two items in each list: the years 11 and 12, the months 123 and 134, the days 28 and 29
 abbrev pub sheetOfTwos : List ℕ
@@ -292,37 +292,37 @@ sheetOfTwos =
     ++ ((2 ∷ 0 ∷ 123 ∷ 0 ∷ 0 ∷ 0 ∷ 134 ∷ 0 ∷ 0 ∷ 0 ∷ []) ++ (2 ∷ 0 ∷ 28 ∷ 0 ∷ 0 ∷ 0 ∷ 29 ∷ 0 ∷ 0 ∷ 0 ∷ []))
 
 -- what a call may do that reads it into lists of two noughts
-abbrev pub ReadingTwos : SheetCounts → List ℕ → List ℕ → List ℕ → Type 0
-ReadingTwos = ReadingSheet sheetOfTwos (0 ∷ 0 ∷ []) (0 ∷ 0 ∷ []) (0 ∷ 0 ∷ [])
+abbrev pub ReadTwos : SheetCounts → List ℕ → List ℕ → List ℕ → Type 0
+ReadTwos = ReadSheet sheetOfTwos (0 ∷ 0 ∷ []) (0 ∷ 0 ∷ []) (0 ∷ 0 ∷ [])
 
 -- wrong versions, each shut out at a named input: refusing all, filling no list, copying the first item over the rest, and
 -- leaving out the rest
-pub record Wrong-readings : Type 0 where
-  pub refusing-all : (why : Reason) (y m d : List ℕ) → ReadingSheet emptySheet [] [] [] (Counts'.Refused why) y m d → ⊥
-  pub filling-none : (a : SheetCounts) (m d : List ℕ) → ReadingSheet sheetOf11 (0 ∷ []) [] [] a (0 ∷ []) m d → ⊥
-  pub copying-first-year : (a : SheetCounts) (m d : List ℕ) → ReadingTwos a (11 ∷ 11 ∷ []) m d → ⊥
-  pub copying-first-month : (a : SheetCounts) (y d : List ℕ) → ReadingTwos a y (123 ∷ 123 ∷ []) d → ⊥
-  pub copying-first-day : (a : SheetCounts) (y m : List ℕ) → ReadingTwos a y m (28 ∷ 28 ∷ []) → ⊥
-  pub first-year-alone : (a : SheetCounts) (m d : List ℕ) → ReadingTwos a (11 ∷ 0 ∷ []) m d → ⊥
-  pub first-month-alone : (a : SheetCounts) (y d : List ℕ) → ReadingTwos a y (123 ∷ 0 ∷ []) d → ⊥
-  pub first-day-alone : (a : SheetCounts) (y m : List ℕ) → ReadingTwos a y m (28 ∷ 0 ∷ []) → ⊥
+pub record Wrong-sheets : Type 0 where
+  pub refusing-all : (why : Reason) (y m d : List ℕ) → ReadSheet emptySheet [] [] [] (Counts'.Refused why) y m d → ⊥
+  pub filling-none : (a : SheetCounts) (m d : List ℕ) → ReadSheet sheetOf11 (0 ∷ []) [] [] a (0 ∷ []) m d → ⊥
+  pub copying-first-year : (a : SheetCounts) (m d : List ℕ) → ReadTwos a (11 ∷ 11 ∷ []) m d → ⊥
+  pub copying-first-month : (a : SheetCounts) (y d : List ℕ) → ReadTwos a y (123 ∷ 123 ∷ []) d → ⊥
+  pub copying-first-day : (a : SheetCounts) (y m : List ℕ) → ReadTwos a y m (28 ∷ 28 ∷ []) → ⊥
+  pub first-year-alone : (a : SheetCounts) (m d : List ℕ) → ReadTwos a (11 ∷ 0 ∷ []) m d → ⊥
+  pub first-month-alone : (a : SheetCounts) (y d : List ℕ) → ReadTwos a y (123 ∷ 0 ∷ []) d → ⊥
+  pub first-day-alone : (a : SheetCounts) (y m : List ℕ) → ReadTwos a y m (28 ∷ 0 ∷ []) → ⊥
 
 -- what a call may do that writes two years, two months or two days into a buffer of noughts
-abbrev pub WritingYears : HowMany → List ℕ → Type 0
-WritingYears = WritingSheet (11 ∷ 12 ∷ []) [] [] (replicate 10 0)
+abbrev pub WriteYears : HowMany → List ℕ → Type 0
+WriteYears = WriteSheet (11 ∷ 12 ∷ []) [] [] (replicate 10 0)
 
-abbrev pub WritingMonths : HowMany → List ℕ → Type 0
-WritingMonths = WritingSheet [] (123 ∷ 134 ∷ []) [] (replicate 14 0)
+abbrev pub WriteMonths : HowMany → List ℕ → Type 0
+WriteMonths = WriteSheet [] (123 ∷ 134 ∷ []) [] (replicate 14 0)
 
-abbrev pub WritingDays : HowMany → List ℕ → Type 0
-WritingDays = WritingSheet [] [] (28 ∷ 29 ∷ []) (replicate 14 0)
+abbrev pub WriteDays : HowMany → List ℕ → Type 0
+WriteDays = WriteSheet [] [] (28 ∷ 29 ∷ []) (replicate 14 0)
 
 pub record Wrong-writings : Type 0 where
-  pub refusing-all : (why : Reason) (o : List ℕ) → WritingSheet [] [] [] (replicate 6 0) (HowMany'.Refused why) o → ⊥
-  pub filling-none : (a : HowMany) → WritingSheet (11 ∷ []) [] [] (replicate 8 0) a (replicate 8 0) → ⊥
-  pub copying-first-year : (a : HowMany) → WritingYears a (2 ∷ 0 ∷ 11 ∷ 0 ∷ 11 ∷ 0 ∷ 0 ∷ 0 ∷ 0 ∷ 0 ∷ []) → ⊥
-  pub copying-first-month : (a : HowMany) → WritingMonths a (0 ∷ 0 ∷ 2 ∷ 0 ∷ 123 ∷ 0 ∷ 0 ∷ 0 ∷ 123 ∷ 0 ∷ 0 ∷ 0 ∷ 0 ∷ 0 ∷ []) → ⊥
-  pub copying-first-day : (a : HowMany) → WritingDays a (0 ∷ 0 ∷ 0 ∷ 0 ∷ 2 ∷ 0 ∷ 28 ∷ 0 ∷ 0 ∷ 0 ∷ 28 ∷ 0 ∷ 0 ∷ 0 ∷ []) → ⊥
-  pub first-year-alone : (a : HowMany) → WritingYears a (2 ∷ 0 ∷ 11 ∷ 0 ∷ 0 ∷ 0 ∷ 0 ∷ 0 ∷ 0 ∷ 0 ∷ []) → ⊥
-  pub first-month-alone : (a : HowMany) → WritingMonths a (0 ∷ 0 ∷ 2 ∷ 0 ∷ 123 ∷ 0 ∷ 0 ∷ 0 ∷ 0 ∷ 0 ∷ 0 ∷ 0 ∷ 0 ∷ 0 ∷ []) → ⊥
-  pub first-day-alone : (a : HowMany) → WritingDays a (0 ∷ 0 ∷ 0 ∷ 0 ∷ 2 ∷ 0 ∷ 28 ∷ 0 ∷ 0 ∷ 0 ∷ 0 ∷ 0 ∷ 0 ∷ 0 ∷ []) → ⊥
+  pub refusing-all : (why : Reason) (o : List ℕ) → WriteSheet [] [] [] (replicate 6 0) (HowMany'.Refused why) o → ⊥
+  pub filling-none : (a : HowMany) → WriteSheet (11 ∷ []) [] [] (replicate 8 0) a (replicate 8 0) → ⊥
+  pub copying-first-year : (a : HowMany) → WriteYears a (2 ∷ 0 ∷ 11 ∷ 0 ∷ 11 ∷ 0 ∷ 0 ∷ 0 ∷ 0 ∷ 0 ∷ []) → ⊥
+  pub copying-first-month : (a : HowMany) → WriteMonths a (0 ∷ 0 ∷ 2 ∷ 0 ∷ 123 ∷ 0 ∷ 0 ∷ 0 ∷ 123 ∷ 0 ∷ 0 ∷ 0 ∷ 0 ∷ 0 ∷ []) → ⊥
+  pub copying-first-day : (a : HowMany) → WriteDays a (0 ∷ 0 ∷ 0 ∷ 0 ∷ 2 ∷ 0 ∷ 28 ∷ 0 ∷ 0 ∷ 0 ∷ 28 ∷ 0 ∷ 0 ∷ 0 ∷ []) → ⊥
+  pub first-year-alone : (a : HowMany) → WriteYears a (2 ∷ 0 ∷ 11 ∷ 0 ∷ 0 ∷ 0 ∷ 0 ∷ 0 ∷ 0 ∷ 0 ∷ []) → ⊥
+  pub first-month-alone : (a : HowMany) → WriteMonths a (0 ∷ 0 ∷ 2 ∷ 0 ∷ 123 ∷ 0 ∷ 0 ∷ 0 ∷ 0 ∷ 0 ∷ 0 ∷ 0 ∷ 0 ∷ 0 ∷ []) → ⊥
+  pub first-day-alone : (a : HowMany) → WriteDays a (0 ∷ 0 ∷ 0 ∷ 0 ∷ 2 ∷ 0 ∷ 28 ∷ 0 ∷ 0 ∷ 0 ∷ 0 ∷ 0 ∷ 0 ∷ 0 ∷ []) → ⊥

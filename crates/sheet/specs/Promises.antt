@@ -33,13 +33,13 @@ abbrev pub countsIn : List ℕ → Counted
 countsIn s = countsAre (countOf s) (countOf (monthsPart s)) (countOf (daysPart s))
 
 -- reading the bytes s into lent lists that held y, m and d: the answer r, and what they hold then
-pub record ReadingSheet (s y m d : List ℕ) (r : SheetCounts) (y′ m′ d′ : List ℕ) : Type 0 where
+pub record ReadSheet (s y m d : List ℕ) (r : SheetCounts) (y′ m′ d′ : List ℕ) : Type 0 where
   pub answer : saidCounts r ≡ andThen (readInto s (length y) (length m) (length d)) (λ l. is (counted l))
   pub years : y′ ≡ afterwards (readInto s (length y) (length m) (length d)) (λ l. l .years) y
   pub months : m′ ≡ afterwards (readInto s (length y) (length m) (length d)) (λ l. l .months) m
   pub days : d′ ≡ afterwards (readInto s (length y) (length m) (length d)) (λ l. l .days) d
 
 -- writing the lists y, m and d into a lent buffer that held o: the answer r, and what it holds then
-pub record WritingSheet (y m d o : List ℕ) (r : HowMany) (o′ : List ℕ) : Type 0 where
+pub record WriteSheet (y m d o : List ℕ) (r : HowMany) (o′ : List ℕ) : Type 0 where
   pub answer : saidHowMany r ≡ andThen (writeInto (record { years = y; months = m; days = d }) (length o)) (λ b. is (length b))
   pub buffer : o′ ≡ afterwards (writeInto (record { years = y; months = m; days = d }) (length o)) (λ b. b) o

@@ -25,7 +25,7 @@ ghost use Rattle.sheet.specs.Sheet.{
   sheetOf,
 };
 ghost use Rattle.sheet.specs.Steps.{Filling, Filled, RoomToLay, sizeWithDays, sizeWithMonths, sizeWithYears};
-ghost use Rattle.sheet.specs.Promises.{saidCounts, countsAre, countsIn, saidHowMany, ReadingSheet, WritingSheet};
+ghost use Rattle.sheet.specs.Promises.{saidCounts, countsAre, countsIn, saidHowMany, ReadSheet, WriteSheet};
 use rule::Reason;
 
 // A section: the bytes of an item, the least and the most that it may be, the reason where it is not, and the most items.
@@ -257,7 +257,7 @@ pub fn read_sheet(
     months: &mut [u32],
     days: &mut [u32],
 ) -> SheetCounts
-    ensures { λ r. ⌜ ReadingSheet (now (bytes .entry)) (now (years .entry)) (now (months .entry)) (now (days .entry)) r
+    ensures { λ r. ⌜ ReadSheet (now (bytes .entry)) (now (years .entry)) (now (months .entry)) (now (days .entry)) r
         (now (years .exit)) (now (months .exit)) (now (days .exit)) ⌝ }
 {
     match check_sheet(bytes) {
@@ -396,7 +396,7 @@ fn lay_sheet(years: &[u16], months: &[u32], days: &[u32], out: &mut [u8])
 
 // Writes three lists into a lent buffer. Nothing is written before the lists and the buffer are known to be good.
 pub fn write_sheet(years: &[u16], months: &[u32], days: &[u32], out: &mut [u8]) -> HowMany
-    ensures { λ r. ⌜ WritingSheet (now (years .entry)) (now (months .entry)) (now (days .entry)) (now (out .entry)) r
+    ensures { λ r. ⌜ WriteSheet (now (years .entry)) (now (months .entry)) (now (days .entry)) (now (out .entry)) r
         (now (out .exit)) ⌝ }
 {
     match size_of_sheet(years, months, days) {

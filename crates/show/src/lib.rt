@@ -1,7 +1,7 @@
 // What the programs that run cases print with, on standard output: numbers, months, dates, and reasons in the paper's words.
 use dates::Date;
 use dates::Dated;
-use dates::DayFound;
+use dates::DayTold;
 use facts::LeapMonth;
 use moves::Way;
 use planets::Conjunction;
@@ -101,10 +101,10 @@ pub fn dated(r: Dated) {
     text(b"\n");
 }
 
-pub fn day_found(r: DayFound) {
+pub fn day_found(r: DayTold) {
     match r {
-        DayFound::Is(day) => next(day),
-        DayFound::Refused(why) => reason(why),
+        DayTold::Is(day) => next(day),
+        DayTold::Refused(why) => reason(why),
     }
     text(b"\n");
 }

@@ -1,6 +1,6 @@
 // One short example of the use of each public call, as a user would write it. What it must write is made by tools/expected.py.
 use dates::Dated;
-use dates::DayFound;
+use dates::DayTold;
 use facts::MonthTold;
 use facts::QuarterTold;
 use facts::SolsticeYearTold;
@@ -50,8 +50,8 @@ fn day_of_date(year: u32, number: u32, leap: bool, day_of_month: u32) {
     four(year, number, leap, day_of_month);
     colon();
     match dates::day_of_date(year, number, leap, day_of_month) {
-        DayFound::Is(day) => show::next(day),
-        DayFound::Refused(why) => show::reason(why),
+        DayTold::Is(day) => show::next(day),
+        DayTold::Refused(why) => show::reason(why),
     }
     end();
 }
