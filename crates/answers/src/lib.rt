@@ -5,7 +5,7 @@ ghost use mathlib.Core.List.{_∷_};
 ghost use Prim.Native.Nat.{_+_, _≤_};
 ghost use lib.ListN.{length};
 ghost use Rattle.rule.specs.Reasons.{reasonNumber};
-ghost use Rattle.fields.specs.Fields.{Put, joined, each};
+ghost use Rattle.fields.specs.Fields.{Put, joined};
 ghost use Rattle.told.specs.Answers.{
   refusedText,
   fieldsOfBu,

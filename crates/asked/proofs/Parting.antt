@@ -3,12 +3,11 @@ use Prim.Native.Nat.{ℕ, suc, _+_, _-_, _≤_, _<_}
 use native.Mathlib.Numerals.{add-one}
 use native.Mathlib.Omega.{arith}
 use mathlib.Core.Path.{_≡_, refl, ap, ap₂, sym, _∙_}
-use mathlib.Core.Bool.{Bool, true, false, cond}
+use mathlib.Core.Bool.{Bool, true, false}
 use mathlib.Core.List.{List, [], _∷_}
 use lib.Dec.{eqb}
 use lib.ListN.{length, take, drop, set, length-drop, length-set}
 use lib.Seq.{sets, drop-drop, length-sets}
-use Rattle.capped.specs.Capped.{capped}
 use Rattle.asked.specs.Asked.{firstField, inFrontOf, fieldsIn, fieldRead, cappedToken, kindsOf, valuesOf, allCapped}
 use Rattle.asked.specs.declared.Token.{Token}
 
@@ -33,7 +32,7 @@ module _ (b : ℕ) (s : List ℕ) where
   unfolding fieldsIn
   fields-more e f fs h = rw (e, h) refl
 
-pub first-few : (s : List ℕ) → ends s ≤ length s
+first-few : (s : List ℕ) → ends s ≤ length s
 unfolding firstField
 first-few [] = omega arith
 first-few (b ∷ s) = go (first-few s) (eqb b 32) refl
@@ -42,7 +41,7 @@ first-few (b ∷ s) = go (first-few s) (eqb b 32) refl
     go h true e = omega (arith, ap length (first-space b s e))
     go h false e = omega (arith, ap length (first-more b s e), h)
 
-pub first-part : (s : List ℕ) → take (ends s) s ≡ firstField s
+first-part : (s : List ℕ) → take (ends s) s ≡ firstField s
 unfolding firstField
 first-part [] = refl
 first-part (b ∷ s) = go (first-part s) (eqb b 32) refl
@@ -92,9 +91,6 @@ module _ (line : List ℕ) (from to : ℕ) (r : from ≤ length line) (e : to �
 
 -- the kinds and the values of a field and of those after it, put one after the other
 module _ (f : List ℕ) (fs gs : List (List ℕ)) (e : fs ≡ f ∷ gs) (q : Token) (h : q ≡ cappedToken (fieldRead f)) (ks vs : List ℕ) (n : ℕ) where
-  pub how-many : length fs ≡ length gs + 1
-  how-many = omega (arith, ap length e)
-
   pub kinds-put : sets (set ks n (q .kind)) (n + 1) (kindsOf gs) ≡ sets ks n (kindsOf fs)
   unfolding kindsOf
   kinds-put = rw (e) (ap₂ (λ (k j : ℕ). sets (set ks n k) j (kindsOf gs)) (ap (λ (p : Token). p .kind) h) (add-one n))

@@ -2,21 +2,20 @@
 use Prim.Native.Nat.{ℕ, suc, _+_, _-_, _*_, _≤_, _<_}
 use native.Mathlib.Numerals.{add-one}
 use native.Mathlib.Omega.{arith}
-use native.Mathlib.Nat.{not-suc-le-zero}
 use mathlib.Core.Path.{_≡_, refl, ap, ap₂, sym, _∙_}
-use mathlib.Core.Bool.{Bool, true, false, not, cond, _&&_, and-eq-true-iff}
-use mathlib.Core.List.{List, [], _∷_, _++_}
+use mathlib.Core.Bool.{Bool, true, false, not, _&&_, and-eq-true-iff}
+use mathlib.Core.List.{List, [], _∷_}
 use lib.Dec.{eqb}
-use lib.ListN.{length, getD, take, drop, set, drop-of-length-le, length-drop}
-use lib.Seq.{sets, drop-cons, drop-drop, take-all}
+use lib.ListN.{length, getD, take, drop, drop-of-length-le, length-drop}
+use lib.Seq.{drop-cons, take-all}
 use Rattle.rule.specs.Reasons.{within}
 use Rattle.fields.specs.Fields.{word}
 use Rattle.fields.specs.Paper.{valueFrom}
 use Rattle.capped.specs.Capped.{capped}
-use Rattle.asked.specs.Asked.{firstField, inFrontOf, fieldsIn, allDigits, leads, isDecimal, admits, like, isBack}
+use Rattle.asked.specs.Asked.{firstField, allDigits, leads, isDecimal, admits, like, isBack}
 
 -- what is left of a list, from its next byte on
-pub rest : (s : List ℕ) (i : ℕ) → i < length s → drop i s ≡ getD s i 0 ∷ drop (i + 1) s
+rest : (s : List ℕ) (i : ℕ) → i < length s → drop i s ≡ getD s i 0 ∷ drop (i + 1) s
 rest s i h = drop-cons s i 0 h ∙ ap (λ (j : ℕ). getD s i 0 ∷ drop j s) (sym (add-one i))
 
 -- a part up to the end
@@ -51,7 +50,7 @@ long (b ∷ c ∷ s) h = refl
 capped-step : (a d : ℕ) → capped (10 * capped a + d) ≡ capped (10 * a + d)
 capped-step a d = omega arith
 
-pub capped-value : (s : List ℕ) (a : ℕ) → capped (valueFrom (capped a) s) ≡ capped (valueFrom a s)
+capped-value : (s : List ℕ) (a : ℕ) → capped (valueFrom (capped a) s) ≡ capped (valueFrom a s)
 unfolding valueFrom
 capped-value [] a = omega arith
 capped-value (d ∷ s) a =

@@ -25,7 +25,7 @@ choose P true h g = h refl
 choose P false h g = g
 
 -- digits, as a test and as the paper's texts
-pub are-digits : (s : List ℕ) → allDigits s ≡ true → AreDigits s
+are-digits : (s : List ℕ) → allDigits s ≡ true → AreDigits s
 unfolding allDigits
 are-digits [] e = none
 are-digits (b ∷ s) e =
@@ -36,7 +36,7 @@ are-digits (b ∷ s) e =
 in-digits : (b : ℕ) → 48 ≤ b → b ≤ 57 → within 48 57 b ≡ true
 in-digits b l h = rw (le-leb 48 b l, le-leb b 57 h) refl
 
-pub digits-all : {s : List ℕ} → AreDigits s → allDigits s ≡ true
+digits-all : {s : List ℕ} → AreDigits s → allDigits s ≡ true
 unfolding allDigits
 digits-all none = refl
 digits-all (one-more {d} l h r) = rw (in-digits d l h) (digits-all r)

@@ -1,6 +1,6 @@
 -- The desk program's lines: "Fields parted by single spaces", and what a field may be: a decimal number without leading zeros, such a
 -- number that starts with `-`, a mark, `?`, or one of the eleven words. All are lists of bytes. Assumes nothing.
-use Prim.Native.Nat.{ℕ, _-_}
+use Prim.Native.Nat.{ℕ}
 use mathlib.Core.Bool.{Bool, true, false, not, cond, _&&_, _||_}
 use mathlib.Core.List.{List, [], _∷_}
 use lib.Dec.{eqb}

@@ -30,7 +30,7 @@ pub struct Token {
 }
 
 // Whether a letter of a query's form admits a kind.
-pub fn admits(p: u8, k: u8) -> bool
+fn admits(p: u8, k: u8) -> bool
     ensures { λ r. ⌜ r ≡ admits p k ⌝ }
 {
     if p == 102 {

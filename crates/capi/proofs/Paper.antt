@@ -36,7 +36,6 @@ use Rattle.planets.specs.declared.ConjunctionTold.the-variants as Conjunction'
 use Rattle.planets.specs.declared.Next.{Next}
 use Rattle.planets.specs.declared.NextTold.the-variants as Next'
 use Rattle.planets.specs.declared.Pair.{Pair}
-use Rattle.planets.specs.declared.PairTold.{PairTold}
 use Rattle.planets.specs.declared.PairTold.the-variants as Pair'
 use Rattle.planets.specs.Planets.{
   numbersOf,
@@ -46,7 +45,7 @@ use Rattle.planets.specs.Planets.{
   nextAt,
   pairAt,
 }
-use Rattle.planets.specs.Promises.{saidConjunction, saidNext, saidPair, ReducedPair}
+use Rattle.planets.specs.Promises.{saidConjunction, saidNext, saidPair}
 use Rattle.planets.proofs.Reducing.{as-printed}
 use Rattle.reading.specs.declared.Reading.{Reading}
 use Rattle.reading.specs.declared.Found.{Found}

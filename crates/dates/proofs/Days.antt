@@ -5,11 +5,11 @@ use mathlib.Core.Path.{_≡_}
 use mathlib.Core.Bool.{Bool, true, false}
 use lib.Dec.{leb}
 use borrow.Author.Tests.{le-leb, lt-leb}
-use Rattle.rule.specs.Counts.{DayInRange, MonthInRange, dayName, yearName}
+use Rattle.rule.specs.Counts.{DayInRange, dayName, yearName}
 use Rattle.rule.specs.Rule.{monthStart, monthLength, monthOfDay, yearOfMonth, leap, monthAt}
 use Rattle.rule.specs.Reasons.{is, refused, within}
 use Rattle.rule.specs.declared.Month.{Month}
-use Rattle.rule.proofs.Months.{of-day-low, of-day-high, start-next, start-end}
+use Rattle.rule.proofs.Months.{of-day-low, of-day-high, start-next}
 use Rattle.rule.proofs.Answers.{stops, passes}
 use Rattle.dates.specs.Dates.{dateIn, dateOf, dateAt, namedMonth, dayInMonth, dayOfNamed, dayOfDate}
 
@@ -23,10 +23,6 @@ pub made : (d n y s len dn yn : ℕ) (m : Month) →
     record { year = y; month = m; «day_of_month» = d - s + 1; «month_length» = len; «day_name» = dn; «year_name» = yn } ≡ dateOf d
 unfolding dateOf dateIn
 made d n y s len dn yn m a b e f g h i = cc
-
--- day m of month n lies in the range where the month does
-pub day-in-range : (n m : ℕ) → MonthInRange n → 1 ≤ m → m ≤ monthLength n → DayInRange (monthStart n + (m - 1))
-day-in-range n m r l h = omega (arith, start-next n, start-end (n + 1) (omega arith))
 
 pub in-month : (n m : ℕ) → m ≤ monthLength n → dayInMonth n m ≡ is (monthStart n + (m - 1))
 unfolding dayInMonth

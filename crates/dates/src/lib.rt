@@ -58,7 +58,7 @@ pub fn date_of_day(day: u32) -> Dated
 }
 
 // The ordinary month of a year with a number: the one that holds the number's mid-term.
-pub fn named_month(year: u16, number: u8) -> u32
+fn named_month(year: u16, number: u8) -> u32
     requires { ⌜ YearInRange year × NumberInRange number ⌝ }
     ensures { λ r. ⌜ r ≡ namedMonth year number ⌝ }
 {

@@ -7,7 +7,7 @@ use mathlib.Core.Bool.{Bool, true, false}
 use mathlib.Core.List.{List, [], _∷_, _++_, append-nil, append-assoc}
 use lib.Dec.{eqb}
 use borrow.Author.Tests.{ne-eqb}
-use Rattle.fields.specs.Fields.{decimal, followed, joined}
+use Rattle.fields.specs.Fields.{decimal, followed}
 use Rattle.fields.specs.Paper.{
   AreDigits,
   none,

@@ -1,12 +1,12 @@
 -- Laws of puts: one after the other, of a byte and of bytes; and of the text of a list. Assumes nothing.
-use Prim.Native.Nat.{ℕ, zero, suc, _+_, _*_, _≤_, _<_}
+use Prim.Native.Nat.{ℕ, _+_, _*_, _≤_, _<_}
 use native.Mathlib.Nat.{mul-suc}
 use native.Mathlib.Numerals.{add-one}
 use native.Mathlib.Omega.{arith}
 use mathlib.Core.Path.{_≡_, refl, ap, sym, _∙_, subst}
 use mathlib.Core.List.{List, [], _∷_, _++_, append-nil, append-assoc}
-use lib.ListN.{length, getD, take, drop, set, length-append, length-set, drop-of-length-le}
-use lib.Seq.{sets, length-sets, drop-cons, take-suc}
+use lib.ListN.{length, getD, take, length-append}
+use lib.Seq.{length-sets, take-suc}
 use mathlib.Core.Bool.{true}
 use Rattle.rule.specs.Lists.{those}
 use Rattle.rule.proofs.Stores.{sets-append}

@@ -1,6 +1,6 @@
 -- What printed lines are made of: words, decimal numbers, marks, fields with single spaces between, lines; and what a put does to
 -- a lent buffer. All are lists of bytes. Assumes nothing.
-use Prim.Native.Nat.{ℕ, zero, suc, _+_, _-_, _*_, _/_, _%_, _≤_}
+use Prim.Native.Nat.{ℕ, zero, suc, _+_, _/_, _%_, _≤_}
 use Prim.Native.Char.{code}
 use Prim.Native.String.{String, [] as no-text, _∷_ as _then_}
 use mathlib.Core.Path.{_≡_}

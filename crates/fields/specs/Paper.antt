@@ -3,7 +3,7 @@
 use Prim.Native.Nat.{ℕ, _+_, _-_, _*_, _≤_}
 use mathlib.Core.Path.{_≡_}
 use mathlib.Core.List.{List, [], _∷_, _++_}
-use Rattle.fields.specs.Fields.{decimal, followed, joined}
+use Rattle.fields.specs.Fields.{decimal, joined}
 
 -- digits: the bytes of 0 to 9
 pub data AreDigits : List ℕ → Type 0 where

@@ -4,7 +4,7 @@ use native.Mathlib.Nat.{sub-zero}
 use native.Mathlib.Omega.{arith}
 use mathlib.Core.Path.{_≡_, refl, ap, sym, _∙_}
 use mathlib.Core.List.{List, [], _∷_, _++_, append-nil, append-assoc}
-use lib.ListN.{length, getD, take, length-append, length-take}
+use lib.ListN.{length, take, length-append, length-take}
 use lib.Seq.{sets, take-all}
 use borrow.Author.Tests.{ne-eqb}
 use Rattle.fields.specs.Fields.{followed, Put}

@@ -8,7 +8,6 @@ ghost use Rattle.rule.specs.Reasons.{reasonNumber, intoRoom};
 ghost use Rattle.rule.specs.Lists.{those};
 ghost use Rattle.rule.specs.Rule.{numberOf, leapMark};
 ghost use Rattle.fields.specs.Fields.{Put, decimal, leapText, joined, each};
-ghost use Rattle.facts.specs.Facts.{monthFacts};
 ghost use Rattle.lines.specs.Lines.{
   fieldsOfMonth,
   fieldsOfYear,
@@ -51,7 +50,7 @@ pub fn put_month_fields(n: u32, f: MonthFacts, out: &mut [u8], at: usize) -> usi
 }
 
 // A month's line.
-pub fn put_month_line(n: u32, out: &mut [u8], at: usize) -> usize
+fn put_month_line(n: u32, out: &mut [u8], at: usize) -> usize
     requires { ⌜ MonthInRange n × (at + 48 ≤ length (now out)) ⌝ }
     ensures { λ r. ⌜ Put 48 (now (out .entry)) at (monthLined n) (now (out .exit)) r ⌝ }
 {

@@ -4,12 +4,12 @@ use native.Mathlib.Nat.{mul-suc, mul-le-mul-left}
 use native.Mathlib.Omega.{arith}
 use mathlib.Core.Path.{_≡_, refl, ap, sym, _∙_}
 use mathlib.Core.Bool.{Bool, true, false}
-use mathlib.Core.List.{List, [], _∷_, _++_}
+use mathlib.Core.List.{List, _++_}
 use lib.Dec.{leb}
 use lib.ListN.{length, drop, length-append, length-drop}
 use lib.Seq.{drop-append-le}
 use borrow.Author.Tests.{leb-true, le-leb, lt-leb}
-use Rattle.rule.specs.Reasons.{Answer, is, refused, guard, andThen, reasonNumber}
+use Rattle.rule.specs.Reasons.{Answer, guard, reasonNumber}
 use Rattle.rule.proofs.Answers.{stops}
 use Rattle.sheet.specs.declared.Section.{Section}
 use Rattle.sheet.specs.Sheet.{

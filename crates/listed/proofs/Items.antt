@@ -1,10 +1,10 @@
 -- A loop that puts a text for each item of a list, w bytes at most for each. Assumes nothing.
 use Prim.Native.Nat.{ℕ, _+_, _*_, _≤_, _<_}
-use native.Mathlib.Nat.{mul-suc, mul-zero, mul-le-mul-left}
+use native.Mathlib.Nat.{mul-suc, mul-le-mul-left}
 use native.Mathlib.Numerals.{add-one}
 use native.Mathlib.Omega.{arith}
-use mathlib.Core.Path.{_≡_, ap, sym}
-use mathlib.Core.List.{List, []}
+use mathlib.Core.Path.{_≡_, ap}
+use mathlib.Core.List.{List}
 use lib.ListN.{length, getD, take}
 use lib.Seq.{take-all}
 use Rattle.fields.specs.Fields.{each, Put}

@@ -67,7 +67,7 @@ fn put_lists(years: &[u16], months: &[u32], days: &[u32], out: &mut [u8]) -> usi
 }
 
 // The listing of a sheet's bytes, at the front of a buffer that has room for the longest.
-pub fn list_sheet(bytes: &[u8], out: &mut [u8]) -> usize
+fn list_sheet(bytes: &[u8], out: &mut [u8]) -> usize
     requires { ⌜ 789000 ≤ length (now out) ⌝ }
     ensures { λ r. ⌜ Put 789000 (now (out .entry)) 0 (listing (now (bytes .entry))) (now (out .exit)) r ⌝ }
 {

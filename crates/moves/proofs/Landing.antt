@@ -36,7 +36,7 @@ pub back-lands : (d n : ℕ) → n < d → d ≤ 14989859 → stepped d (Back n)
 unfolding stepped
 back-lands d n h r = rw (le-ltb d (suc n) (omega arith)) (lands (d - suc n) (omega arith) ∙ ap (λ (e : ℕ). is (dateOf e)) (omega arith))
 
-pub signed-way : (n : ℤ) → signed (wayOf n) ≡ n
+signed-way : (n : ℤ) → signed (wayOf n) ≡ n
 signed-way (pos n) = refl
 signed-way (negsuc n) = refl
 

@@ -1,6 +1,5 @@
 // A move of a date by any signed 64-bit number of days.
 ghost use mathlib.Core.Path.{_≡_};
-ghost use Prim.Native.Nat.{_+_, _≤_};
 ghost use Rattle.rule.specs.Counts.{DayInRange};
 ghost use Rattle.dates.specs.Promises.{saidDate};
 ghost use Rattle.moves.specs.Moves.{wayOf, stepped, MoveDate};

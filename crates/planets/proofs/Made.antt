@@ -29,7 +29,7 @@ pub product : (k y b : ℕ) → k ≤ 14989859 → y ≤ b → k * y ≤ 1498985
 product k y b h l = mul-le-mul h l
 
 -- a test that fails: the number is beyond
-pub beyond : (a b : ℕ) → b < a → leb a b ≡ false
+beyond : (a b : ℕ) → b < a → leb a b ≡ false
 beyond a b h = fails (leb a b) (at-most a b) .1 (λ l. omega (arith, h, l))
 
 pub fits-32 : (k : ℕ) → k ≤ 14989859 → k < 2 ^ 32

@@ -1,19 +1,9 @@
 // The five planets: the k-th conjunction of a planet since the origin, the first one on or after a day, and the pair of numbers that
 // 004 gets by reducing two long counts against each other. One definition, and the planets' numbers are data.
 ghost use mathlib.Core.Path.{_≡_};
-ghost use Prim.Native.Nat.{_*_, _≤_, _<_};
+ghost use Prim.Native.Nat.{_≤_, _<_};
 ghost use Rattle.rule.specs.Counts.{DayInRange};
-ghost use Rattle.planets.specs.Planets.{
-  numbersOf,
-  figuresOf,
-  divisor,
-  conjunctionDay,
-  phase,
-  conjunctionOf,
-  nextCount,
-  longDays,
-  longCircle,
-};
+ghost use Rattle.planets.specs.Planets.{numbersOf, figuresOf, conjunctionDay, phase, conjunctionOf, nextCount, longDays, longCircle};
 ghost use Rattle.planets.specs.Divisors.{CommonDivisor, Reduced};
 ghost use Rattle.planets.specs.Promises.{KthConjunction, NextConjunction, ReducedPair};
 use rule::Reason;

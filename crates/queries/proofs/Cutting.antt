@@ -4,48 +4,18 @@ use native.Mathlib.Omega.{arith}
 use native.Mathlib.Decide.{decLe}
 use mathlib.Core.Path.{_≡_, refl, ap, ap₂, sym, _∙_}
 use mathlib.Core.Bool.{Bool, true, false, cond}
-use mathlib.Core.List.{List, [], _∷_, _++_}
+use mathlib.Core.List.{List, [], _∷_}
 use lib.Dec.{eqb, leb}
-use lib.IntN.{ℤ, pos, negsuc}
-use lib.ListN.{length, getD}
+use lib.IntN.{ℤ, pos}
+use lib.ListN.{getD}
 use borrow.Author.Tests.{ne-eqb}
-use Rattle.rule.specs.Reasons.{Answer, is, guard, within}
-use Rattle.dates.specs.declared.Date.{Date}
+use Rattle.rule.specs.Reasons.{is, guard, within}
 use Rattle.dates.specs.Dates.{dateOf, dateAt}
-use Rattle.facts.specs.declared.YearFacts.{YearFacts}
-use Rattle.facts.specs.declared.MonthFacts.{MonthFacts}
 use Rattle.facts.specs.Facts.{yearFacts, yearFactsAt, monthFacts, monthFactsAt}
-use Rattle.reading.specs.declared.Field.{Field}
 use Rattle.reading.specs.declared.Field.the-variants.{Known, Unread}
 use Rattle.reading.specs.declared.Reading.{Reading}
-use Rattle.reading.specs.Readings.{windowDays, fitting}
-use Rattle.fields.specs.Fields.{word, each}
-use Rattle.asked.specs.Asked.{like, allCapped}
-use Rattle.told.specs.Answers.{
-  told,
-  placeLine,
-  placeText,
-  yearLine,
-  yearText,
-  monthLineOf,
-  monthText,
-  quarterLine,
-  quarterText,
-  termLine,
-  termText,
-  conjunctionLine,
-  conjunctionText,
-  nextLine,
-  nextText,
-  dayLineOf,
-  dayText,
-  dayLine,
-  dateText,
-  textOfDate,
-  moveText,
-  foundLine,
-  searchText,
-}
+use Rattle.asked.specs.Asked.{allCapped}
+use Rattle.told.specs.Answers.{told, placeLine, placeText, yearLine, yearText, monthLineOf, monthText, quarterLine, quarterText, termLine, termText, conjunctionLine, conjunctionText, nextLine, nextText, dayLineOf, dayText, dayLine, dateText, textOfDate, moveText, searchText}
 use Rattle.capped.specs.Capped.{capped, cappedMove, cappedField, cappedReading}
 use Rattle.capped.specs.Paper.{Settled, AlikeSearch, whole, both}
 use Rattle.capped.proofs.Paper.{at-most, from-one, capped-alike, capped-search}

@@ -197,7 +197,7 @@ is-search (next {f} w (next {f = g} a (next {f = h} b (next {f = l} c (next {f =
 )
 
 -- a line that is no query's is like none of the eleven forms
-pub no-query-else : (s : List ℕ) → ((q : Query) → s ≡ written q → ⊥) → OfQuery (fieldsIn s) → ⊥
+no-query-else : (s : List ℕ) → ((q : Query) → s ≡ written q → ⊥) → OfQuery (fieldsIn s) → ⊥
 unfolding written
 no-query-else s no-query (q, e) = no-query q (sym (fields-joined s) ∙ ap joined e)
 

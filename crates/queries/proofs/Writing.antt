@@ -45,11 +45,11 @@ use Rattle.told.specs.Answers.{dateText, moveText}
 use Rattle.queries.proofs.Choosing.{search-chosen}
 
 -- fields without spaces, and their kinds and values
-pub record Is (f : List ℕ) (k v : ℕ) : Type 0 where
+record Is (f : List ℕ) (k v : ℕ) : Type 0 where
   pub clear : NoSpace f
   pub reads : Reads f k v
 
-pub data Are : List (List ℕ) → List ℕ → List ℕ → Type 0 where
+data Are : List (List ℕ) → List ℕ → List ℕ → Type 0 where
   end : Are [] [] []
   next : {f : List ℕ} {k v : ℕ} {fs : List (List ℕ)} {ks vs : List ℕ} → Is f k v → Are fs ks vs → Are (f ∷ fs) (k ∷ ks) (v ∷ vs)
 
@@ -57,18 +57,18 @@ no-spaces : {fs : List (List ℕ)} {ks vs : List ℕ} → Are fs ks vs → NoSpa
 no-spaces end = no-field
 no-spaces (next i a) = field-more (i .clear) (no-spaces a)
 
-pub kinds-are : {fs : List (List ℕ)} {ks vs : List ℕ} → Are fs ks vs → kindsOf fs ≡ ks
+kinds-are : {fs : List (List ℕ)} {ks vs : List ℕ} → Are fs ks vs → kindsOf fs ≡ ks
 unfolding kindsOf
 kinds-are end = refl
 kinds-are (next i a) = ap₂ (λ (k : ℕ) (l : List ℕ). k ∷ l) (ap (λ (q : Token). q .kind) (i .reads)) (kinds-are a)
 
-pub values-are : {fs : List (List ℕ)} {ks vs : List ℕ} → Are fs ks vs → valuesOf fs ≡ vs
+values-are : {fs : List (List ℕ)} {ks vs : List ℕ} → Are fs ks vs → valuesOf fs ≡ vs
 unfolding valuesOf
 values-are end = refl
 values-are (next i a) = ap₂ (λ (v : ℕ) (l : List ℕ). v ∷ l) (ap (λ (q : Token). q .value) (i .reads)) (values-are a)
 
 -- a line with such fields has them, and their answer
-pub parted : {f : List ℕ} {fs : List (List ℕ)} {ks vs : List ℕ} → Are (f ∷ fs) ks vs → fieldsIn (joined (f ∷ fs)) ≡ f ∷ fs
+parted : {f : List ℕ} {fs : List (List ℕ)} {ks vs : List ℕ} → Are (f ∷ fs) ks vs → fieldsIn (joined (f ∷ fs)) ≡ f ∷ fs
 parted {f} {fs} a = joined-parts f fs (no-spaces a)
 
 -- what a number, a mark, a move's number and a field of a reading are read as
@@ -84,11 +84,11 @@ is-unread : Is (word "?") 63 0
 unfolding spaceless
 is-unread = record { clear = no-space (word "?") refl; reads = all-read .unread }
 
-abbrev pub moveKind : ℤ → ℕ
+abbrev moveKind : ℤ → ℕ
 moveKind (pos n) = 110
 moveKind (negsuc n) = 98
 
-abbrev pub moveValue : ℤ → ℕ
+abbrev moveValue : ℤ → ℕ
 moveValue (pos n) = n
 moveValue (negsuc n) = suc n
 
@@ -96,11 +96,11 @@ is-move : (n : ℤ) → Is (moveNumber n) (moveKind n) (moveValue n)
 is-move (pos n) = is-number n
 is-move (negsuc n) = record { clear = one-more {b = 45} (λ e. omega (arith, e)) (decimal-no-space (suc n)); reads = all-read .number-back n }
 
-abbrev pub fieldKind : Field → ℕ
+abbrev fieldKind : Field → ℕ
 fieldKind (Known n) = 110
 fieldKind Unread = 63
 
-abbrev pub fieldValue : Field → ℕ
+abbrev fieldValue : Field → ℕ
 fieldValue (Known n) = n
 fieldValue Unread = 0
 
@@ -152,7 +152,7 @@ valuesFor (search a b l c d e first last) =
 is-word : (f : List ℕ) (k : ℕ) → spaceless f ≡ true → Reads f k 0 → Is f k 0
 is-word f k s r = record { clear = no-space f s; reads = r }
 
-pub fields-are : (q : Query) → Are (fieldsOf q) (kindsFor q) (valuesFor q)
+fields-are : (q : Query) → Are (fieldsOf q) (kindsFor q) (valuesFor q)
 unfolding spaceless
 fields-are (place y) = next (is-word (word "PLACE") 80 refl (all-read .place)) (next (is-number y) end)
 fields-are (year y) = next (is-word (word "YEAR") 89 refl (all-read .year)) (next (is-number y) end)
@@ -175,7 +175,7 @@ fields-are (search a b l c d e first last) =
     (next (is-number first) (next (is-number last) end))))))))
 
 -- the line of a query has the query's fields
-pub fields-in : (q : Query) → fieldsIn (written q) ≡ fieldsOf q
+fields-in : (q : Query) → fieldsIn (written q) ≡ fieldsOf q
 unfolding written
 fields-in (place y) = parted (fields-are (place y))
 fields-in (year y) = parted (fields-are (year y))
@@ -213,7 +213,7 @@ pub field-back : (f : Field) → fieldBy (fieldKind f) (fieldValue f) ≡ f
 field-back (Known n) = refl
 field-back Unread = refl
 
-pub mark-back : (l : MarkRead) → fieldBy (markKind l) (markValue l) ≡ markField l
+mark-back : (l : MarkRead) → fieldBy (markKind l) (markValue l) ≡ markField l
 mark-back (read l) = refl
 mark-back unread = refl
 

@@ -91,7 +91,7 @@ module _ {A B C D E F : Type 0} (a b c d e f : Bool) where
 
 -- the fields of a reading: every one in its range, or some one outside it
 module _ (r : Reading) where
-  pub in-ranges : (inRanges r ≡ true) ↔ FieldsInRange r
+  in-ranges : (inRanges r ≡ true) ↔ FieldsInRange r
   unfolding inRanges
   in-ranges =
       Iff·trans
@@ -122,7 +122,7 @@ module _ (r : Reading) where
   one (day-name-outside h) = inl (inr h)
   one (first-name-outside h) = inr h
 
-  pub some-outside : (inRanges r ≡ false) ↔ SomeFieldOutside r
+  some-outside : (inRanges r ≡ false) ↔ SomeFieldOutside r
   unfolding inRanges
   some-outside =
       Iff·trans
@@ -154,7 +154,7 @@ module _ (r : Reading) (first last room : ℕ) where
       (total r first last) refl h
 
   -- by what is said: the days given, the total told, or a fault of the paper's rows
-  abbrev pub Comes : Answer ℕ → Type 0
+  abbrev Comes : Answer ℕ → Type 0
   Comes (is n) = GoodSearch r first last × (n ≡ total r first last) × (n ≤ room)
   Comes (refused k) = (why : Reason) × (reasonNumber why ≡ k) × SearchFault r first last why
   Comes (refused-with k n) = GoodSearch r first last × (n ≡ total r first last) × (room < n)

@@ -1,7 +1,7 @@
 // The rule as arithmetic on counts: "Counts and names" and "The rule" of the paper, a function for each definition of specs/.
 // All of these are inner: what asks for a range in its `requires` is called where the range has been tested.
 ghost use mathlib.Core.Path.{_≡_};
-ghost use Prim.Native.Nat.{_+_, _≤_, _<_};
+ghost use Prim.Native.Nat.{_≤_, _<_};
 ghost use Rattle.rule.specs.Counts.{YearInRange, DayInRange, MonthInRange, dayName, yearName, ji, bu, yearInBu, headName};
 ghost use Rattle.rule.specs.Rule.{
   monthStart,
@@ -215,7 +215,7 @@ pub fn year_of_month(n: u32) -> u16
 }
 
 // How many mid-terms fall on days before a month; whole days are compared.
-pub fn mid_terms_before(n: u32) -> u32
+fn mid_terms_before(n: u32) -> u32
     requires { ⌜ n ≤ 507600 ⌝ }
     ensures { λ r. ⌜ r ≡ midTermsBefore n ⌝ }
 {

@@ -15,11 +15,11 @@ use Rattle.sheet.specs.declared.Section.{Section}
 
 -- the next of m numbers of w bytes, stored at i
 module _ (w m j : ℕ) (e : m ≡ suc j) (t out : List ℕ) (i : ℕ) where
-  pub store-next : sets (set out i (number w t)) (i + 1) (numbers w j (drop w t)) ≡ sets out i (numbers w m t)
+  store-next : sets (set out i (number w t)) (i + 1) (numbers w j (drop w t)) ≡ sets out i (numbers w m t)
   unfolding numbers
   store-next = rw (e, add-one i)
 
-pub store-none : (w m : ℕ) → m ≡ 0 → (t out : List ℕ) (i : ℕ) → sets out i (numbers w m t) ≡ out
+store-none : (w m : ℕ) → m ≡ 0 → (t out : List ℕ) (i : ℕ) → sets out i (numbers w m t) ≡ out
 unfolding numbers
 store-none w m e t out i = rw (e)
 
@@ -48,14 +48,14 @@ length-layAll w (x ∷ xs) = length-append (lay w x) (layAll w xs) ∙ omega (ar
 
 -- the next item, laid at p
 module _ (w : ℕ) (xs : List ℕ) (i : ℕ) (h : i < length xs) (out : List ℕ) (p : ℕ) where
-  pub lay-item : sets (sets out p (lay w (getD xs i 0))) (p + w) (layAll w (drop (i + 1) xs)) ≡ sets out p (layAll w (drop i xs))
+  lay-item : sets (sets out p (lay w (getD xs i 0))) (p + w) (layAll w (drop (i + 1) xs)) ≡ sets out p (layAll w (drop i xs))
   unfolding layAll
   lay-item =
       rw (drop-cons xs i 0 h, add-one i)
       (ap (λ (j : ℕ). sets (sets out p (lay w (getD xs i 0))) j (layAll w (drop (suc i) xs))) (ap (λ (j : ℕ). p + j) (sym (length-lay w (getD xs i 0))))
       ∙ sym (sets-append (lay w (getD xs i 0)) (layAll w (drop (suc i) xs)) out p))
 
-pub lay-no-item : (w : ℕ) (xs : List ℕ) (i : ℕ) → length xs ≤ i → (out : List ℕ) (p : ℕ) → sets out p (layAll w (drop i xs)) ≡ out
+lay-no-item : (w : ℕ) (xs : List ℕ) (i : ℕ) → length xs ≤ i → (out : List ℕ) (p : ℕ) → sets out p (layAll w (drop i xs)) ≡ out
 unfolding layAll
 lay-no-item w xs i h out p = rw (drop-of-length-le xs h)
 

@@ -26,7 +26,7 @@ unfolding lay
 four-laid x = refl
 
 -- one byte more in front
-pub number-more : (w i : ℕ) (s : List ℕ) → number (suc w) (drop i s) ≡ getD s i 0 + 256 * number w (drop (i + 1) s)
+number-more : (w i : ℕ) (s : List ℕ) → number (suc w) (drop i s) ≡ getD s i 0 + 256 * number w (drop (i + 1) s)
 unfolding number
 number-more w i s = rw (getD-drop i s 0 0, drop-drop 1 i s, add-zero i)
 

@@ -360,7 +360,7 @@ pub front : (xs old : List ℕ) (n : ℕ) (new : List ℕ) → new ≡ placed xs
 front xs old n new e h = ap (take n) e ∙ take-at xs (drop (length xs) old) n (sym h)
 
 -- where the answers of reading and writing come from
-pub reading-reason : (s : List ℕ) (y m d r : ℕ) → (readInto s y m d ≡ refused r) ↔ SheetFault s y m d r
+reading-reason : (s : List ℕ) (y m d r : ℕ) → (readInto s y m d ≡ refused r) ↔ SheetFault s y m d r
 reading-reason s y m d r = reason-iff (readInto s y m d) (listsIn s) (sheet-fault s y m d) (sheet-given s y m d) (sheet-decided s y m d) r
 
 pub reading-given : (s : List ℕ) (y m d : ℕ) → (readInto s y m d ≡ is (listsIn s)) ↔ GoodSheet s y m d

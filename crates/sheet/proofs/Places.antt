@@ -30,7 +30,7 @@ module _ {n : ℕ} {xs old new : List ℕ} (a : InFront n xs old new) where
         rest = ap (drop n) (a .list) ∙ drop-at xs (drop (length xs) old) n (sym (a .count)) ∙ ap (λ (i : ℕ). drop i old) (sym (a .count));
       }
 
-  pub item-in-front : (j : ℕ) → j < n → getD new j 0 ≡ getD xs j 0
+  item-in-front : (j : ℕ) → j < n → getD new j 0 ≡ getD xs j 0
   item-in-front j h = ap (λ (l : List ℕ). getD l j 0) (a .list) ∙ List·getD-append xs (drop (length xs) old) 0 j (omega (arith, h, a .count))
 
 -- item j of the numbers in s

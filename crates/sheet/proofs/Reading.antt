@@ -37,7 +37,7 @@ unfolding itemsRead
 no-item k m e t a = rw (e)
 
 -- what goes on after a section does not bear on whether it is good
-pub items-then : {A B : Type 0} (k : Section) (n : ℕ) (s : List ℕ) (x : A) (b : Answer B) → itemsRead k n s b ≡ andThen (itemsRead k n s (is x)) (λ y. b)
+items-then : {A B : Type 0} (k : Section) (n : ℕ) (s : List ℕ) (x : A) (b : Answer B) → itemsRead k n s b ≡ andThen (itemsRead k n s (is x)) (λ y. b)
 unfolding itemsRead
 items-then k zero s x b = refl
 items-then k (suc n) s x b = go (items-then k n (drop (k .width) s) x b) (leb (k .width) (length s)) (itemHolds k (number (k .width) s))
@@ -97,7 +97,7 @@ module _ {A B : Type 0} (k : Section) (s : List ℕ) (x : A) (b : Answer B) wher
   section-stop r h = section-then k s x b ∙ ap (λ (c : Answer A). andThen c (λ y. b)) h
 
 -- good items lie within the bytes
-pub items-long : {A : Type 0} (k : Section) (n : ℕ) (s : List ℕ) (x y : A) → itemsRead k n s (is x) ≡ is y → (k .width * n ≤ length s) × (x ≡ y)
+items-long : {A : Type 0} (k : Section) (n : ℕ) (s : List ℕ) (x y : A) → itemsRead k n s (is x) ≡ is y → (k .width * n ≤ length s) × (x ≡ y)
 unfolding itemsRead
 items-long {A} k zero s x y h = (omega arith, let e : _≡_ {A = Answer A} (is x) (is y) = h in cc)
 items-long k (suc n) s x y h =
@@ -125,7 +125,7 @@ section-lies k s x y h = go (countRead (k .items) s) refl h
     go (refused-with r n) e h = absurd (let o : _≡_ {A = ℕ} 0 1 = cc in omega arith)
 
 -- a section found good, with n items: how it lies, and where the next one starts
-pub record Found (k : Section) (s : List ℕ) (n : ℕ) : Type 0 where
+record Found (k : Section) (s : List ℕ) (n : ℕ) : Type 0 where
   pub count : countOf s ≡ n
   pub few : n ≤ k .items
   pub long : 2 + k .width * n ≤ length s

@@ -35,7 +35,7 @@ use Rattle.sheet.proofs.Numbers.{length-lay}
 use Rattle.sheet.proofs.Filling.{length-layAll}
 
 -- a number laid in bytes is read, and bytes read as a number are laid again
-pub number-lay : (w x : ℕ) (t : List ℕ) → x < 256 ^ w → number w (lay w x ++ t) ≡ x
+number-lay : (w x : ℕ) (t : List ℕ) → x < 256 ^ w → number w (lay w x ++ t) ≡ x
 unfolding number lay
 number-lay zero x t h = omega arith
 number-lay (suc w) x t h =
@@ -43,7 +43,7 @@ number-lay (suc w) x t h =
     let f : number w (lay w (x / 256) ++ t) ≡ x / 256 = number-lay w (x / 256) t (omega arith) in
     ap (λ (n : ℕ). x % 256 + 256 * n) f ∙ omega arith
 
-pub lay-number : (w : ℕ) (t : List ℕ) → w ≤ length t → AreBytes t → lay w (number w t) ++ drop w t ≡ t
+lay-number : (w : ℕ) (t : List ℕ) → w ≤ length t → AreBytes t → lay w (number w t) ++ drop w t ≡ t
 unfolding number lay
 lay-number zero t h b = refl
 lay-number (suc w) [] h b = absurd (omega arith)

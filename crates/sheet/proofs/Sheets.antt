@@ -46,7 +46,7 @@ use Rattle.sheet.proofs.Writing.{list-then, list-few}
 
 -- what follows the sheet does not bear on whether it is good
 
-pub days-then : {A B : Type 0} (s : List ℕ) (x : A) (b : Answer B) → daysRead s b ≡ andThen (daysRead s (is x)) (λ y. b)
+days-then : {A B : Type 0} (s : List ℕ) (x : A) (b : Answer B) → daysRead s b ≡ andThen (daysRead s (is x)) (λ y. b)
 unfolding daysRead
 days-then {A} {B} s x b =
     section-then dayItems s x (guard (leb (length (leftAfter dayItems s)) 0) 11 b)
@@ -65,7 +65,7 @@ more-then (is a) d e b h = h
 more-then (refused r) d e b h = refl
 more-then (refused-with r n) d e b h = refl
 
-pub months-then : {A B : Type 0} (s : List ℕ) (x : A) (b : Answer B) → monthsRead s b ≡ andThen (monthsRead s (is x)) (λ y. b)
+months-then : {A B : Type 0} (s : List ℕ) (x : A) (b : Answer B) → monthsRead s b ≡ andThen (monthsRead s (is x)) (λ y. b)
 unfolding monthsRead
 months-then {A} {B} s x b =
     section-then monthItems s x (daysRead (leftAfter monthItems s) b)
@@ -86,7 +86,7 @@ both (refused r) d y h = absurd (let o : _≡_ {A = ℕ} 0 1 = cc in omega arith
 both (refused-with r n) d y h = absurd (let o : _≡_ {A = ℕ} 0 1 = cc in omega arith)
 
 -- the three sections of a good sheet
-pub record SheetLies (s : List ℕ) : Type 0 where
+record SheetLies (s : List ℕ) : Type 0 where
   pub years : SectionLies yearItems s
   pub months : SectionLies monthItems (monthsPart s)
   pub days : SectionLies dayItems (daysPart s)
@@ -137,7 +137,7 @@ unfolding listsIn itemsOf
 counted-lists s = rw (length-numbers 2 (countOf s) (drop 2 s), length-numbers 4 (countOf (monthsPart s)) (drop 2 (monthsPart s)), length-numbers 4 (countOf (daysPart s)) (drop 2 (daysPart s)))
 
 -- the room that a lent list has
-pub all-three : (p q r : Bool) → (p && q && r) ≡ true → (p ≡ true) × (q ≡ true) × (r ≡ true)
+all-three : (p q r : Bool) → (p && q && r) ≡ true → (p ≡ true) × (q ≡ true) × (r ≡ true)
 all-three true true true h = (refl, refl, refl)
 all-three true true false h = absurd (let o : _≡_ {A = ℕ} 0 1 = cc in omega arith)
 all-three true false r h = absurd (let o : _≡_ {A = ℕ} 0 1 = cc in omega arith)
@@ -241,12 +241,12 @@ each-written {A} l x y h =
     let b = both (sectionWritten monthItems (l .months) (is x)) _ y (sym (list-then monthItems (l .months) x (sectionWritten dayItems (l .days) (is x))) ∙ a .2) in
     (record { z₁ = a .0; z₂ = b .0; z₃ = y; years = a .1; months = b .1; days = b .2 }, list-few dayItems (l .days) x y (b .2) .1)
 
-pub record ListsFew (l : Lists) : Type 0 where
+record ListsFew (l : Lists) : Type 0 where
   pub years : length (l .years) ≤ 1000
   pub months : length (l .months) ≤ 1000
   pub days : length (l .days) ≤ 1000
 
-pub lists-few : {A : Type 0} (l : Lists) (x y : A) → listsWritten l (is x) ≡ is y → ListsFew l × (x ≡ y)
+lists-few : {A : Type 0} (l : Lists) (x y : A) → listsWritten l (is x) ≡ is y → ListsFew l × (x ≡ y)
 lists-few l x y h =
     let a = each-written l x y h in (
       record {
@@ -283,7 +283,7 @@ module _ (y m d o : List ℕ) where
   write-bad r h = lists-then the-lists sized written ∙ ap (λ (c : Answer ℕ). andThen c (λ z. written)) (sym sizes ∙ h)
 
   module _ (n : ℕ) (h : sizeWithYears y m d ≡ is n) where
-    pub the-size : n ≡ length (sheetOf the-lists)
+    the-size : n ≡ length (sheetOf the-lists)
     the-size = sym (size-is ∙ lists-few the-lists sized n (sym sizes ∙ h) .1)
 
     goes-on : writeInto the-lists (length o) ≡ written

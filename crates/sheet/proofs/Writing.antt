@@ -36,7 +36,7 @@ module _ {A : Type 0} (k : Section) (xs : List ℕ) (a : Answer A) where
   items-end i h = rw (drop-of-length-le xs h)
 
 -- what goes on after a list does not bear on whether it is good
-pub written-then : {A B : Type 0} (k : Section) (xs : List ℕ) (x : A) (b : Answer B) → itemsWritten k xs b ≡ andThen (itemsWritten k xs (is x)) (λ y. b)
+written-then : {A B : Type 0} (k : Section) (xs : List ℕ) (x : A) (b : Answer B) → itemsWritten k xs b ≡ andThen (itemsWritten k xs (is x)) (λ y. b)
 unfolding itemsWritten
 written-then k [] x b = refl
 written-then {A} {B} k (z ∷ xs) x b = go (written-then k xs x b) (itemHolds k z)
@@ -62,7 +62,7 @@ module _ {A B : Type 0} (k : Section) (xs : List ℕ) (x : A) (b : Answer B) whe
   list-stop r h = list-then k xs x b ∙ ap (λ (c : Answer A). andThen c (λ y. b)) h
 
 -- a list that is good is not too long
-pub items-same : {A : Type 0} (k : Section) (xs : List ℕ) (x y : A) → itemsWritten k xs (is x) ≡ is y → x ≡ y
+items-same : {A : Type 0} (k : Section) (xs : List ℕ) (x y : A) → itemsWritten k xs (is x) ≡ is y → x ≡ y
 unfolding itemsWritten
 items-same {A} k [] x y h = let e : _≡_ {A = Answer A} (is x) (is y) = h in cc
 items-same k (z ∷ xs) x y h = items-same k xs x y (holds-all (itemHolds k z) (reasonNumber (k .reason)) _ y .0 h .1)

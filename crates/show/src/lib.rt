@@ -76,7 +76,7 @@ pub fn reason(r: Reason) {
     words(r);
 }
 
-pub fn words(r: Reason) {
+fn words(r: Reason) {
     let mut space = [0u8; 64];
     let n = words::put_words(r, &mut space, 0);
     text(&space[..n]);
@@ -121,7 +121,7 @@ pub fn leap_month(l: LeapMonth) {
 }
 
 // Whether a conjunction is a morning or an evening one, `-` where it is neither.
-pub fn phase(p: Phase) {
+fn phase(p: Phase) {
     match p {
         Phase::Morning => text(b" morning"),
         Phase::Evening => text(b" evening"),
@@ -176,7 +176,7 @@ pub fn pair_told(r: PairTold) {
 }
 
 // A field of a reading: its number, or `?`.
-pub fn field(f: Field) {
+fn field(f: Field) {
     match f {
         Field::Known(k) => next(k),
         Field::Unread => text(b" ?"),

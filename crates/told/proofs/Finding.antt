@@ -1,7 +1,7 @@
 -- Laws of a search into a list with a place for each day of the longest window. Assumes nothing.
-use Prim.Native.Nat.{ℕ, _+_, _≤_, _<_}
+use Prim.Native.Nat.{ℕ, _≤_, _<_}
 use native.Mathlib.Omega.{arith}
-use mathlib.Core.Path.{_≡_, refl, ap, sym, _∙_, subst}
+use mathlib.Core.Path.{_≡_, refl, ap, sym, _∙_}
 use mathlib.Core.Bool.{Bool, true, false, _&&_}
 use mathlib.Core.List.{List}
 use lib.Dec.{leb}
@@ -23,7 +23,7 @@ use Rattle.reading.specs.Search.{total, searchAt, saidFound, Searched}
 use Rattle.reading.proofs.Answered.{window-true, ends-true}
 
 -- as many days fit at most as the window has
-pub total-few : (r : Reading) (first last : ℕ) → total r first last ≤ windowDays first last
+total-few : (r : Reading) (first last : ℕ) → total r first last ≤ windowDays first last
 unfolding total fitting
 total-few r first last = omega (arith, complement (fits r) first (windowDays first last))
 
@@ -70,12 +70,12 @@ searched-not-twelve r first last e =
     other k n g = n (cc)
 
 -- what is known where a search is answered with n
-pub record AnsweredWith (r : Reading) (first last n : ℕ) : Type 0 where
+record AnsweredWith (r : Reading) (first last n : ℕ) : Type 0 where
   pub ends : last ≤ 14989859
   pub window : (first ≤ last) × (windowDays first last ≤ 27759)
   pub counted : n ≡ total r first last
 
-pub answered-with : (r : Reading) (first last room n : ℕ) → searchAt r first last room ≡ is n → AnsweredWith r first last n
+answered-with : (r : Reading) (first last room n : ℕ) → searchAt r first last room ≡ is n → AnsweredWith r first last n
 unfolding searchAt
 answered-with r first last room n e =
     let a = holds-all (leb first 14989859 && leb last 14989859) 6 _ n .0 e in

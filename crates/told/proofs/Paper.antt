@@ -1,15 +1,15 @@
 -- The statements of specs/Paper, proved, each under its own name. Assumes nothing.
-use Prim.Native.Nat.{ℕ, _+_, _-_, _*_, _≤_}
+use Prim.Native.Nat.{ℕ, _+_, _-_, _*_}
 use native.Mathlib.Omega.{arith}
-use mathlib.Core.Path.{_≡_, refl, ap, ap₂, sym, _∙_}
-use mathlib.Core.Bool.{Bool, true, false, _&&_}
+use mathlib.Core.Path.{_≡_, refl, ap, sym, _∙_}
+use mathlib.Core.Bool.{Bool}
 use mathlib.Core.List.{List, [], _∷_, _++_, append-assoc}
 use lib.Dec.{leb}
 use lib.IntN.{ℤ, pos, negsuc, _+ℤ_}
 use lib.ListN.{getD}
 use Rattle.rule.specs.Counts.{DayInRange}
-use Rattle.rule.specs.Rule.{monthStart, monthLength, monthOfDay, termDay, yearTerm, numberOf, leapMark}
-use Rattle.rule.specs.Reasons.{Answer, is, refused, refused-with, guard, within, andThen, reasonNumber}
+use Rattle.rule.specs.Rule.{monthStart, monthLength, monthOfDay, termDay, yearTerm}
+use Rattle.rule.specs.Reasons.{Answer, is, refused, refused-with, guard, within, andThen}
 use Rattle.rule.specs.declared.Reason.the-variants.{MoveOutOfRange}
 use Rattle.rule.proofs.Answers.{at-most, holds-all}
 use Rattle.rule.proofs.Leap.{number-at, mark-at}
@@ -35,46 +35,15 @@ use Rattle.facts.specs.Facts.{
 }
 use Rattle.facts.proofs.Given as Given
 use Rattle.facts.proofs.Leaps.{leap-found, leap-none}
-use Rattle.planets.specs.Planets.{Planet, numbersOf, divisor, conjunctionDay, conjunctionParts, phase, conjunctionOf, conjunctionAt, nextCount, nextOf, nextAt}
+use Rattle.planets.specs.Planets.{Planet, numbersOf, conjunctionDay, phase, conjunctionOf, conjunctionAt, nextCount, nextOf, nextAt}
 use Rattle.planets.specs.Paper.{IsConjunction}
 use Rattle.planets.proofs.Paper as Planets
 use Rattle.planets.proofs.Literal.{of-count, venus-or-mercury, conjunction-is}
-use Rattle.reading.specs.declared.Reading.{Reading}
-use Rattle.reading.specs.Readings.{inRanges, windowDays, windowHolds, fitting}
+use Rattle.reading.specs.Readings.{windowDays, fitting}
 use Rattle.reading.specs.Search.{total, searchAt}
 use Rattle.reading.proofs.Rows as Searches
-use Rattle.fields.specs.Fields.{word, decimal, followed, lined, each}
-use Rattle.lines.specs.Lines.{fieldsOfYear}
-use Rattle.told.specs.Answers.{
-  places,
-  refusedText,
-  told,
-  placeLine,
-  placeText,
-  leapNumber,
-  leapCount,
-  yearLine,
-  yearText,
-  monthLineOf,
-  monthText,
-  quarterLine,
-  quarterText,
-  termLine,
-  termText,
-  phaseText,
-  conjunctionLine,
-  conjunctionText,
-  nextLine,
-  nextText,
-  dayLineOf,
-  dayText,
-  dayLine,
-  dateText,
-  textOfDate,
-  moveText,
-  foundLine,
-  searchText,
-}
+use Rattle.fields.specs.Fields.{word, decimal, followed, each}
+use Rattle.told.specs.Answers.{places, told, placeLine, placeText, leapNumber, leapCount, yearLine, yearText, monthLineOf, monthText, quarterLine, quarterText, termLine, termText, phaseText, conjunctionLine, conjunctionText, nextLine, nextText, dayLineOf, dayText, dayLine, dateText, textOfDate, moveText, foundLine, searchText}
 use Rattle.told.specs.Paper as Paper
 use Rattle.told.proofs.Telling.{words-back, as-refusal}
 use Rattle.told.proofs.Refusing.{NeverWith, never-refused, never-guard, never-one, never-two, never-then, tells-refusal}

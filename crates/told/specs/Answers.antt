@@ -1,6 +1,6 @@
 -- The text with which the desk program answers a query, for every number, as lists of bytes. "Where 01's listing has such a line,
 -- its fields come first and in its order." Assumes nothing.
-use Prim.Native.Nat.{ℕ, _-_}
+use Prim.Native.Nat.{ℕ}
 use mathlib.Core.Bool.{Bool}
 use mathlib.Core.List.{List, [], _∷_, _++_}
 use lib.IntN.{ℤ}

@@ -3,14 +3,7 @@ use reading::Field;
 use reading::Found;
 use reading::Reading;
 
-pub fn of(
-    year: Field,
-    number: Field,
-    mark: Field,
-    day: Field,
-    name: Field,
-    first: Field,
-) -> Reading {
+fn of(year: Field, number: Field, mark: Field, day: Field, name: Field, first: Field) -> Reading {
     Reading {
         year_name: year,
         month_number: number,
@@ -21,7 +14,7 @@ pub fn of(
     }
 }
 
-pub fn unread() -> Reading {
+fn unread() -> Reading {
     of(
         Field::Unread,
         Field::Unread,
@@ -33,7 +26,7 @@ pub fn unread() -> Reading {
 }
 
 // A search into a list of four sevens: the answer, and then the whole list.
-pub fn search(r: Reading, first: u32, last: u32) {
+fn search(r: Reading, first: u32, last: u32) {
     let mut list = [7u32, 7, 7, 7];
     show::text(b"SEARCH");
     show::reading(r);

@@ -3,7 +3,7 @@ use sheet::HowMany;
 use sheet::SheetCounts;
 
 // A sheet read into lists of two sevens each: the answer, and then the three lists.
-pub fn read(bytes: &[u8]) {
+fn read(bytes: &[u8]) {
     let mut years = [7u16, 7];
     let mut months = [7u32, 7];
     let mut days = [7u32, 7];
@@ -29,7 +29,7 @@ pub fn read(bytes: &[u8]) {
 }
 
 // Three lists written into a buffer of twenty sevens: the answer, and then the buffer.
-pub fn write(years: &[u16], months: &[u32], days: &[u32]) {
+fn write(years: &[u16], months: &[u32], days: &[u32]) {
     let mut buffer = [7u8; 20];
     show::text(b"WRITE");
     show::shorts(years);

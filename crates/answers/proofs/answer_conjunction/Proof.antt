@@ -7,11 +7,6 @@ use Rattle.told.proofs.Telling.{tells}
 use borrow.Author.Needs.{needs}
 use Rattle.answers.proofs.answer_conjunction.Statement.{statement}
 use Rattle.answers.proofs.answer_conjunction.Tie as tie
-use Rattle.answers.proofs.answer_conjunction.Reads as reads
-use Rattle.answers.proofs.answer_conjunction.Lts as lts
-use Rattle.answers.proofs.put_conjunction.Reads as put-conjunction-reads
-use Rattle.answers.proofs.put_refusal.Reads as put-refusal-reads
-use Rattle.planets.proofs.kth_conjunction.Reads as kth-conjunction-reads
 
 kth-conjunction-requires : tie.Need-kth-conjunction-requires
 kth-conjunction-requires c κs = search needs

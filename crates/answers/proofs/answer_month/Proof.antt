@@ -7,11 +7,6 @@ use Rattle.told.proofs.Telling.{tells}
 use borrow.Author.Needs.{needs}
 use Rattle.answers.proofs.answer_month.Statement.{statement}
 use Rattle.answers.proofs.answer_month.Tie as tie
-use Rattle.answers.proofs.answer_month.Reads as reads
-use Rattle.answers.proofs.answer_month.Lts as lts
-use Rattle.answers.proofs.put_month_line.Reads as put-month-line-reads
-use Rattle.answers.proofs.put_refusal.Reads as put-refusal-reads
-use Rattle.facts.proofs.month_facts.Reads as month-facts-reads
 
 month-facts-requires : tie.Need-month-facts-requires
 month-facts-requires c κs = search needs

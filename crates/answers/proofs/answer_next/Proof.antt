@@ -7,11 +7,6 @@ use Rattle.told.proofs.Telling.{tells}
 use borrow.Author.Needs.{needs}
 use Rattle.answers.proofs.answer_next.Statement.{statement}
 use Rattle.answers.proofs.answer_next.Tie as tie
-use Rattle.answers.proofs.answer_next.Reads as reads
-use Rattle.answers.proofs.answer_next.Lts as lts
-use Rattle.answers.proofs.put_counted.Reads as put-counted-reads
-use Rattle.answers.proofs.put_refusal.Reads as put-refusal-reads
-use Rattle.planets.proofs.next_conjunction.Reads as next-conjunction-reads
 
 next-conjunction-requires : tie.Need-next-conjunction-requires
 next-conjunction-requires c κs = search needs

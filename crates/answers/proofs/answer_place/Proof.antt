@@ -7,11 +7,6 @@ use Rattle.told.proofs.Telling.{tells}
 use borrow.Author.Needs.{needs}
 use Rattle.answers.proofs.answer_place.Statement.{statement}
 use Rattle.answers.proofs.answer_place.Tie as tie
-use Rattle.answers.proofs.answer_place.Reads as reads
-use Rattle.answers.proofs.answer_place.Lts as lts
-use Rattle.answers.proofs.put_place.Reads as put-place-reads
-use Rattle.answers.proofs.put_refusal.Reads as put-refusal-reads
-use Rattle.facts.proofs.solstice_year.Reads as solstice-year-reads
 
 solstice-year-requires : tie.Need-solstice-year-requires
 solstice-year-requires c κs = search needs

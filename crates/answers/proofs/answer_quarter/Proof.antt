@@ -7,11 +7,6 @@ use Rattle.told.proofs.Telling.{tells}
 use borrow.Author.Needs.{needs}
 use Rattle.answers.proofs.answer_quarter.Statement.{statement}
 use Rattle.answers.proofs.answer_quarter.Tie as tie
-use Rattle.answers.proofs.answer_quarter.Reads as reads
-use Rattle.answers.proofs.answer_quarter.Lts as lts
-use Rattle.answers.proofs.put_quarter.Reads as put-quarter-reads
-use Rattle.answers.proofs.put_refusal.Reads as put-refusal-reads
-use Rattle.facts.proofs.quarter.Reads as quarter-reads
 
 quarter-requires : tie.Need-quarter-requires
 quarter-requires c κs = search needs

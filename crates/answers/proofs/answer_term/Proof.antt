@@ -7,11 +7,6 @@ use Rattle.told.proofs.Telling.{tells}
 use borrow.Author.Needs.{needs}
 use Rattle.answers.proofs.answer_term.Statement.{statement}
 use Rattle.answers.proofs.answer_term.Tie as tie
-use Rattle.answers.proofs.answer_term.Reads as reads
-use Rattle.answers.proofs.answer_term.Lts as lts
-use Rattle.answers.proofs.put_refusal.Reads as put-refusal-reads
-use Rattle.answers.proofs.put_term.Reads as put-term-reads
-use Rattle.facts.proofs.term.Reads as term-reads
 
 term-requires : tie.Need-term-requires
 term-requires c κs = search needs

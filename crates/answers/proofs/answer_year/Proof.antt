@@ -7,11 +7,6 @@ use Rattle.told.specs.Answers.{yearLine, yearText}
 use borrow.Author.Needs.{needs}
 use Rattle.answers.proofs.answer_year.Statement.{statement}
 use Rattle.answers.proofs.answer_year.Tie as tie
-use Rattle.answers.proofs.answer_year.Reads as reads
-use Rattle.answers.proofs.answer_year.Lts as lts
-use Rattle.answers.proofs.put_refusal.Reads as put-refusal-reads
-use Rattle.answers.proofs.put_year_line.Reads as put-year-line-reads
-use Rattle.facts.proofs.year_facts.Reads as year-facts-reads
 
 year-facts-requires : tie.Need-year-facts-requires
 year-facts-requires c κs = search needs

@@ -5,10 +5,6 @@ use Rattle.fields.proofs.Putting.{then, put-kept}
 use borrow.Author.Needs.{needs}
 use Rattle.answers.proofs.put_bu_fields.Statement.{statement}
 use Rattle.answers.proofs.put_bu_fields.Tie as tie
-use Rattle.answers.proofs.put_bu_fields.Reads as reads
-use Rattle.answers.proofs.put_bu_fields.Lts as lts
-use Rattle.fields.proofs.put_bytes.Reads as put-bytes-reads
-use Rattle.fields.proofs.put_next.Reads as put-next-reads
 
 slice-aggregate-put-bytes : tie.Need-slice-aggregate-put-bytes
 slice-aggregate-put-bytes c = search needs

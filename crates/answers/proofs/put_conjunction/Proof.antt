@@ -5,11 +5,6 @@ use Rattle.told.specs.Answers.{conjunctionLine}
 use borrow.Author.Needs.{needs}
 use Rattle.answers.proofs.put_conjunction.Statement.{statement}
 use Rattle.answers.proofs.put_conjunction.Tie as tie
-use Rattle.answers.proofs.put_conjunction.Reads as reads
-use Rattle.answers.proofs.put_conjunction.Lts as lts
-use Rattle.answers.proofs.put_conjunction_fields.Reads as put-conjunction-fields-reads
-use Rattle.fields.proofs.put_byte.Reads as put-byte-reads
-use Rattle.fields.proofs.put_bytes.Reads as put-bytes-reads
 
 slice-aggregate-put-bytes : tie.Need-slice-aggregate-put-bytes
 slice-aggregate-put-bytes c = search needs

@@ -4,10 +4,6 @@ use Rattle.fields.proofs.Putting.{then}
 use borrow.Author.Needs.{needs}
 use Rattle.answers.proofs.put_conjunction_fields.Statement.{statement}
 use Rattle.answers.proofs.put_conjunction_fields.Tie as tie
-use Rattle.answers.proofs.put_conjunction_fields.Reads as reads
-use Rattle.answers.proofs.put_conjunction_fields.Lts as lts
-use Rattle.answers.proofs.put_phase.Reads as put-phase-reads
-use Rattle.fields.proofs.put_next.Reads as put-next-reads
 
 put-next-requires : tie.Need-put-next-requires
 put-next-requires c κs = search needs

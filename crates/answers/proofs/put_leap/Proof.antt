@@ -9,10 +9,6 @@ use Rattle.told.specs.Answers.{fieldsOfLeap}
 use borrow.Author.Needs.{needs}
 use Rattle.answers.proofs.put_leap.Statement.{statement}
 use Rattle.answers.proofs.put_leap.Tie as tie
-use Rattle.answers.proofs.put_leap.Reads as reads
-use Rattle.answers.proofs.put_leap.Lts as lts
-use Rattle.fields.proofs.put_bytes.Reads as put-bytes-reads
-use Rattle.fields.proofs.put_next.Reads as put-next-reads
 
 enum-told : tie.Need-enum-told
 enum-told c = search needs

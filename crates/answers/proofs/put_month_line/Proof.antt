@@ -9,12 +9,6 @@ use Rattle.told.proofs.Telling.{more-fields}
 use borrow.Author.Needs.{needs}
 use Rattle.answers.proofs.put_month_line.Statement.{statement}
 use Rattle.answers.proofs.put_month_line.Tie as tie
-use Rattle.answers.proofs.put_month_line.Reads as reads
-use Rattle.answers.proofs.put_month_line.Lts as lts
-use Rattle.fields.proofs.put_byte.Reads as put-byte-reads
-use Rattle.fields.proofs.put_bytes.Reads as put-bytes-reads
-use Rattle.fields.proofs.put_next.Reads as put-next-reads
-use Rattle.lines.proofs.put_month_fields.Reads as put-month-fields-reads
 
 slice-aggregate-put-bytes : tie.Need-slice-aggregate-put-bytes
 slice-aggregate-put-bytes c = search needs

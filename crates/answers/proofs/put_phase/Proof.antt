@@ -7,9 +7,6 @@ use Rattle.told.specs.Answers.{phaseText}
 use borrow.Author.Needs.{needs}
 use Rattle.answers.proofs.put_phase.Statement.{statement}
 use Rattle.answers.proofs.put_phase.Tie as tie
-use Rattle.answers.proofs.put_phase.Reads as reads
-use Rattle.answers.proofs.put_phase.Lts as lts
-use Rattle.fields.proofs.put_bytes.Reads as put-bytes-reads
 
 enum-told : tie.Need-enum-told
 enum-told c = search needs

@@ -8,11 +8,6 @@ use Rattle.told.proofs.Telling.{more-fields}
 use borrow.Author.Needs.{needs}
 use Rattle.answers.proofs.put_place.Statement.{statement}
 use Rattle.answers.proofs.put_place.Tie as tie
-use Rattle.answers.proofs.put_place.Reads as reads
-use Rattle.answers.proofs.put_place.Lts as lts
-use Rattle.answers.proofs.put_bu_fields.Reads as put-bu-fields-reads
-use Rattle.fields.proofs.put_byte.Reads as put-byte-reads
-use Rattle.fields.proofs.put_next.Reads as put-next-reads
 
 put-bu-fields-requires : tie.Need-put-bu-fields-requires
 put-bu-fields-requires c κs = search needs

@@ -5,11 +5,6 @@ use Rattle.told.specs.Answers.{quarterLine}
 use borrow.Author.Needs.{needs}
 use Rattle.answers.proofs.put_quarter.Statement.{statement}
 use Rattle.answers.proofs.put_quarter.Tie as tie
-use Rattle.answers.proofs.put_quarter.Reads as reads
-use Rattle.answers.proofs.put_quarter.Lts as lts
-use Rattle.fields.proofs.put_byte.Reads as put-byte-reads
-use Rattle.fields.proofs.put_bytes.Reads as put-bytes-reads
-use Rattle.fields.proofs.put_next.Reads as put-next-reads
 
 slice-aggregate-put-bytes : tie.Need-slice-aggregate-put-bytes
 slice-aggregate-put-bytes c = search needs

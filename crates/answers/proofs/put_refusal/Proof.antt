@@ -5,13 +5,6 @@ use Rattle.told.proofs.Telling.{as-refusal}
 use borrow.Author.Needs.{needs}
 use Rattle.answers.proofs.put_refusal.Statement.{statement}
 use Rattle.answers.proofs.put_refusal.Tie as tie
-use Rattle.answers.proofs.put_refusal.Reads as reads
-use Rattle.answers.proofs.put_refusal.Lts as lts
-use Rattle.fields.proofs.put_byte.Reads as put-byte-reads
-use Rattle.fields.proofs.put_bytes.Reads as put-bytes-reads
-use Rattle.fields.proofs.put_next.Reads as put-next-reads
-use Rattle.rule.proofs.reason_number.Reads as reason-number-reads
-use Rattle.words.proofs.put_words.Reads as put-words-reads
 
 slice-aggregate-put-bytes : tie.Need-slice-aggregate-put-bytes
 slice-aggregate-put-bytes c = search needs

@@ -1,6 +1,6 @@
 -- `answers::put_year_line` meets its contract. Assumes nothing.
 use native.Mathlib.Omega.{arith}
-use mathlib.Core.List.{[], _∷_}
+use mathlib.Core.List.{_∷_}
 use Rattle.fields.specs.Fields.{word, decimal, followed}
 use Rattle.fields.proofs.Putting.{then}
 use Rattle.lines.specs.Lines.{fieldsOfYear}
@@ -9,13 +9,6 @@ use Rattle.told.proofs.Telling.{more-fields}
 use borrow.Author.Needs.{needs}
 use Rattle.answers.proofs.put_year_line.Statement.{statement}
 use Rattle.answers.proofs.put_year_line.Tie as tie
-use Rattle.answers.proofs.put_year_line.Reads as reads
-use Rattle.answers.proofs.put_year_line.Lts as lts
-use Rattle.answers.proofs.put_leap.Reads as put-leap-reads
-use Rattle.fields.proofs.put_byte.Reads as put-byte-reads
-use Rattle.fields.proofs.put_bytes.Reads as put-bytes-reads
-use Rattle.fields.proofs.put_next.Reads as put-next-reads
-use Rattle.lines.proofs.put_year_fields.Reads as put-year-fields-reads
 
 put-year-fields-requires : tie.Need-put-year-fields-requires
 put-year-fields-requires c κs = search needs

@@ -1,12 +1,12 @@
 -- `asked::read_fields` meets its contract: at each call the place is further on. Assumes nothing.
 use Prim.Native.Nat.{_+_, _-_}
 use native.Mathlib.Omega.{arith}
-use mathlib.Core.Path.{_≡_, refl, ap, sym, _∙_}
+use mathlib.Core.Path.{ap, _∙_}
 use mathlib.Core.List.{[]}
 use lib.ListN.{length, drop, length-set}
 use Rattle.asked.specs.Asked.{fieldsIn, kindsOf, valuesOf, allCapped}
 use borrow.Author.Needs.{needs}
-use Rattle.asked.proofs.Parting.{end-in-line, the-last, the-next, how-many, kinds-put, values-put, kept}
+use Rattle.asked.proofs.Parting.{end-in-line, the-last, the-next, kinds-put, values-put, kept}
 use Prim.Native.Nat.{ℕ, _<_}
 use borrow.Fn.Kinds.{In}
 use borrow.Fn.PlainCycle.{Measures, is, falls, and}

@@ -3,8 +3,6 @@ use borrow.Author.Tests.{ne-eqb}
 use mathlib.Core.Path.{refl}
 use Rattle.asked.proofs.admits.Statement.{statement}
 use Rattle.asked.proofs.admits.Tie as tie
-use Rattle.asked.proofs.admits.Reads as reads
-use Rattle.asked.proofs.admits.Lts as lts
 
 returns : tie.Need-returns
 returns c = rw (c .if1 .taken) refl

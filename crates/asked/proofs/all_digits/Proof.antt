@@ -1,5 +1,5 @@
 -- `asked::all_digits` meets its contract. The invariant: what is left says what the whole does. Assumes nothing.
-use Prim.Native.Nat.{_-_, _≤_, _<_}
+use Prim.Native.Nat.{_-_, _≤_}
 use native.Mathlib.Omega.{arith}
 use mathlib.Core.Path.{_≡_, refl, sym, _∙_}
 use lib.ListN.{length, drop}
@@ -9,9 +9,6 @@ use Rattle.asked.specs.Asked.{allDigits}
 use Rattle.asked.proofs.Scanning.{digit-next, no-digit, no-more-digits}
 use Rattle.asked.proofs.all_digits.Statement.{statement}
 use Rattle.asked.proofs.all_digits.Tie as tie
-use Rattle.asked.proofs.all_digits.Reads as reads
-use Rattle.asked.proofs.all_digits.Lts as lts
-use Rattle.asked.proofs.is_digit.Reads as is-digit-reads
 
 abbrev Inv-loop : tie.InvT-loop
 Inv-loop s i₀ i = (i ≤ length s) × (allDigits (drop i s) ≡ allDigits s)

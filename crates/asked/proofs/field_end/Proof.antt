@@ -1,17 +1,14 @@
 -- `asked::field_end` meets its contract. The invariant: no space so far. Assumes nothing.
 use borrow.Author.Tests.{eq-eqb, ne-eqb}
-use Prim.Native.Nat.{_-_, _≤_, _<_}
+use Prim.Native.Nat.{_-_, _≤_}
 use native.Mathlib.Omega.{arith}
-use mathlib.Core.Path.{_≡_, refl, sym, _∙_}
+use mathlib.Core.Path.{_≡_, refl}
 use lib.ListN.{length, drop}
-use borrow.Author.Needs.{needs}
 use Prim.Native.Nat.{_+_}
 use Rattle.asked.specs.Asked.{firstField}
 use Rattle.asked.proofs.Scanning.{field-more, field-over, field-none}
 use Rattle.asked.proofs.field_end.Statement.{statement}
 use Rattle.asked.proofs.field_end.Tie as tie
-use Rattle.asked.proofs.field_end.Reads as reads
-use Rattle.asked.proofs.field_end.Lts as lts
 
 abbrev Inv-loop : tie.InvT-loop
 Inv-loop line from to₀ to = (to ≤ length line) × (to + length (firstField (drop to line)) ≡ from + length (firstField (drop from line)))

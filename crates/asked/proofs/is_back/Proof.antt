@@ -7,10 +7,6 @@ use Rattle.asked.proofs.Scanning.{empty-back, back-made}
 use borrow.Author.Needs.{needs}
 use Rattle.asked.proofs.is_back.Statement.{statement}
 use Rattle.asked.proofs.is_back.Tie as tie
-use Rattle.asked.proofs.is_back.Reads as reads
-use Rattle.asked.proofs.is_back.Lts as lts
-use Rattle.asked.proofs.is_decimal.Reads as is-decimal-reads
-use Rattle.asked.proofs.is_like.Reads as is-like-reads
 
 returns : tie.Need-returns
 returns c = empty-back (c .before .before .args .s .now) (c .if1 .taken)

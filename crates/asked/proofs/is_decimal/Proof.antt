@@ -5,10 +5,6 @@ use Rattle.asked.specs.Asked.{isDecimal}
 use borrow.Author.Needs.{needs}
 use Rattle.asked.proofs.is_decimal.Statement.{statement}
 use Rattle.asked.proofs.is_decimal.Tie as tie
-use Rattle.asked.proofs.is_decimal.Reads as reads
-use Rattle.asked.proofs.is_decimal.Lts as lts
-use Rattle.asked.proofs.all_digits.Reads as all-digits-reads
-use Rattle.asked.proofs.leads_well.Reads as leads-well-reads
 
 leads-well-requires : tie.Need-leads-well-requires
 leads-well-requires c κs = search needs

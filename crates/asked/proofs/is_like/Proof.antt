@@ -1,5 +1,5 @@
 -- `asked::is_like` meets its contract. The invariant: what is left says what the whole does. Assumes nothing.
-use Prim.Native.Nat.{_-_, _≤_, _<_}
+use Prim.Native.Nat.{_-_, _≤_}
 use native.Mathlib.Omega.{arith}
 use mathlib.Core.Path.{_≡_, refl, sym, _∙_}
 use lib.ListN.{length, drop}
@@ -9,9 +9,6 @@ use Rattle.asked.specs.Asked.{like}
 use Rattle.asked.proofs.Scanning.{like-next, unlike, like-end, not-as-long}
 use Rattle.asked.proofs.is_like.Statement.{statement}
 use Rattle.asked.proofs.is_like.Tie as tie
-use Rattle.asked.proofs.is_like.Reads as reads
-use Rattle.asked.proofs.is_like.Lts as lts
-use Rattle.asked.proofs.admits.Reads as admits-reads
 
 abbrev Inv-loop : tie.InvT-loop
 Inv-loop p s i₀ i = (length p ≡ length s) × (i ≤ length p) × (like (drop i p) (drop i s) ≡ like p s)

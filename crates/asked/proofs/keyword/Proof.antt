@@ -4,9 +4,6 @@ use Rattle.asked.specs.Asked.{keyword}
 use borrow.Author.Needs.{needs}
 use Rattle.asked.proofs.keyword.Statement.{statement}
 use Rattle.asked.proofs.keyword.Tie as tie
-use Rattle.asked.proofs.keyword.Reads as reads
-use Rattle.asked.proofs.keyword.Lts as lts
-use Rattle.asked.proofs.is_like.Reads as is-like-reads
 
 slice-aggregate-is-like : tie.Need-slice-aggregate-is-like
 slice-aggregate-is-like c = search needs

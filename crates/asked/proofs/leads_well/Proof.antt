@@ -3,8 +3,6 @@ use borrow.Author.Needs.{needs}
 use Rattle.asked.proofs.Scanning.{short, long}
 use Rattle.asked.proofs.leads_well.Statement.{statement}
 use Rattle.asked.proofs.leads_well.Tie as tie
-use Rattle.asked.proofs.leads_well.Reads as reads
-use Rattle.asked.proofs.leads_well.Lts as lts
 
 returns : tie.Need-returns
 returns c = short (c .before .args .s .now) (c .if1 .taken)

@@ -9,13 +9,6 @@ use Rattle.asked.proofs.Scanning.{to-the-end, back-long}
 use borrow.Author.Needs.{needs}
 use Rattle.asked.proofs.read_field.Statement.{statement}
 use Rattle.asked.proofs.read_field.Tie as tie
-use Rattle.asked.proofs.read_field.Reads as reads
-use Rattle.asked.proofs.read_field.Lts as lts
-use Rattle.asked.proofs.is_back.Reads as is-back-reads
-use Rattle.asked.proofs.is_decimal.Reads as is-decimal-reads
-use Rattle.asked.proofs.is_like.Reads as is-like-reads
-use Rattle.asked.proofs.keyword.Reads as keyword-reads
-use Rattle.asked.proofs.value_of.Reads as value-of-reads
 
 is-decimal-requires : tie.Need-is-decimal-requires
 is-decimal-requires c κs = search needs

@@ -1,7 +1,7 @@
 -- `asked::value_of` meets its contract. The invariant: what is left makes of the number so far what the whole is. Assumes nothing.
 use Prim.Native.Nat.{ℕ, _+_}
 use mathlib.Core.Path.{ap}
-use Prim.Native.Nat.{_-_, _≤_, _<_}
+use Prim.Native.Nat.{_-_, _≤_}
 use native.Mathlib.Omega.{arith}
 use mathlib.Core.Path.{_≡_, refl, sym, _∙_}
 use lib.ListN.{length, drop}
@@ -11,9 +11,6 @@ use Rattle.capped.specs.Capped.{capped}
 use Rattle.asked.proofs.Scanning.{value-next, value-last}
 use Rattle.asked.proofs.value_of.Statement.{statement}
 use Rattle.asked.proofs.value_of.Tie as tie
-use Rattle.asked.proofs.value_of.Reads as reads
-use Rattle.asked.proofs.value_of.Lts as lts
-use Rattle.asked.proofs.one_more.Reads as one-more-reads
 
 abbrev Inv-loop : tie.InvT-loop
 Inv-loop s v₀ i₀ v i = (i ≤ length s) × (v ≤ 4294967295) × (capped (valueFrom v (drop i s)) ≡ capped (valueFrom 0 s))

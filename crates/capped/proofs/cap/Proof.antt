@@ -1,6 +1,5 @@
 -- `capped::cap` meets its contract, by its test. Assumes nothing.
 use native.Mathlib.Omega.{arith}
-use borrow.Author.Needs.{needs}
 use Rattle.capped.proofs.cap.Statement.{statement}
 use Rattle.capped.proofs.cap.Tie as tie
 

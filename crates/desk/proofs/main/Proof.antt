@@ -2,8 +2,6 @@
 use borrow.Author.Needs.{needs}
 use Rattle.desk.proofs.main.Statement.{statement}
 use Rattle.desk.proofs.main.Tie as tie
-use Rattle.desk.proofs.main.Reads as reads
-use Rattle.desk.proofs.main.Lts as lts
 
 room-requires : tie.Need-room-requires
 room-requires c κs = search needs

@@ -1,17 +1,13 @@
 -- `fields::put_bytes` meets its contract. The invariant: the first i bytes are put. Assumes nothing.
-use Prim.Native.Nat.{_+_, _-_, _≤_}
+use Prim.Native.Nat.{_-_, _≤_}
 use native.Mathlib.Omega.{arith}
-use borrow.Author.Needs.{needs}
-use mathlib.Core.Path.{_≡_, sym}
+use mathlib.Core.Path.{sym}
 use lib.ListN.{length, take}
 use lib.Seq.{take-all}
 use Rattle.fields.specs.Fields.{Put}
 use Rattle.fields.proofs.Putting.{put-kept, wide, then, put-none, put-as, front-next}
 use Rattle.fields.proofs.put_bytes.Statement.{statement}
 use Rattle.fields.proofs.put_bytes.Tie as tie
-use Rattle.fields.proofs.put_bytes.Reads as reads
-use Rattle.fields.proofs.put_bytes.Lts as lts
-use Rattle.fields.proofs.put_byte.Reads as put-byte-reads
 
 abbrev Inv-loop : tie.InvT-loop
 Inv-loop s out₀ at to₀ i₀ out to i = (i ≤ length s) × Put i out₀ at (take i s) out to

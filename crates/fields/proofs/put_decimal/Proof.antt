@@ -5,9 +5,6 @@ use Rattle.fields.proofs.Putting.{wide}
 use borrow.Author.Needs.{needs}
 use Rattle.fields.proofs.put_decimal.Statement.{statement}
 use Rattle.fields.proofs.put_decimal.Tie as tie
-use Rattle.fields.proofs.put_decimal.Reads as reads
-use Rattle.fields.proofs.put_decimal.Lts as lts
-use Rattle.fields.proofs.put_digits.Reads as put-digits-reads
 
 -- src/lib.rt:49:5
 put-digits-requires : tie.Need-put-digits-requires

@@ -1,14 +1,10 @@
 -- `fields::put_mark` meets its contract. Assumes nothing.
 use mathlib.Core.Path.{ap}
-use mathlib.Core.List.{List, [], _∷_}
+use mathlib.Core.List.{[], _∷_}
 use Rattle.fields.proofs.Putting.{then, put-as}
 use borrow.Author.Needs.{needs}
 use Rattle.fields.proofs.put_mark.Statement.{statement}
 use Rattle.fields.proofs.put_mark.Tie as tie
-use Rattle.fields.proofs.put_mark.Reads as reads
-use Rattle.fields.proofs.put_mark.Lts as lts
-use Rattle.fields.proofs.mark_of.Reads as mark-of-reads
-use Rattle.fields.proofs.put_byte.Reads as put-byte-reads
 
 -- src/lib.rt:77:9
 put-byte-requires : tie.Need-put-byte-requires

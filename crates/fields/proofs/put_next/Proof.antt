@@ -3,10 +3,6 @@ use Rattle.fields.proofs.Putting.{then}
 use borrow.Author.Needs.{needs}
 use Rattle.fields.proofs.put_next.Statement.{statement}
 use Rattle.fields.proofs.put_next.Tie as tie
-use Rattle.fields.proofs.put_next.Reads as reads
-use Rattle.fields.proofs.put_next.Lts as lts
-use Rattle.fields.proofs.put_byte.Reads as put-byte-reads
-use Rattle.fields.proofs.put_decimal.Reads as put-decimal-reads
 
 -- src/lib.rt:57:9
 put-byte-requires : tie.Need-put-byte-requires

@@ -9,11 +9,6 @@ use Rattle.told.proofs.Telling.{tells}
 use borrow.Author.Needs.{needs}
 use Rattle.founds.proofs.answer_date.Statement.{statement}
 use Rattle.founds.proofs.answer_date.Tie as tie
-use Rattle.founds.proofs.answer_date.Reads as reads
-use Rattle.founds.proofs.answer_date.Lts as lts
-use Rattle.founds.proofs.put_day_of.Reads as put-day-of-reads
-use Rattle.answers.proofs.put_refusal.Reads as put-refusal-reads
-use Rattle.dates.proofs.day_of_date.Reads as day-of-date-reads
 
 day-of-date-requires : tie.Need-day-of-date-requires
 day-of-date-requires c κs = search needs

@@ -7,11 +7,6 @@ use Rattle.told.proofs.Telling.{tells}
 use borrow.Author.Needs.{needs}
 use Rattle.founds.proofs.answer_day.Statement.{statement}
 use Rattle.founds.proofs.answer_day.Tie as tie
-use Rattle.founds.proofs.answer_day.Reads as reads
-use Rattle.founds.proofs.answer_day.Lts as lts
-use Rattle.founds.proofs.put_day_line.Reads as put-day-line-reads
-use Rattle.answers.proofs.put_refusal.Reads as put-refusal-reads
-use Rattle.dates.proofs.date_of_day.Reads as date-of-day-reads
 
 date-of-day-requires : tie.Need-date-of-day-requires
 date-of-day-requires c κs = search needs

@@ -16,11 +16,6 @@ use Rattle.told.proofs.Telling.{tells}
 use borrow.Author.Needs.{needs}
 use Rattle.founds.proofs.answer_move.Statement.{statement}
 use Rattle.founds.proofs.answer_move.Tie as tie
-use Rattle.founds.proofs.answer_move.Reads as reads
-use Rattle.founds.proofs.answer_move.Lts as lts
-use Rattle.founds.proofs.answer_of_date.Reads as answer-of-date-reads
-use Rattle.answers.proofs.put_refusal.Reads as put-refusal-reads
-use Rattle.moves.proofs.move_date.Reads as move-date-reads
 
 move-date-requires : tie.Need-move-date-requires
 move-date-requires c κs = search needs

@@ -7,11 +7,6 @@ use Rattle.told.specs.Answers.{dateText}
 use borrow.Author.Needs.{needs}
 use Rattle.founds.proofs.answer_of_date.Statement.{statement}
 use Rattle.founds.proofs.answer_of_date.Tie as tie
-use Rattle.founds.proofs.answer_of_date.Reads as reads
-use Rattle.founds.proofs.answer_of_date.Lts as lts
-use Rattle.founds.proofs.answer_date.Reads as answer-date-reads
-use Rattle.rule.proofs.leap_mark.Reads as leap-mark-reads
-use Rattle.rule.proofs.number_of.Reads as number-of-reads
 
 cast-answer-date : tie.Need-cast-answer-date
 cast-answer-date c = search needs

@@ -14,8 +14,6 @@ use Rattle.told.proofs.Finding.{room-enough, found-days, found-few, found-insid
 use borrow.Author.Needs.{needs}
 use Rattle.founds.proofs.answer_search.Statement.{statement}
 use Rattle.founds.proofs.answer_search.Tie as tie
-use Rattle.founds.proofs.answer_search.Reads as reads
-use Rattle.founds.proofs.answer_search.Lts as lts
 
 search-requires : tie.Need-search-requires
 search-requires c κs = search needs

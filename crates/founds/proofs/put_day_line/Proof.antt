@@ -9,11 +9,6 @@ use Rattle.told.proofs.Telling.{more-fields}
 use borrow.Author.Needs.{needs}
 use Rattle.founds.proofs.put_day_line.Statement.{statement}
 use Rattle.founds.proofs.put_day_line.Tie as tie
-use Rattle.founds.proofs.put_day_line.Reads as reads
-use Rattle.founds.proofs.put_day_line.Lts as lts
-use Rattle.fields.proofs.put_byte.Reads as put-byte-reads
-use Rattle.fields.proofs.put_next.Reads as put-next-reads
-use Rattle.lines.proofs.put_day_fields.Reads as put-day-fields-reads
 
 put-day-fields-requires : tie.Need-put-day-fields-requires
 put-day-fields-requires c κs = search needs

@@ -5,10 +5,6 @@ use Rattle.told.specs.Answers.{dayLineOf, dayLine}
 use borrow.Author.Needs.{needs}
 use Rattle.founds.proofs.put_day_of.Statement.{statement}
 use Rattle.founds.proofs.put_day_of.Tie as tie
-use Rattle.founds.proofs.put_day_of.Reads as reads
-use Rattle.founds.proofs.put_day_of.Lts as lts
-use Rattle.founds.proofs.put_day_line.Reads as put-day-line-reads
-use Rattle.dates.proofs.date_at.Reads as date-at-reads
 
 date-at-requires : tie.Need-date-at-requires
 date-at-requires c κs = search needs

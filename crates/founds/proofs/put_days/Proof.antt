@@ -8,9 +8,6 @@ use Rattle.fields.proofs.Putting.{put-kept, wide, put-none, put-as, each-next, 
 use Rattle.told.specs.Answers.{dayLine}
 use Rattle.founds.proofs.put_days.Statement.{statement}
 use Rattle.founds.proofs.put_days.Tie as tie
-use Rattle.founds.proofs.put_days.Reads as reads
-use Rattle.founds.proofs.put_days.Lts as lts
-use Rattle.founds.proofs.put_day_of.Reads as put-day-of-reads
 
 abbrev Inv-loop : tie.InvT-loop
 Inv-loop n days out₀ at to₀ i₀ out to i = (i ≤ n) × Put (83 * i) out₀ at (each dayLine (take i days)) out to

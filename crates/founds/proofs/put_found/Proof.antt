@@ -5,11 +5,6 @@ use Rattle.told.specs.Answers.{foundLine}
 use borrow.Author.Needs.{needs}
 use Rattle.founds.proofs.put_found.Statement.{statement}
 use Rattle.founds.proofs.put_found.Tie as tie
-use Rattle.founds.proofs.put_found.Reads as reads
-use Rattle.founds.proofs.put_found.Lts as lts
-use Rattle.fields.proofs.put_byte.Reads as put-byte-reads
-use Rattle.fields.proofs.put_bytes.Reads as put-bytes-reads
-use Rattle.fields.proofs.put_next.Reads as put-next-reads
 
 slice-aggregate-put-bytes : tie.Need-slice-aggregate-put-bytes
 slice-aggregate-put-bytes c = search needs

@@ -6,10 +6,6 @@ use lib.ListN.{length}
 use borrow.Author.Needs.{needs}
 use Rattle.held.proofs.answer_all.Statement.{statement}
 use Rattle.held.proofs.answer_all.Tie as tie
-use Rattle.held.proofs.answer_all.Reads as reads
-use Rattle.held.proofs.answer_all.Lts as lts
-use Rattle.held.proofs.end_input.Reads as end-input-reads
-use Rattle.held.proofs.take_some.Reads as take-some-reads
 
 abbrev Inv-loop : tie.InvT-loop
 Inv-loop bytes₀ line₀ days₀ out₀ held₀ turns₀ bytes line days out held turns =

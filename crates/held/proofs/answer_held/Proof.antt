@@ -3,10 +3,6 @@ use Rattle.held.proofs.Paper.{held-answered}
 use borrow.Author.Needs.{needs}
 use Rattle.held.proofs.answer_held.Statement.{statement}
 use Rattle.held.proofs.answer_held.Tie as tie
-use Rattle.held.proofs.answer_held.Reads as reads
-use Rattle.held.proofs.answer_held.Lts as lts
-use Rattle.io.proofs.write_all.Reads as write-all-reads
-use Rattle.queries.proofs.answer_line.Reads as answer-line-reads
 
 sub-answer-line : tie.Need-sub-answer-line
 sub-answer-line c = search needs

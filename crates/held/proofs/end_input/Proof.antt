@@ -4,9 +4,6 @@ use Rattle.held.proofs.Holding.{no-line, final-line}
 use borrow.Author.Needs.{needs}
 use Rattle.held.proofs.end_input.Statement.{statement}
 use Rattle.held.proofs.end_input.Tie as tie
-use Rattle.held.proofs.end_input.Reads as reads
-use Rattle.held.proofs.end_input.Lts as lts
-use Rattle.held.proofs.answer_held.Reads as answer-held-reads
 
 answer-held-requires : tie.Need-answer-held-requires
 answer-held-requires c κs = search needs

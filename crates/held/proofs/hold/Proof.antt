@@ -4,8 +4,6 @@ use Rattle.held.proofs.Holding.{stored, full}
 use borrow.Author.Needs.{needs}
 use Rattle.held.proofs.hold.Statement.{statement}
 use Rattle.held.proofs.hold.Tie as tie
-use Rattle.held.proofs.hold.Reads as reads
-use Rattle.held.proofs.hold.Lts as lts
 
 slice-write-line : tie.Need-slice-write-line
 slice-write-line c = search needs

@@ -5,10 +5,6 @@ use Rattle.held.proofs.Holding.{line-ended, line-answered, line-longer,
 use borrow.Author.Needs.{needs}
 use Rattle.held.proofs.take_byte.Statement.{statement}
 use Rattle.held.proofs.take_byte.Tie as tie
-use Rattle.held.proofs.take_byte.Reads as reads
-use Rattle.held.proofs.take_byte.Lts as lts
-use Rattle.held.proofs.answer_held.Reads as answer-held-reads
-use Rattle.held.proofs.hold.Reads as hold-reads
 
 answer-held-requires : tie.Need-answer-held-requires
 answer-held-requires c κs = search needs

@@ -9,9 +9,6 @@ use Rattle.held.proofs.Holding.{no-byte, next-byte, all-bytes}
 use borrow.Author.Needs.{needs}
 use Rattle.held.proofs.take_bytes.Statement.{statement}
 use Rattle.held.proofs.take_bytes.Tie as tie
-use Rattle.held.proofs.take_bytes.Reads as reads
-use Rattle.held.proofs.take_bytes.Lts as lts
-use Rattle.held.proofs.take_byte.Reads as take-byte-reads
 
 abbrev Inv-loop : tie.InvT-loop
 Inv-loop bytes line₀ held days₀ out₀ now-held₀ i₀ line days out now-held i =

@@ -4,9 +4,6 @@ use Rattle.lines.proofs.Printing.{too-short, whole-text}
 use borrow.Author.Needs.{needs}
 use Rattle.lines.proofs.hand_over.Statement.{statement}
 use Rattle.lines.proofs.hand_over.Tie as tie
-use Rattle.lines.proofs.hand_over.Reads as reads
-use Rattle.lines.proofs.hand_over.Lts as lts
-use Rattle.fields.proofs.put_bytes.Reads as put-bytes-reads
 
 returns : tie.Need-returns
 returns c = too-short (c .before .before .before .args .s .now) (c .before .before .before .args .out .now) (omega (arith, c .if1 .taken))

@@ -9,10 +9,6 @@ use Rattle.lines.proofs.Printing.{made, made-size, not-there, there}
 use borrow.Author.Needs.{needs}
 use Rattle.lines.proofs.print_day.Statement.{statement}
 use Rattle.lines.proofs.print_day.Tie as tie
-use Rattle.lines.proofs.print_day.Reads as reads
-use Rattle.lines.proofs.print_day.Lts as lts
-use Rattle.lines.proofs.hand_over.Reads as hand-over-reads
-use Rattle.lines.proofs.put_day.Reads as put-day-reads
 
 returns : tie.Need-returns
 unfolding dayItemAt

@@ -9,10 +9,6 @@ use Rattle.lines.proofs.Printing.{made, made-size, not-there, there}
 use borrow.Author.Needs.{needs}
 use Rattle.lines.proofs.print_month.Statement.{statement}
 use Rattle.lines.proofs.print_month.Tie as tie
-use Rattle.lines.proofs.print_month.Reads as reads
-use Rattle.lines.proofs.print_month.Lts as lts
-use Rattle.lines.proofs.hand_over.Reads as hand-over-reads
-use Rattle.lines.proofs.put_month.Reads as put-month-reads
 
 returns : tie.Need-returns
 unfolding monthItemAt

@@ -9,10 +9,6 @@ use Rattle.lines.proofs.Printing.{made, made-size, not-there, there}
 use borrow.Author.Needs.{needs}
 use Rattle.lines.proofs.print_month_line.Statement.{statement}
 use Rattle.lines.proofs.print_month_line.Tie as tie
-use Rattle.lines.proofs.print_month_line.Reads as reads
-use Rattle.lines.proofs.print_month_line.Lts as lts
-use Rattle.lines.proofs.hand_over.Reads as hand-over-reads
-use Rattle.lines.proofs.put_month_line.Reads as put-month-line-reads
 
 returns : tie.Need-returns
 unfolding monthLineAt

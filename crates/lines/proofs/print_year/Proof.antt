@@ -11,11 +11,6 @@ use Rattle.lines.proofs.Printing.{made, made-size, not-there, there}
 use borrow.Author.Needs.{needs}
 use Rattle.lines.proofs.print_year.Statement.{statement}
 use Rattle.lines.proofs.print_year.Tie as tie
-use Rattle.lines.proofs.print_year.Reads as reads
-use Rattle.lines.proofs.print_year.Lts as lts
-use Rattle.lines.proofs.hand_over.Reads as hand-over-reads
-use Rattle.lines.proofs.put_year.Reads as put-year-reads
-use Rattle.rule.proofs.in_range.Reads as in-range-reads
 
 in-range-requires : tie.Need-in-range-requires
 in-range-requires c κs = search needs

@@ -7,11 +7,6 @@ use Rattle.lines.specs.Lines.{fieldsOfDay, dayItem}
 use borrow.Author.Needs.{needs}
 use Rattle.lines.proofs.put_day.Statement.{statement}
 use Rattle.lines.proofs.put_day.Tie as tie
-use Rattle.lines.proofs.put_day.Reads as reads
-use Rattle.lines.proofs.put_day.Lts as lts
-use Rattle.dates.proofs.date_at.Reads as date-at-reads
-use Rattle.fields.proofs.put_byte.Reads as put-byte-reads
-use Rattle.lines.proofs.put_day_fields.Reads as put-day-fields-reads
 
 date-at-requires : tie.Need-date-at-requires
 date-at-requires c κs = search needs

@@ -7,11 +7,6 @@ use Rattle.fields.proofs.Putting.{then, put-kept}
 use borrow.Author.Needs.{needs}
 use Rattle.lines.proofs.put_day_fields.Statement.{statement}
 use Rattle.lines.proofs.put_day_fields.Tie as tie
-use Rattle.lines.proofs.put_day_fields.Reads as reads
-use Rattle.lines.proofs.put_day_fields.Lts as lts
-use Rattle.fields.proofs.put_bytes.Reads as put-bytes-reads
-use Rattle.fields.proofs.put_next.Reads as put-next-reads
-use Rattle.lines.proofs.put_number_and_mark.Reads as put-number-and-mark-reads
 
 slice-aggregate-put-bytes : tie.Need-slice-aggregate-put-bytes
 slice-aggregate-put-bytes c = search needs

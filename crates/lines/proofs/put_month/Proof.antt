@@ -5,10 +5,6 @@ use Rattle.lines.specs.Lines.{monthItem, monthLined}
 use borrow.Author.Needs.{needs}
 use Rattle.lines.proofs.put_month.Statement.{statement}
 use Rattle.lines.proofs.put_month.Tie as tie
-use Rattle.lines.proofs.put_month.Reads as reads
-use Rattle.lines.proofs.put_month.Lts as lts
-use Rattle.fields.proofs.put_bytes.Reads as put-bytes-reads
-use Rattle.lines.proofs.put_month_line.Reads as put-month-line-reads
 
 slice-aggregate-put-bytes : tie.Need-slice-aggregate-put-bytes
 slice-aggregate-put-bytes c = search needs

@@ -6,12 +6,6 @@ use Rattle.fields.proofs.Putting.{then}
 use borrow.Author.Needs.{needs}
 use Rattle.lines.proofs.put_month_fields.Statement.{statement}
 use Rattle.lines.proofs.put_month_fields.Tie as tie
-use Rattle.lines.proofs.put_month_fields.Reads as reads
-use Rattle.lines.proofs.put_month_fields.Lts as lts
-use Rattle.fields.proofs.put_decimal.Reads as put-decimal-reads
-use Rattle.fields.proofs.put_mark.Reads as put-mark-reads
-use Rattle.fields.proofs.put_next.Reads as put-next-reads
-use Rattle.lines.proofs.put_number_and_mark.Reads as put-number-and-mark-reads
 
 put-decimal-requires : tie.Need-put-decimal-requires
 put-decimal-requires c κs = search needs

@@ -7,11 +7,6 @@ use Rattle.lines.specs.Lines.{fieldsOfMonth, monthLined}
 use borrow.Author.Needs.{needs}
 use Rattle.lines.proofs.put_month_line.Statement.{statement}
 use Rattle.lines.proofs.put_month_line.Tie as tie
-use Rattle.lines.proofs.put_month_line.Reads as reads
-use Rattle.lines.proofs.put_month_line.Lts as lts
-use Rattle.facts.proofs.month_facts_at.Reads as month-facts-at-reads
-use Rattle.fields.proofs.put_byte.Reads as put-byte-reads
-use Rattle.lines.proofs.put_month_fields.Reads as put-month-fields-reads
 
 month-facts-at-requires : tie.Need-month-facts-at-requires
 month-facts-at-requires c κs = search needs

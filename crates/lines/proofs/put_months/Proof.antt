@@ -1,7 +1,6 @@
 -- `lines::put_months` meets its contract. The invariant: the lines of the first i months are put. Assumes nothing.
-use Prim.Native.Nat.{ℕ, _+_, _-_, _*_, _≤_}
+use Prim.Native.Nat.{ℕ, _-_, _*_, _≤_}
 use native.Mathlib.Omega.{arith}
-use borrow.Author.Needs.{needs}
 use mathlib.Core.Path.{_≡_, ap}
 use mathlib.Core.Bool.{true}
 use Rattle.rule.specs.Lists.{those}
@@ -10,9 +9,6 @@ use Rattle.fields.proofs.Putting.{put-kept, wide, put-none, put-as, each-count,
 use Rattle.lines.specs.Lines.{monthLined}
 use Rattle.lines.proofs.put_months.Statement.{statement}
 use Rattle.lines.proofs.put_months.Tie as tie
-use Rattle.lines.proofs.put_months.Reads as reads
-use Rattle.lines.proofs.put_months.Lts as lts
-use Rattle.lines.proofs.put_month_line.Reads as put-month-line-reads
 
 abbrev Inv-loop : tie.InvT-loop
 Inv-loop first months out₀ at to₀ i₀ out to i =

@@ -8,12 +8,6 @@ use Rattle.fields.proofs.Putting.{then, put-as}
 use borrow.Author.Needs.{needs}
 use Rattle.lines.proofs.put_number_and_mark.Statement.{statement}
 use Rattle.lines.proofs.put_number_and_mark.Tie as tie
-use Rattle.lines.proofs.put_number_and_mark.Reads as reads
-use Rattle.lines.proofs.put_number_and_mark.Lts as lts
-use Rattle.fields.proofs.put_mark.Reads as put-mark-reads
-use Rattle.fields.proofs.put_next.Reads as put-next-reads
-use Rattle.rule.proofs.leap_mark.Reads as leap-mark-reads
-use Rattle.rule.proofs.number_of.Reads as number-of-reads
 
 number-of-requires : tie.Need-number-of-requires
 number-of-requires c κs = search needs

@@ -6,12 +6,6 @@ use Rattle.lines.specs.Lines.{refusedLine}
 use borrow.Author.Needs.{needs}
 use Rattle.lines.proofs.put_refused.Statement.{statement}
 use Rattle.lines.proofs.put_refused.Tie as tie
-use Rattle.lines.proofs.put_refused.Reads as reads
-use Rattle.lines.proofs.put_refused.Lts as lts
-use Rattle.fields.proofs.put_byte.Reads as put-byte-reads
-use Rattle.fields.proofs.put_bytes.Reads as put-bytes-reads
-use Rattle.fields.proofs.put_next.Reads as put-next-reads
-use Rattle.rule.proofs.reason_number.Reads as reason-number-reads
 
 slice-aggregate-put-bytes : tie.Need-slice-aggregate-put-bytes
 slice-aggregate-put-bytes c = search needs

@@ -10,12 +10,6 @@ use Rattle.lines.proofs.Joining.{months-listed}
 use borrow.Author.Needs.{needs}
 use Rattle.lines.proofs.put_year.Statement.{statement}
 use Rattle.lines.proofs.put_year.Tie as tie
-use Rattle.lines.proofs.put_year.Reads as reads
-use Rattle.lines.proofs.put_year.Lts as lts
-use Rattle.facts.proofs.year_facts_at.Reads as year-facts-at-reads
-use Rattle.fields.proofs.put_byte.Reads as put-byte-reads
-use Rattle.lines.proofs.put_months.Reads as put-months-reads
-use Rattle.lines.proofs.put_year_fields.Reads as put-year-fields-reads
 
 year-facts-at-requires : tie.Need-year-facts-at-requires
 year-facts-at-requires c κs = search needs

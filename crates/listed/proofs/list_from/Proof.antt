@@ -5,13 +5,6 @@ use Rattle.listed.proofs.Paper.{taken-itself}
 use borrow.Author.Needs.{needs}
 use Rattle.listed.proofs.list_from.Statement.{statement}
 use Rattle.listed.proofs.list_from.Tie as tie
-use Rattle.listed.proofs.list_from.Reads as reads
-use Rattle.listed.proofs.list_from.Lts as lts
-use Rattle.io.proofs.read_full.Reads as read-full-reads
-use Rattle.io.proofs.write_all.Reads as write-all-reads
-use Rattle.listed.proofs.list_taken.Reads as list-taken-reads
-use Rattle.listed.proofs.room.Reads as room-reads
-use Rattle.listed.proofs.sheet_room.Reads as sheet-room-reads
 
 sheet-room-requires : tie.Need-sheet-room-requires
 sheet-room-requires c κs = search needs

@@ -1,7 +1,6 @@
 -- `listed::list_sheet` meets its contract: `REFUSED` and the number, or the lists' listing. Assumes nothing.
 use native.Mathlib.Omega.{arith}
 use mathlib.Core.Path.{ap, sym, subst, _∙_}
-use lib.ListN.{length}
 use Rattle.sheet.specs.Paper.{GoodLists}
 use Rattle.fields.proofs.Putting.{wide, put-as}
 use Rattle.lines.specs.Lines.{printed, listingOf, listing}
@@ -9,11 +8,6 @@ use Rattle.listed.proofs.Reading.{sheet-says, years-there, months-there
 use borrow.Author.Needs.{needs}
 use Rattle.listed.proofs.list_sheet.Statement.{statement}
 use Rattle.listed.proofs.list_sheet.Tie as tie
-use Rattle.listed.proofs.list_sheet.Reads as reads
-use Rattle.listed.proofs.list_sheet.Lts as lts
-use Rattle.listed.proofs.put_lists.Reads as put-lists-reads
-use Rattle.lines.proofs.put_refused.Reads as put-refused-reads
-use Rattle.sheet.proofs.read_sheet.Reads as read-sheet-reads
 
 slice-aggregate-read-sheet : tie.Need-slice-aggregate-read-sheet
 slice-aggregate-read-sheet c = search needs

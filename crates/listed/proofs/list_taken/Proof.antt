@@ -9,9 +9,6 @@ use Rattle.listed.proofs.Paper.{taken-listing}
 use borrow.Author.Needs.{needs}
 use Rattle.listed.proofs.list_taken.Statement.{statement}
 use Rattle.listed.proofs.list_taken.Tie as tie
-use Rattle.listed.proofs.list_taken.Reads as reads
-use Rattle.listed.proofs.list_taken.Lts as lts
-use Rattle.listed.proofs.list_sheet.Reads as list-sheet-reads
 
 sub-list-sheet : tie.Need-sub-list-sheet
 sub-list-sheet c = search needs

@@ -7,9 +7,6 @@ use Rattle.lines.specs.Lines.{dayItem}
 use Rattle.listed.proofs.Items.{ItemsPut, no-item, room-for-item, next-item, all-items}
 use Rattle.listed.proofs.put_day_items.Statement.{statement}
 use Rattle.listed.proofs.put_day_items.Tie as tie
-use Rattle.listed.proofs.put_day_items.Reads as reads
-use Rattle.listed.proofs.put_day_items.Lts as lts
-use Rattle.lines.proofs.put_day.Reads as put-day-reads
 
 abbrev Inv-loop : tie.InvT-loop
 Inv-loop days out₀ at to₀ i₀ out to i = ItemsPut 61 dayItem days out₀ at out to i

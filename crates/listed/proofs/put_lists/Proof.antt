@@ -5,11 +5,6 @@ use Rattle.lines.specs.Lines.{listingOf}
 use borrow.Author.Needs.{needs}
 use Rattle.listed.proofs.put_lists.Statement.{statement}
 use Rattle.listed.proofs.put_lists.Tie as tie
-use Rattle.listed.proofs.put_lists.Reads as reads
-use Rattle.listed.proofs.put_lists.Lts as lts
-use Rattle.listed.proofs.put_day_items.Reads as put-day-items-reads
-use Rattle.listed.proofs.put_month_items.Reads as put-month-items-reads
-use Rattle.listed.proofs.put_years.Reads as put-years-reads
 
 put-years-requires : tie.Need-put-years-requires
 put-years-requires c κs = search needs

@@ -7,9 +7,6 @@ use Rattle.lines.specs.Lines.{monthItem}
 use Rattle.listed.proofs.Items.{ItemsPut, no-item, room-for-item, next-item, all-items}
 use Rattle.listed.proofs.put_month_items.Statement.{statement}
 use Rattle.listed.proofs.put_month_items.Tie as tie
-use Rattle.listed.proofs.put_month_items.Reads as reads
-use Rattle.listed.proofs.put_month_items.Lts as lts
-use Rattle.lines.proofs.put_month.Reads as put-month-reads
 
 abbrev Inv-loop : tie.InvT-loop
 Inv-loop months out₀ at to₀ i₀ out to i = ItemsPut 54 monthItem months out₀ at out to i

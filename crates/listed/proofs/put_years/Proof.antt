@@ -7,9 +7,6 @@ use Rattle.lines.specs.Lines.{yearBlock}
 use Rattle.listed.proofs.Items.{ItemsPut, no-item, room-for-item, next-item, all-items}
 use Rattle.listed.proofs.put_years.Statement.{statement}
 use Rattle.listed.proofs.put_years.Tie as tie
-use Rattle.listed.proofs.put_years.Reads as reads
-use Rattle.listed.proofs.put_years.Lts as lts
-use Rattle.lines.proofs.put_year.Reads as put-year-reads
 
 abbrev Inv-loop : tie.InvT-loop
 Inv-loop years out₀ at to₀ i₀ out to i = ItemsPut 674 yearBlock years out₀ at out to i

@@ -14,14 +14,6 @@ use Rattle.queries.proofs.Choosing.{in-line, held, day-chosen, date-cho
 use borrow.Author.Needs.{needs}
 use Rattle.queries.proofs.answer_days.Statement.{statement}
 use Rattle.queries.proofs.answer_days.Tie as tie
-use Rattle.queries.proofs.answer_days.Reads as reads
-use Rattle.queries.proofs.answer_days.Lts as lts
-use Rattle.asked.proofs.is_like.Reads as is-like-reads
-use Rattle.founds.proofs.answer_date.Reads as answer-date-reads
-use Rattle.founds.proofs.answer_day.Reads as answer-day-reads
-use Rattle.founds.proofs.answer_move.Reads as answer-move-reads
-use Rattle.queries.proofs.move_by.Reads as move-by-reads
-use Rattle.queries.proofs.put_unreadable.Reads as put-unreadable-reads
 
 slice-aggregate-is-like : tie.Need-slice-aggregate-is-like
 slice-aggregate-is-like c = search needs

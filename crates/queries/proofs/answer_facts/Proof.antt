@@ -1,22 +1,12 @@
 -- `queries::answer_facts` meets its contract: the tests in their order. Assumes nothing.
 use native.Mathlib.Omega.{arith}
 use mathlib.Core.Path.{sym, _∙_}
-use Rattle.asked.proofs.Scanning.{as-long}
 use Rattle.fields.specs.Fields.{word}
-use Rattle.fields.proofs.Putting.{put-as, wide}
+use Rattle.fields.proofs.Putting.{put-as}
 use Rattle.queries.proofs.Choosing.{in-line, held, place-chosen, year-chosen, month-chosen, quarter-chosen, term-chosen, planets-chosen}
 use borrow.Author.Needs.{needs}
 use Rattle.queries.proofs.answer_facts.Statement.{statement}
 use Rattle.queries.proofs.answer_facts.Tie as tie
-use Rattle.queries.proofs.answer_facts.Reads as reads
-use Rattle.queries.proofs.answer_facts.Lts as lts
-use Rattle.answers.proofs.answer_month.Reads as answer-month-reads
-use Rattle.answers.proofs.answer_place.Reads as answer-place-reads
-use Rattle.answers.proofs.answer_quarter.Reads as answer-quarter-reads
-use Rattle.answers.proofs.answer_term.Reads as answer-term-reads
-use Rattle.answers.proofs.answer_year.Reads as answer-year-reads
-use Rattle.asked.proofs.is_like.Reads as is-like-reads
-use Rattle.queries.proofs.answer_planets.Reads as answer-planets-reads
 
 slice-aggregate-is-like : tie.Need-slice-aggregate-is-like
 slice-aggregate-is-like c = search needs

@@ -11,12 +11,6 @@ use Rattle.queries.proofs.Choosing.{in-line, held, search-chosen, line-
 use borrow.Author.Needs.{needs}
 use Rattle.queries.proofs.answer_fields.Statement.{statement}
 use Rattle.queries.proofs.answer_fields.Tie as tie
-use Rattle.queries.proofs.answer_fields.Reads as reads
-use Rattle.queries.proofs.answer_fields.Lts as lts
-use Rattle.asked.proofs.is_like.Reads as is-like-reads
-use Rattle.founds.proofs.answer_search.Reads as answer-search-reads
-use Rattle.queries.proofs.answer_facts.Reads as answer-facts-reads
-use Rattle.queries.proofs.reading_in.Reads as reading-in-reads
 
 slice-aggregate-is-like : tie.Need-slice-aggregate-is-like
 slice-aggregate-is-like c = search needs

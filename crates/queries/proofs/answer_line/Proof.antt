@@ -8,11 +8,6 @@ use Rattle.queries.proofs.Laid.{in-room, laid, laid-many, answered, too
 use borrow.Author.Needs.{needs}
 use Rattle.queries.proofs.answer_line.Statement.{statement}
 use Rattle.queries.proofs.answer_line.Tie as tie
-use Rattle.queries.proofs.answer_line.Reads as reads
-use Rattle.queries.proofs.answer_line.Lts as lts
-use Rattle.asked.proofs.read_fields.Reads as read-fields-reads
-use Rattle.queries.proofs.answer_fields.Reads as answer-fields-reads
-use Rattle.queries.proofs.put_unreadable.Reads as put-unreadable-reads
 
 put-unreadable-requires : tie.Need-put-unreadable-requires
 put-unreadable-requires c κs = search needs

@@ -7,12 +7,6 @@ use Rattle.queries.proofs.Choosing.{in-line, held, conjunction-chosen, 
 use borrow.Author.Needs.{needs}
 use Rattle.queries.proofs.answer_planets.Statement.{statement}
 use Rattle.queries.proofs.answer_planets.Tie as tie
-use Rattle.queries.proofs.answer_planets.Reads as reads
-use Rattle.queries.proofs.answer_planets.Lts as lts
-use Rattle.answers.proofs.answer_conjunction.Reads as answer-conjunction-reads
-use Rattle.answers.proofs.answer_next.Reads as answer-next-reads
-use Rattle.asked.proofs.is_like.Reads as is-like-reads
-use Rattle.queries.proofs.answer_days.Reads as answer-days-reads
 
 slice-aggregate-is-like : tie.Need-slice-aggregate-is-like
 slice-aggregate-is-like c = search needs

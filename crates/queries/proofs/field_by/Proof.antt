@@ -3,8 +3,6 @@ use mathlib.Core.Path.{refl}
 use borrow.Author.Tests.{ne-eqb}
 use Rattle.queries.proofs.field_by.Statement.{statement}
 use Rattle.queries.proofs.field_by.Tie as tie
-use Rattle.queries.proofs.field_by.Reads as reads
-use Rattle.queries.proofs.field_by.Lts as lts
 
 returns : tie.Need-returns
 returns c = rw (c .if1 .taken) refl

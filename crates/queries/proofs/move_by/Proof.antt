@@ -4,8 +4,6 @@ use Rattle.queries.proofs.Choosing.{plus, fits-minus, minus}
 use borrow.Author.Needs.{needs}
 use Rattle.queries.proofs.move_by.Statement.{statement}
 use Rattle.queries.proofs.move_by.Tie as tie
-use Rattle.queries.proofs.move_by.Reads as reads
-use Rattle.queries.proofs.move_by.Lts as lts
 
 cast-result : tie.Need-cast-result
 cast-result c = search needs

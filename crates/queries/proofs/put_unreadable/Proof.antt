@@ -4,9 +4,6 @@ use Rattle.queries.specs.Queries.{unreadable}
 use borrow.Author.Needs.{needs}
 use Rattle.queries.proofs.put_unreadable.Statement.{statement}
 use Rattle.queries.proofs.put_unreadable.Tie as tie
-use Rattle.queries.proofs.put_unreadable.Reads as reads
-use Rattle.queries.proofs.put_unreadable.Lts as lts
-use Rattle.fields.proofs.put_bytes.Reads as put-bytes-reads
 
 slice-aggregate-put-bytes : tie.Need-slice-aggregate-put-bytes
 slice-aggregate-put-bytes c = search needs

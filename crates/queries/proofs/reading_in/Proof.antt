@@ -3,9 +3,6 @@ use mathlib.Core.Path.{refl}
 use borrow.Author.Needs.{needs}
 use Rattle.queries.proofs.reading_in.Statement.{statement}
 use Rattle.queries.proofs.reading_in.Tie as tie
-use Rattle.queries.proofs.reading_in.Reads as reads
-use Rattle.queries.proofs.reading_in.Lts as lts
-use Rattle.queries.proofs.field_by.Reads as field-by-reads
 
 shared-slice-read-field-by : tie.Need-shared-slice-read-field-by
 shared-slice-read-field-by c = search needs

@@ -1,8 +1,7 @@
 -- `rule::place_in` meets its contract. The invariant: the day is on or after the list's entry at `low`, and before that at
 -- `high`, 940 being the next bu's head. Assumes nothing.
 use Prim.Native.Nat.{ℕ, _+_, _-_, _/_, _≤_, _<_}
-use mathlib.Core.Path.{_≡_, ap, sym, _∙_}
-use mathlib.Core.List.{List}
+use mathlib.Core.Path.{_≡_, ap, sym}
 use denote.Ref.{now}
 use lib.ListN.{getD}
 use native.Mathlib.Omega.{arith}
@@ -10,8 +9,6 @@ use Rattle.rule.specs.Rule.{monthStart}
 use Rattle.rule.proofs.Months.{of-day-only}
 use Rattle.rule.proofs.place_in.Statement.{statement}
 use Rattle.rule.proofs.place_in.Tie as tie
-use Rattle.rule.proofs.place_in.Reads as reads
-use Rattle.rule.proofs.place_in.Lts as lts
 
 abbrev Inv-loop : tie.InvT-loop
 Inv-loop list d low₀ high₀ low high = (low < high) × (high ≤ 940) × (monthStart low ≤ d) × (d < monthStart high)

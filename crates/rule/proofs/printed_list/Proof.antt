@@ -2,7 +2,6 @@
 use mathlib.Core.Path.{refl}
 use Rattle.rule.specs.Rule.{monthStart}
 use Rattle.rule.proofs.Lists.{table, entry}
-use borrow.Author.Needs.{needs}
 use Rattle.rule.proofs.printed_list.Statement.{statement}
 use Rattle.rule.proofs.printed_list.Tie as tie
 

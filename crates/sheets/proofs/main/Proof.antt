@@ -4,10 +4,6 @@ use native.Mathlib.Omega.{arith}
 use borrow.Author.Needs.{needs}
 use Rattle.sheets.proofs.main.Statement.{statement}
 use Rattle.sheets.proofs.main.Tie as tie
-use Rattle.sheets.proofs.main.Reads as reads
-use Rattle.sheets.proofs.main.Lts as lts
-use Rattle.os.proofs.arg_count.Reads as arg-count-reads
-use Rattle.sheets.proofs.list_one.Reads as list-one-reads
 
 abbrev Inv-loop : tie.InvT-loop
 Inv-loop n i₀ i = Unit {0}

@@ -4,10 +4,6 @@ use Rattle.lines.proofs.Printing.{made-size}
 use borrow.Author.Needs.{needs}
 use Rattle.show.proofs.words.Statement.{statement}
 use Rattle.show.proofs.words.Tie as tie
-use Rattle.show.proofs.words.Reads as reads
-use Rattle.show.proofs.words.Lts as lts
-use Rattle.show.proofs.text.Reads as text-reads
-use Rattle.words.proofs.put_words.Reads as put-words-reads
 
 slice-aggregate-put-words : tie.Need-slice-aggregate-put-words
 slice-aggregate-put-words c = search needs

@@ -6,9 +6,6 @@ use Rattle.lines.specs.Lines.{wordsOf}
 use borrow.Author.Needs.{needs}
 use Rattle.words.proofs.put_words.Statement.{statement}
 use Rattle.words.proofs.put_words.Tie as tie
-use Rattle.words.proofs.put_words.Reads as reads
-use Rattle.words.proofs.put_words.Lts as lts
-use Rattle.fields.proofs.put_bytes.Reads as put-bytes-reads
 
 enum-told : tie.Need-enum-told
 enum-told c = search needs

@@ -5,8 +5,6 @@ use native.Mathlib.Nat.{mul-le-mul}
 use borrow.Author.Needs.{needs}
 use Rattle.eras.proofs.conjunctions.all_parts.Statement.{statement}
 use Rattle.eras.proofs.conjunctions.all_parts.Tie as tie
-use Rattle.eras.proofs.conjunctions.all_parts.Reads as reads
-use Rattle.eras.proofs.conjunctions.all_parts.Lts as lts
 
 mul-result : tie.Need-mul-result
 mul-result c = let d : c .args .days ≤ 4294967295 = search needs in let m : c .args .divisor ≤ 4294967295 = search needs in record { fits = omega (arith, mul-le-mul d m) }

@@ -1,5 +1,5 @@
 -- `tray::pairs::seconds_of_two_big` meets its contract: so far as many as have started, and of a bu all 58. Assumes nothing.
-use Prim.Native.Nat.{ℕ, _≤_, _<_, _+_, _-_}
+use Prim.Native.Nat.{ℕ, _≤_, _+_, _-_}
 use native.Mathlib.Nat.{add-zero, zero-add}
 use native.Mathlib.Numerals.{add-one}
 use native.Mathlib.Omega.{arith}
@@ -7,7 +7,6 @@ use mathlib.Core.Path.{_≡_, refl, ap, sym, _∙_}
 use mathlib.Core.Logic.{⊎-elim}
 use mathlib.Core.Bool.{Bool, true, false}
 use lib.ListN.{length}
-use borrow.Author.Needs.{needs}
 use Rattle.rule.specs.Lists.{those}
 use Rattle.rule.specs.Rule.{pairStarts}
 use Rattle.rule.proofs.Lists.{bit, length-more, complement}
