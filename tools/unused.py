@@ -5,9 +5,9 @@ An import is needed where the name that it brings occurs in its file: an item by
 of a dot; what `ghost use` brings in a clause, what `use` of a .rt file brings in its code.
 A `pub` is needed of a function, type or constant of src/ where another crate names it (another file, if it does not stand in lib.rt),
 or if it is a type, where something else that is `pub` has it in its signature; the calls for C are needed as they are. It is needed of
-a definition of proofs/ where another file names it, or one of its constructors. Of specs/ every `pub` may stay, so that a statement's
-parts can be cited. A definition of specs/ or proofs/ is needed where it is named at all; needed as they are the proofs of statements,
-what a Proof.antt says of its function, and the figures of a Cases.antt.
+a definition of proofs/ where another file names it, or one of its constructors, or where it stands in a signature that is `pub`. Of
+specs/ every `pub` may stay, so that a statement's parts can be cited. A definition of specs/ or proofs/ is needed where it is named at
+all; needed as they are the proofs of statements, what a Proof.antt says of its function, and the figures of a Cases.antt.
 
 usage: tools/unused.py [CRATE..]          what is found, in these crates or in all; exit status 1 if something is
        tools/unused.py --fix [CRATE..]    take out the imports, and each `pub` of proofs/ (run `rt fmt` after it, and this again); the
@@ -27,7 +27,7 @@ CODE = re.compile(r"^pub (extern\s+)?(fn|struct|enum|const|static) (\w+)", re.M)
 NO_NAMES = {"module", "use", "mod", "mutual", "infixl", "infixr", "infix", "unfolding", "where", "axiom"}
 
 Import = collections.namedtuple("Import", "module item name ghost start line")
-Declaration = collections.namedtuple("Declaration", "line name is_pub indent constructors block")
+Declaration = collections.namedtuple("Declaration", "line name marks indent constructors block")
 
 
 def blank(found):
@@ -153,28 +153,26 @@ def named_in(file):
 
 
 def declarations(file):
-    """The definitions of an .antt file, not those of a `where` and no field; a data type has its constructors with it."""
-    inside, last, kind = None, None, None
+    """The definitions of an .antt file, not those of a `where` and no field: each with the lines of its signature, or of its fields or
+    constructors."""
+    last, kind = None, None
     for number, line in enumerate(file.body.splitlines(), 1):
         if not line.strip():
             continue
         indent = len(line) - len(line.lstrip())
-        if inside is not None and indent > inside:
-            last.block.add(number)
+        if last and indent > last.indent:
+            last.block.append(number)
             if kind == "data ":
                 last.constructors.extend(re.split(r"(?:^|\s):\s", line, maxsplit=1)[0].split())
             continue
-        inside, found = None, DECLARED.match(line)
+        last, found = None, DECLARED.match(line)
         if not found or found.group(3) in NO_NAMES:
             continue
         marks, kind, name = found.groups()
-        one = Declaration(number, name, "pub" in marks.split(), indent, [], {number})
-        if kind in ("record ", "data "):
-            inside, last = indent, one
-        elif not re.match(r"\s*:\s", line[found.end():]):
-            continue
-        if indent == 0 or one.is_pub:
-            yield one
+        if kind in ("record ", "data ") or re.match(r"\s*:\s", line[found.end():]):
+            last = Declaration(number, name, marks.split(), indent, [], [number])
+            if indent == 0 or "pub" in last.marks:
+                yield last
 
 
 def in_folder(file, folder):
@@ -196,6 +194,19 @@ def occurs_in_own(file, name, one):
     return name in rest or all(part in rest for part in ([name] if name.startswith("«") else name.split("_")) if part)
 
 
+def narrowed(file, found):
+    """Of `pub` definitions that only their own file names: those that stand in no signature of what stays `pub`. An `abbrev` may."""
+    lines = file.body.splitlines()
+    sections = re.findall(r"^[ \t]*module _ .*?\bwhere$", file.body, re.M | re.S)
+    stays = [one for one in declarations(file) if "pub" in one.marks and one not in found]
+    while True:
+        seen = atoms("\n".join(sections + [lines[number - 1] for one in stays for number in one.block]))
+        more = [one for one in found if "abbrev" not in one.marks and one not in stays and seen & {one.name, *one.constructors}]
+        if not more:
+            return [one for one in found if one not in stays]
+        stays += more
+
+
 def needless_definitions(files):
     """What is told of definitions: file, line, what; and the same of each `pub` that may go."""
     named = collections.defaultdict(set)
@@ -208,14 +219,16 @@ def needless_definitions(files):
     nowhere, narrow = [], []
     for file in antt:
         crate, module = module_of(file.path)
+        own = []
         for one in list(declarations(file)):
             names = [one.name, *one.constructors]
             if is_root(file, one.name, stated) or any(named[crate, module, name] - {file.path} for name in names):
                 continue
             if not any(occurs_in_own(file, name, one) for name in names):
                 nowhere.append((file, one.line, f"`{one.name}` is named nowhere"))
-            elif one.is_pub and in_folder(file, "proofs"):
-                narrow.append((file, one.line, f"`pub` of `{one.name}`: its own file alone names it"))
+            elif "pub" in one.marks and in_folder(file, "proofs"):
+                own.append(one)
+        narrow += [(file, one.line, f"`pub` of `{one.name}`: its own file alone names it") for one in narrowed(file, own)]
     return nowhere, narrow
 
 
