@@ -36,7 +36,7 @@ use Rattle.flat.specs.Flat.{givenLength, flatLength}
 use Rattle.capi.specs.Promises.{CPrinted}
 
 -- what is printed into any room is a text of n bytes, the first of which is no nought
-record Text (a : ℕ → Answer (List ℕ)) (n : ℕ) : Type 0 where
+pub record Text (a : ℕ → Answer (List ℕ)) (n : ℕ) : Type 0 where
   text : List ℕ
   into : (k : ℕ) → a k ≡ intoRoom k text
   has : length text ≡ n

@@ -57,7 +57,7 @@ fits xs old n new e h = omega (arith, ap length e, length-append xs (drop (lengt
 
 -- a sheet that was read: what it says, where the lists stand, and that its items are in their ranges
 module _ {s y m d y′ m′ d′ : List ℕ} {r : SheetCounts} (p : ReadSheet s y m d r y′ m′ d′) {c : Counted} (e : r ≡ Counts'.Is c) where
-  read : (l : Lists) × (readInto s (length y) (length m) (length d) ≡ is l) × (c ≡ counted l)
+  pub read : (l : Lists) × (readInto s (length y) (length m) (length d) ≡ is l) × (c ≡ counted l)
   read = made-of (readInto s (length y) (length m) (length d)) counted c (ap saidCounts (sym e) ∙ p .answer)
 
   stands : (part : Lists → List ℕ) (old new : List ℕ) → new ≡ afterwards (readInto s (length y) (length m) (length d)) part old → new ≡ placed (part (read .0)) old

@@ -86,7 +86,7 @@ date's-own-reasons y k l m n why h =
         absurd (let o : _≡_ {A = ℕ} 0 1 = cc in omega arith)
 
 -- a landing that is answered: the day, in range, whose date it is
-record Landed (z : ℤ) (r : Date) : Type 0 where
+pub record Landed (z : ℤ) (r : Date) : Type 0 where
   pub e : ℕ
   pub there : z ≡ pos e
   pub inside : DayInRange e

@@ -16,7 +16,7 @@ pub struct Numbers {
 }
 
 // One conjunction's days, as 004 works them out: so many days, and parts of a divisor.
-pub struct Figures {
+struct Figures {
     pub days: u16,
     pub parts: u16,
     pub divisor: u16,

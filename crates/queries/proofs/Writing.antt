@@ -45,11 +45,11 @@ use Rattle.told.specs.Answers.{dateText, moveText}
 use Rattle.queries.proofs.Choosing.{search-chosen}
 
 -- fields without spaces, and their kinds and values
-record Is (f : List ℕ) (k v : ℕ) : Type 0 where
+pub record Is (f : List ℕ) (k v : ℕ) : Type 0 where
   pub clear : NoSpace f
   pub reads : Reads f k v
 
-data Are : List (List ℕ) → List ℕ → List ℕ → Type 0 where
+pub data Are : List (List ℕ) → List ℕ → List ℕ → Type 0 where
   end : Are [] [] []
   next : {f : List ℕ} {k v : ℕ} {fs : List (List ℕ)} {ks vs : List ℕ} → Is f k v → Are fs ks vs → Are (f ∷ fs) (k ∷ ks) (v ∷ vs)
 

@@ -125,7 +125,7 @@ section-lies k s x y h = go (countRead (k .items) s) refl h
     go (refused-with r n) e h = absurd (let o : _≡_ {A = ℕ} 0 1 = cc in omega arith)
 
 -- a section found good, with n items: how it lies, and where the next one starts
-record Found (k : Section) (s : List ℕ) (n : ℕ) : Type 0 where
+pub record Found (k : Section) (s : List ℕ) (n : ℕ) : Type 0 where
   pub count : countOf s ≡ n
   pub few : n ≤ k .items
   pub long : 2 + k .width * n ≤ length s

@@ -86,7 +86,7 @@ both (refused r) d y h = absurd (let o : _≡_ {A = ℕ} 0 1 = cc in omega arith
 both (refused-with r n) d y h = absurd (let o : _≡_ {A = ℕ} 0 1 = cc in omega arith)
 
 -- the three sections of a good sheet
-record SheetLies (s : List ℕ) : Type 0 where
+pub record SheetLies (s : List ℕ) : Type 0 where
   pub years : SectionLies yearItems s
   pub months : SectionLies monthItems (monthsPart s)
   pub days : SectionLies dayItems (daysPart s)
@@ -241,7 +241,7 @@ each-written {A} l x y h =
     let b = both (sectionWritten monthItems (l .months) (is x)) _ y (sym (list-then monthItems (l .months) x (sectionWritten dayItems (l .days) (is x))) ∙ a .2) in
     (record { z₁ = a .0; z₂ = b .0; z₃ = y; years = a .1; months = b .1; days = b .2 }, list-few dayItems (l .days) x y (b .2) .1)
 
-record ListsFew (l : Lists) : Type 0 where
+pub record ListsFew (l : Lists) : Type 0 where
   pub years : length (l .years) ≤ 1000
   pub months : length (l .months) ≤ 1000
   pub days : length (l .days) ≤ 1000

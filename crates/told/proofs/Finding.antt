@@ -70,7 +70,7 @@ searched-not-twelve r first last e =
     other k n g = n (cc)
 
 -- what is known where a search is answered with n
-record AnsweredWith (r : Reading) (first last n : ℕ) : Type 0 where
+pub record AnsweredWith (r : Reading) (first last n : ℕ) : Type 0 where
   pub ends : last ≤ 14989859
   pub window : (first ≤ last) × (windowDays first last ≤ 27759)
   pub counted : n ≡ total r first last
