@@ -6,8 +6,8 @@ use mathlib.Core.Path.{_≡_, refl, ap, ap₂, sym, _∙_}
 use mathlib.Core.Bool.{Bool, true, false, not, _&&_, and-eq-true-iff}
 use mathlib.Core.List.{List, [], _∷_}
 use lib.Dec.{eqb}
-use lib.ListN.{length, getD, take, drop, drop-of-length-le, length-drop}
-use lib.Seq.{drop-cons, take-all}
+use lib.ListN.{length, getD, drop, drop-of-length-le}
+use lib.Seq.{drop-cons}
 use Rattle.rule.specs.Reasons.{within}
 use Rattle.fields.specs.Fields.{word}
 use Rattle.fields.specs.Paper.{valueFrom}
@@ -17,10 +17,6 @@ use Rattle.asked.specs.Asked.{firstField, allDigits, leads, isDecimal, a
 -- what is left of a list, from its next byte on
 rest : (s : List ℕ) (i : ℕ) → i < length s → drop i s ≡ getD s i 0 ∷ drop (i + 1) s
 rest s i h = drop-cons s i 0 h ∙ ap (λ (j : ℕ). getD s i 0 ∷ drop j s) (sym (add-one i))
-
--- a part up to the end
-pub to-the-end : (i : ℕ) (s : List ℕ) → take (length s - i) (drop i s) ≡ drop i s
-to-the-end i s = take-all (length s - i) (drop i s) (omega (arith, length-drop i s))
 
 -- the digits that are left
 pub digit-next : (s : List ℕ) (i : ℕ) → i < length s → within 48 57 (getD s i 0) ≡ true → allDigits (drop i s) ≡ allDigits (drop (i + 1) s)

@@ -181,7 +181,7 @@ module _ (y : ℕ) (l : 1 ≤ y) where
   solstice-exactly = exactly (IsSolsticeYear y) (solsticeYear y) solstice-there solstice-only
 
   -- its leap month
-  leap-there : LeapMonthOf y (leapMonth y)
+  pub leap-there : LeapMonthOf y (leapMonth y)
   leap-there = record { with-one = λ k n. (there k n, back k n); without = (none, λ h. leap-none y l (λ n i. ordinary h n i (leap n) refl)) }
     where
       there : (k n : ℕ) → leapMonth y ≡ With k n → InYear y n × IsMonth n (Leap k)

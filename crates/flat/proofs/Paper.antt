@@ -2,9 +2,9 @@
 use Prim.Native.Nat.{ℕ, zero, suc}
 use mathlib.Core.Path.{_≡_, refl, ap}
 use mathlib.Core.Bool.{Bool, true, false}
-use Rattle.rule.specs.Rule.{marked, numberOf, leapMark}
+use Rattle.rule.proofs.Leap.{month-again}
+use Rattle.rule.specs.Rule.{marked}
 use Rattle.rule.specs.declared.Month.{Month}
-use Rattle.rule.specs.declared.Month.the-variants.{Ordinary, Leap}
 use Rattle.rule.specs.declared.Quarter.{Quarter}
 use Rattle.rule.proofs.Answers.{one-to-one}
 use Rattle.dates.specs.declared.Date.{Date}
@@ -102,10 +102,6 @@ refusals-flat =
     }
 
 -- a month, and a leap month, from their parts
-month-back : (m : Month) → marked (leapMark m) (numberOf m) ≡ m
-month-back (Ordinary k) = refl
-month-back (Leap k) = refl
-
 abbrev leapFrom : Bool → ℕ → ℕ → LeapMonth
 leapFrom true k n = With k n
 leapFrom false k n = Without
@@ -192,13 +188,13 @@ pub nothing-lost : Paper.Nothing-lost
 nothing-lost =
     record {
       date = one-to-one givenDate dateFrom
-          (λ d. ap (λ (m : Month). record { year = d .year; month = m; «day_of_month» = d .«day_of_month»; «month_length» = d .«month_length»; «day_name» = d .«day_name»; «year_name» = d .«year_name» }) (month-back (d .month)));
+          (λ d. ap (λ (m : Month). record { year = d .year; month = m; «day_of_month» = d .«day_of_month»; «month_length» = d .«month_length»; «day_name» = d .«day_name»; «year_name» = d .«year_name» }) (month-again (d .month)));
       day = λ a b e. ap (λ (r : CDay). r .day) e;
       solstice = one-to-one givenSolstice solsticeFrom (λ s. refl);
       year = one-to-one givenYear yearFrom
           (λ y. ap (λ (l : LeapMonth). record { name = y .name; «first_month» = y .«first_month»; months = y .months; «leap_month» = l }) (leap-back (y .«leap_month»)));
       month = one-to-one givenMonth monthFrom
-          (λ f. ap (λ (m : Month). record { month = m; «first_day» = f .«first_day»; «small_remainder» = f .«small_remainder»; «month_length» = f .«month_length»; «first_name» = f .«first_name»; eclipse = f .eclipse }) (month-back (f .month)));
+          (λ f. ap (λ (m : Month). record { month = m; «first_day» = f .«first_day»; «small_remainder» = f .«small_remainder»; «month_length» = f .«month_length»; «first_name» = f .«first_name»; eclipse = f .eclipse }) (month-again (f .month)));
       quarter = one-to-one givenQuarter quarterFrom (λ q. refl);
       conjunction = one-to-one givenConjunction conjunctionFrom
           (λ c. ap (λ (p : Phase). record { day = c .day; parts = c .parts; divisor = c .divisor; phase = p }) (phase-back (c .phase)));

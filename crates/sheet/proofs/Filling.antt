@@ -8,7 +8,7 @@ use mathlib.Core.List.{List, [], _∷_, _++_}
 use lib.ListN.{length, getD, take, drop, set, length-append, length-set, length-drop, drop-of-length-le}
 use lib.Seq.{sets, length-sets, drop-cons}
 use Rattle.sheet.proofs.Numbers.{length-lay}
-use Rattle.sheet.proofs.Reading.{part-all}
+use Rattle.rule.proofs.Stores.{part-all}
 use Rattle.rule.proofs.Stores.{sets-append}
 use Rattle.sheet.specs.Sheet.{number, numbers, lay, layAll, yearItems, monthItems, dayItems, laySection, Lists, sheetOf}
 use Rattle.sheet.specs.declared.Section.{Section}

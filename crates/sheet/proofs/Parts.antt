@@ -7,7 +7,7 @@ use lib.ListN.{length, take, drop}
 use Rattle.sheet.specs.declared.Counted.{Counted}
 use Rattle.sheet.specs.Sheet.{numbers, countOf, leftAfter, itemsOf, monthsPart, daysPart, listsIn}
 use Rattle.sheet.specs.Steps.{Filling}
-use Rattle.sheet.proofs.Reading.{part-all}
+use Rattle.rule.proofs.Stores.{part-all}
 
 module _ {s : List ℕ} {y m d : ℕ} {c : Counted} (a : Filling s y m d c) where
   year-count : c .years ≡ countOf s

@@ -7,16 +7,12 @@ use mathlib.Core.Bool.{Bool, true, false}
 use mathlib.Core.List.{List}
 use lib.Dec.{leb}
 use lib.ListN.{length, take, drop, length-drop}
-use lib.Seq.{take-all}
 use borrow.Author.Tests.{leb-true, le-leb, lt-leb}
 use Rattle.rule.specs.Reasons.{Answer, is, refused, refused-with, guard, andThen, reasonNumber}
 use Rattle.rule.proofs.Answers.{holds-all, stops, passes}
+use Rattle.rule.proofs.Stores.{part-all}
 use Rattle.sheet.specs.declared.Section.{Section}
 use Rattle.sheet.specs.Sheet.{number, itemHolds, itemsRead, countOf, countRead, sectionRead, leftAfter, dayItems, daysRead}
-
--- what a part of a slice from a on comes to
-pub part-all : (a : ℕ) (s : List ℕ) → take (length s - a) (drop a s) ≡ drop a s
-part-all a s = take-all (length s - a) (drop a s) (omega (arith, length-drop a s))
 
 -- the next of m items: not whole, out of range, or good
 module _ {A : Type 0} (k : Section) (m j : ℕ) (e : m ≡ suc j) (t : List ℕ) (a : Answer A) where

@@ -34,7 +34,7 @@ use Rattle.facts.specs.Facts.{
   termAt,
 }
 use Rattle.facts.proofs.Given as Given
-use Rattle.facts.proofs.Leaps.{leap-found, leap-none}
+use Rattle.facts.proofs.Exactly.{leap-there}
 use Rattle.planets.specs.Planets.{Planet, numbersOf, conjunctionDay, phase, conjunctionOf, conjunctionAt, nextCount, nextOf, nextAt}
 use Rattle.planets.specs.Paper.{IsConjunction}
 use Rattle.planets.proofs.Paper as Planets
@@ -69,11 +69,11 @@ pub year-line-literally : Paper.Year-line-literally
 unfolding yearText yearFacts
 year-line-literally =
     record {
-      with-leap = λ y n h i e.
+      with-leap = λ y k n h i e.
           ap (told (yearLine y)) (Given.year-given y h)
-          ∙ year-with y (With _ n) (leap-found y n i e);
+          ∙ year-with y (With k n) (leap-there y (h .0) .with-one k n .1 (i, e));
       without = λ y h none.
-          ap (told (yearLine y)) (Given.year-given y h) ∙ year-with y Without (leap-none y (h .0) none);
+          ap (told (yearLine y)) (Given.year-given y h) ∙ year-with y Without (leap-there y (h .0) .without .1 none);
     }
 
 pub month-line-literally : Paper.Month-line-literally

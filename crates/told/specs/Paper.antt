@@ -3,7 +3,7 @@
 use Prim.Native.Nat.{ℕ, _+_, _-_, _*_, _≤_}
 use mathlib.Core.Path.{_≡_}
 use mathlib.Core.Logic.{_↔_, _⊎_}
-use mathlib.Core.Bool.{Bool, true, false}
+use mathlib.Core.Bool.{Bool}
 use mathlib.Core.List.{List, [], _∷_, _++_}
 use lib.IntN.{ℤ, pos, _+ℤ_}
 use lib.ListN.{length}
@@ -26,6 +26,8 @@ use Rattle.rule.specs.Rule.{
   monthNumber,
   eclipse,
 }
+use Rattle.rule.specs.Paper.{NoMidTerm, IsMonth}
+use Rattle.rule.specs.declared.Month.the-variants.{Leap}
 use Rattle.rule.specs.Reasons.{Answer, refused, reasonNumber}
 use Rattle.rule.specs.declared.Reason.{Reason}
 use Rattle.dates.specs.Dates.{dateAt, dayOfDate}
@@ -94,8 +96,8 @@ yearWith y last =
     ++ (10 ∷ [])
 
 pub record Year-line-literally : Type 0 where
-  pub with-leap : (y n : ℕ) → YearInRange y → InYear y n → leap n ≡ true → yearText y ≡ yearWith y (decimal (monthNumber n) ++ (32 ∷ decimal n))
-  pub without : (y : ℕ) → YearInRange y → ((n : ℕ) → InYear y n → leap n ≡ false) → yearText y ≡ yearWith y (word "- -")
+  pub with-leap : (y k n : ℕ) → YearInRange y → InYear y n → IsMonth n (Leap k) → yearText y ≡ yearWith y (decimal k ++ (32 ∷ decimal n))
+  pub without : (y : ℕ) → YearInRange y → ((n : ℕ) → InYear y n → NoMidTerm n → ⊥) → yearText y ≡ yearWith y (word "- -")
 
 -- "`MONTH count number mark first-name length eclipse first-day small-remainder` (eclipse `E` or `-`)"
 abbrev pub Month-line-literally : Type 0

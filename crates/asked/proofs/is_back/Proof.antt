@@ -2,7 +2,7 @@
 use mathlib.Core.Path.{ap, _∙_}
 use Rattle.fields.specs.Fields.{word}
 use Rattle.asked.specs.Asked.{isDecimal, like}
-use Rattle.asked.proofs.Scanning.{to-the-end}
+use Rattle.rule.proofs.Stores.{part-all}
 use Rattle.asked.proofs.Scanning.{empty-back, back-made}
 use borrow.Author.Needs.{needs}
 use Rattle.asked.proofs.is_back.Statement.{statement}
@@ -42,7 +42,7 @@ is-decimal-requires : tie.Need-is-decimal-requires
 is-decimal-requires c κs = search needs
 
 returns-2 : tie.Need-returns-2
-returns-2 c = back-made (c .before .before .before .before .before .before .before .before .args .s .now) (c .before .before .before .before .before .before .if1 .left) (c .before .before .is-like .result) (c .is-decimal .result) (c .before .before .is-like .ensures ∙ ap (like (word "0")) (to-the-end 1 (c .before .before .before .before .before .before .before .before .args .s .now))) (c .is-decimal .ensures ∙ ap isDecimal (to-the-end 1 (c .before .before .before .before .before .before .before .before .args .s .now)))
+returns-2 c = back-made (c .before .before .before .before .before .before .before .before .args .s .now) (c .before .before .before .before .before .before .if1 .left) (c .before .before .is-like .result) (c .is-decimal .result) (c .before .before .is-like .ensures ∙ ap (like (word "0")) (part-all 1 (c .before .before .before .before .before .before .before .before .args .s .now))) (c .is-decimal .ensures ∙ ap isDecimal (part-all 1 (c .before .before .before .before .before .before .before .before .args .s .now)))
 
 pub is-back-spec : {M : Type 1} → statement M
 is-back-spec =

@@ -5,7 +5,8 @@ use mathlib.Core.List.{List}
 use Rattle.fields.specs.Paper.{valueFrom}
 use Rattle.capped.specs.Capped.{capped}
 use Rattle.asked.specs.Asked.{fieldRead}
-use Rattle.asked.proofs.Scanning.{to-the-end, back-long}
+use Rattle.rule.proofs.Stores.{part-all}
+use Rattle.asked.proofs.Scanning.{back-long}
 use borrow.Author.Needs.{needs}
 use Rattle.asked.proofs.read_field.Statement.{statement}
 use Rattle.asked.proofs.read_field.Tie as tie
@@ -37,7 +38,7 @@ value-of-requires-2 c κs = search needs
 
 returns-2 : tie.Need-returns-2
 unfolding fieldRead
-returns-2 c = rw (sym (c .before .before .before .before .before .is-decimal .ensures) ∙ c .before .before .before .before .if1 .left, sym (c .before .before .before .is-back .ensures) ∙ c .before .before .if2 .taken) (ap (λ (v : ℕ). record { kind = 98; value = v }) (c .value-of2 .ensures ∙ ap (λ (t : List ℕ). capped (valueFrom 0 t)) (to-the-end 1 (c .before .before .before .before .before .before .before .args .s .now))))
+returns-2 c = rw (sym (c .before .before .before .before .before .is-decimal .ensures) ∙ c .before .before .before .before .if1 .left, sym (c .before .before .before .is-back .ensures) ∙ c .before .before .if2 .taken) (ap (λ (v : ℕ). record { kind = 98; value = v }) (c .value-of2 .ensures ∙ ap (λ (t : List ℕ). capped (valueFrom 0 t)) (part-all 1 (c .before .before .before .before .before .before .before .args .s .now))))
 
 slice-aggregate-is-like : tie.Need-slice-aggregate-is-like
 slice-aggregate-is-like c = search needs

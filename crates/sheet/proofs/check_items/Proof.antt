@@ -3,7 +3,8 @@ use borrow.Author.Tests.{leb-true}
 use mathlib.Core.List.{List}
 use Prim.Native.Nat.{_+_}
 use borrow.Author.Needs.{needs}
-use Rattle.sheet.proofs.Reading.{part-all, item-cut, item-out, item-good, no-item}
+use Rattle.rule.proofs.Stores.{part-all}
+use Rattle.sheet.proofs.Reading.{item-cut, item-out, item-good, no-item}
 use Prim.Native.Nat.{ℕ, _-_, _≤_}
 use native.Mathlib.Omega.{arith}
 use mathlib.Core.Path.{_≡_, ap, sym, _∙_}

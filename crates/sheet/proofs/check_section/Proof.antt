@@ -5,7 +5,8 @@ use mathlib.Core.List.{List}
 use Rattle.rule.specs.Reasons.{is, reasonNumber}
 use Rattle.sheet.specs.Sheet.{itemsRead, sectionRead}
 use Rattle.sheet.specs.Promises.{saidHowMany}
-use Rattle.sheet.proofs.Reading.{part-all, count-is, section-refused, section-counted}
+use Rattle.rule.proofs.Stores.{part-all}
+use Rattle.sheet.proofs.Reading.{count-is, section-refused, section-counted}
 use borrow.Author.Needs.{needs}
 use Rattle.sheet.proofs.check_section.Statement.{statement}
 use Rattle.sheet.proofs.check_section.Tie as tie

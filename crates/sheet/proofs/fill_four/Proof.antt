@@ -3,7 +3,7 @@ use Prim.Native.Nat.{_-_}
 use native.Mathlib.Omega.{arith}
 use lib.ListN.{drop, length-drop}
 use borrow.Author.Needs.{needs}
-use Rattle.sheet.proofs.Reading.{part-all}
+use Rattle.rule.proofs.Stores.{part-all}
 use Rattle.sheet.proofs.Filling.{Storing, storing-none, storing-item, storing-next, storing-done}
 use Rattle.sheet.proofs.fill_four.Statement.{statement}
 use Rattle.sheet.proofs.fill_four.Tie as tie
