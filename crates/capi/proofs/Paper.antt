@@ -534,6 +534,9 @@ wrong-exported =
       inventing-at-12 = λ a new p other. other (ap (λ (x : CFound). x .total) (p .answer));
       reading-none = λ r m d p. unlike 0 (p .years) (λ e. let f : _≡_ {A = ℕ} 0 11 = e in omega arith);
       reading-first-over = λ r m d p. unlike 1 (p .years) (λ e. let f : _≡_ {A = ℕ} 11 12 = e in omega arith);
+      reading-first-alone = λ r m d p. unlike 1 (p .years) (λ e. let f : _≡_ {A = ℕ} 0 12 = e in omega arith);
+      writing-first-over = λ r p. unlike 4 (p .buffer) (λ e. let f : _≡_ {A = ℕ} 11 12 = e in omega arith);
+      writing-first-alone = λ r p. unlike 4 (p .buffer) (λ e. let f : _≡_ {A = ℕ} 0 12 = e in omega arith);
       writing-none = λ r p. unlike 0 (p .buffer) (λ e. let f : _≡_ {A = ℕ} 0 1 = e in omega arith);
       unwritten-year-blocks = λ o r h z p. unwritten year-11 o h (omega arith) z p;
       unwritten-month-lines = λ o r h z p. unwritten line-134 o h (omega arith) z p;

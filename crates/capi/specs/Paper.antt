@@ -6,7 +6,7 @@ use mathlib.Core.Logic.{_↔_, _≢_}
 use mathlib.Core.Bool.{Bool, true, false}
 use mathlib.Core.List.{List, [], _∷_}
 use lib.IntN.{ℤ, pos}
-use lib.ListN.{length, getD}
+use lib.ListN.{length, getD, replicate}
 use Rattle.rule.specs.Reasons.{is}
 use Rattle.rule.specs.declared.Quarter.{Quarter}
 use Rattle.dates.specs.declared.Date.{Date}
@@ -332,7 +332,7 @@ pub record Wrong-exported : Type 0 where
   pub refusing-pairs : (r : CPair) → CReducedPair 1 r → r .reason ≢ 0 → ⊥
   pub refusing-searches : (a : CFound) (new : List ℕ) → CSearch nothingRead 0 0 (5 ∷ []) a new → a .reason ≢ 0 → ⊥
   pub refusing-sheets : (r : CSheetCounts) (y m d : List ℕ) → CReadSheet emptySheet [] [] [] r y m d → r .reason ≢ 0 → ⊥
-  pub refusing-lists : (r : CLength) (o : List ℕ) → CWriteSheet [] [] [] (0 ∷ 0 ∷ 0 ∷ 0 ∷ 0 ∷ 0 ∷ []) r o → r .reason ≢ 0 → ⊥
+  pub refusing-lists : (r : CLength) (o : List ℕ) → CWriteSheet [] [] [] (replicate 6 0) r o → r .reason ≢ 0 → ⊥
   pub refusing-year-blocks : Refusing CPrintYear 11 235
   pub refusing-month-lines : Refusing CPrintMonthLine 134 16
   pub refusing-month-items : Refusing CPrintMonth 134 22
@@ -346,10 +346,15 @@ pub record Wrong-exported : Type 0 where
   pub inventing-at-12 : (a : CFound) (new : List ℕ) → CSearch nothingRead 0 1 (5 ∷ []) a new → a .total ≢ 2 → ⊥
   pub reading-none : (r : CSheetCounts) (m d : List ℕ) → CReadSheet sheetOf11 (0 ∷ []) [] [] r (0 ∷ []) m d → ⊥
   pub reading-first-over : (r : CSheetCounts) (m d : List ℕ) → CReadSheet sheetOfTwos (0 ∷ 0 ∷ []) (0 ∷ 0 ∷ []) (0 ∷ 0 ∷ []) r (11 ∷ 11 ∷ []) m d → ⊥
+  pub reading-first-alone :
+      (r : CSheetCounts) (m d : List ℕ) → CReadSheet sheetOfTwos (0 ∷ 0 ∷ []) (0 ∷ 0 ∷ []) (0 ∷ 0 ∷ []) r (11 ∷ 0 ∷ []) m d → ⊥
+  pub writing-first-over :
+      (r : CLength) → CWriteSheet (11 ∷ 12 ∷ []) [] [] (replicate 10 0) r (2 ∷ 0 ∷ 11 ∷ 0 ∷ 11 ∷ 0 ∷ 0 ∷ 0 ∷ 0 ∷ 0 ∷ []) → ⊥
+  pub writing-first-alone :
+      (r : CLength) → CWriteSheet (11 ∷ 12 ∷ []) [] [] (replicate 10 0) r (2 ∷ 0 ∷ 11 ∷ 0 ∷ 0 ∷ 0 ∷ 0 ∷ 0 ∷ 0 ∷ 0 ∷ []) → ⊥
   pub writing-none :
       (r : CLength) →
-      CWriteSheet (11 ∷ []) [] [] (0 ∷ 0 ∷ 0 ∷ 0 ∷ 0 ∷ 0 ∷ 0 ∷ 0 ∷ []) r (0 ∷ 0 ∷ 0 ∷ 0 ∷ 0 ∷ 0 ∷ 0 ∷ 0 ∷ []) →
-      ⊥
+      CWriteSheet (11 ∷ []) [] [] (replicate 8 0) r (replicate 8 0) → ⊥
   pub unwritten-year-blocks : Unwritten CPrintYear 11 235
   pub unwritten-month-lines : Unwritten CPrintMonthLine 134 16
   pub unwritten-month-items : Unwritten CPrintMonth 134 22

@@ -1,26 +1,13 @@
 -- Which answers meet a promise of one guard or of two: what is given, by what it is, and what is refused. Assumes nothing.
 use Prim.Native.Nat.{ℕ, _≤_, _<_}
-use mathlib.Core.Path.{_≡_, refl, ap, sym, _∙_}
-use mathlib.Core.Logic.{_↔_, _⊎_, inl, inr}
-use mathlib.Core.Bool.{Bool, true, false}
+use mathlib.Core.Path.{_≡_, ap, sym, _∙_}
+use mathlib.Core.Logic.{_↔_}
+use mathlib.Core.Bool.{Bool, true}
 use lib.Dec.{leb}
 use Rattle.rule.specs.Counts.{YearInRange, MonthInRange}
 use Rattle.rule.specs.Rule.{termDay, yearTerm}
-use Rattle.rule.specs.Reasons.{Answer, is, refused, guard, within, reasonNumber, reasonOf}
-use Rattle.rule.specs.declared.Reason.{Reason}
-use Rattle.rule.proofs.Answers.{
-  reason-back,
-  within-true,
-  at-most,
-  passes,
-  holds-all,
-  then-iff,
-  test-iff,
-  one-refused,
-  two-first,
-  two-second,
-  given-not,
-}
+use Rattle.rule.specs.Reasons.{Answer, is, refused, guard, within}
+use Rattle.rule.proofs.Answers.{within-true, at-most, passes, holds-all, then-iff, test-iff, one-refused, two-first, two-second}
 use Rattle.facts.specs.Facts.{
   solsticeYear,
   solsticeYearAt,
@@ -37,17 +24,10 @@ use Rattle.facts.specs.Facts.{
 turned : {A B : Type 0} {x y : A} → ((x ≡ y) ↔ B) → (y ≡ x) ↔ B
 turned f = (λ p. f .0 (sym p), λ h. sym (f .1 h))
 
--- a reason by its number
-numbered : (why : Reason) (k : ℕ) → reasonNumber why ≡ k → why ≡ reasonOf k
-numbered why k e = sym (reason-back why) ∙ ap reasonOf e
-
 module _ {A : Type 0} where
   -- what is given is one thing
   same-given : (x a : A) → (_≡_ {A = Answer A} (is x) (is a)) ↔ (x ≡ a)
   same-given x a = (λ e. cc, λ e. ap is e)
-
-  same-refused : (j k : ℕ) → _≡_ {A = Answer A} (refused j) (refused k) → j ≡ k
-  same-refused j k e = cc
 
   -- what is told of an answer that is given
   pub told-is : (x a : A) (b : Answer A) → b ≡ is x → is a ≡ b → a ≡ x
@@ -65,13 +45,6 @@ module _ {A P : Type 0} (t : Bool) (k : ℕ) (x : A) (e : (t ≡ true) ↔ P) wh
   pub one-reason : (refused k ≡ guard t k (is x)) ↔ (P → ⊥)
   one-reason = turned (one-refused t k x e)
 
-  pub one-only : (why : Reason) → refused (reasonNumber why) ≡ guard t k (is x) → why ≡ reasonOf k
-  one-only why = go t
-    where
-      go : (b : Bool) → refused (reasonNumber why) ≡ guard b k (is x) → why ≡ reasonOf k
-      go true p = absurd (given-not (is x) x (reasonNumber why) refl (sym p))
-      go false p = numbered why k (same-refused {A = A} (reasonNumber why) k p)
-
 -- two guards, one after the other
 module _ {A P Q : Type 0} (t s : Bool) (k j : ℕ) (l : k < j) (x : A) (e : (t ≡ true) ↔ P) (f : (s ≡ true) ↔ Q) where
   pub two-literally : (L : Type 0) (a : A) → (P → (x ≡ a) ↔ L) → (is a ≡ guard t k (guard s j (is x))) ↔ (P × Q × L)
@@ -88,13 +61,6 @@ module _ {A P Q : Type 0} (t s : Bool) (k j : ℕ) (l : k < j) (x : A) (e : (t �
 
   pub two-reason-second : (refused j ≡ guard t k (guard s j (is x))) ↔ (P × (Q → ⊥))
   two-reason-second = turned (two-second t s k j l x e f)
-
-  pub two-only : (why : Reason) → refused (reasonNumber why) ≡ guard t k (guard s j (is x)) → (why ≡ reasonOf k) ⊎ (why ≡ reasonOf j)
-  two-only why = go t
-    where
-      go : (b : Bool) → refused (reasonNumber why) ≡ guard b k (guard s j (is x)) → (why ≡ reasonOf k) ⊎ (why ≡ reasonOf j)
-      go true p = inr (one-only s j x f why p)
-      go false p = inl (numbered why k (same-refused {A = A} (reasonNumber why) k p))
 
 -- what each call gives in range
 pub solstice-year-given : (y : ℕ) → YearInRange y → solsticeYearAt y ≡ is (solsticeYear y)

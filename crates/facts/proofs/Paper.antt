@@ -7,7 +7,7 @@ use lib.Dec.{leb}
 use Rattle.rule.specs.Counts.{YearInRange, MonthInRange, yearName, bu, yearInBu}
 use Rattle.rule.specs.Rule.{monthStart, monthLength, quarterDay, termDay, yearTerm, leapMark, monthAt, eclipse}
 use Rattle.rule.specs.Reasons.{Answer, is, within, reasonNumber, reasonOf}
-use Rattle.rule.proofs.Answers.{reason-back, within-true, at-most, read-back, once, given-not}
+use Rattle.rule.proofs.Answers.{reason-back, within-true, at-most, read-back, once, given-not, one-only, two-only}
 use Rattle.rule.proofs.Leap.{mark-at}
 use Rattle.rule.proofs.Paper as Rule
 use Rattle.facts.specs.declared.SolsticeYear.{SolsticeYear}
@@ -50,11 +50,9 @@ use Rattle.facts.proofs.Given.{
   told-is,
   one-literally,
   one-reason,
-  one-only,
   two-literally,
   two-reason-first,
   two-reason-second,
-  two-only,
   solstice-year-given,
   year-given,
   month-given,
@@ -70,26 +68,26 @@ reasons-of-facts =
       years = λ y.
           record {
             place-one = one-reason (within 1 41040 y) 1 (solsticeYear y) (within-true 1 41040 y);
-            place-only = one-only (within 1 41040 y) 1 (solsticeYear y) (within-true 1 41040 y);
+            place-only = λ why. one-only why (within 1 41040 y) 1 (solsticeYear y);
             own-one = one-reason (within 1 41040 y) 1 (yearFacts y) (within-true 1 41040 y);
-            own-only = one-only (within 1 41040 y) 1 (yearFacts y) (within-true 1 41040 y);
+            own-only = λ why. one-only why (within 1 41040 y) 1 (yearFacts y);
           };
       months = λ n.
           record {
             seven = one-reason (leb n 507599) 7 (monthFacts n) (at-most n 507599);
-            only = one-only (leb n 507599) 7 (monthFacts n) (at-most n 507599);
+            only = λ why. one-only why (leb n 507599) 7 (monthFacts n);
           };
       quarters = λ n q.
           record {
             seven = two-reason-first (leb n 507599) (leb q 3) 7 15 (omega arith) (quarterOf n q) (at-most n 507599) (at-most q 3);
             fifteen = two-reason-second (leb n 507599) (leb q 3) 7 15 (omega arith) (quarterOf n q) (at-most n 507599) (at-most q 3);
-            only = two-only (leb n 507599) (leb q 3) 7 15 (omega arith) (quarterOf n q) (at-most n 507599) (at-most q 3);
+            only = λ why. two-only why (leb n 507599) (leb q 3) 7 15 (quarterOf n q);
           };
       terms = λ y k.
           record {
             one = two-reason-first (within 1 41040 y) (leb k 23) 1 15 (omega arith) (termDay (yearTerm y k)) (within-true 1 41040 y) (at-most k 23);
             fifteen = two-reason-second (within 1 41040 y) (leb k 23) 1 15 (omega arith) (termDay (yearTerm y k)) (within-true 1 41040 y) (at-most k 23);
-            only = two-only (within 1 41040 y) (leb k 23) 1 15 (omega arith) (termDay (yearTerm y k)) (within-true 1 41040 y) (at-most k 23);
+            only = λ why. two-only why (within 1 41040 y) (leb k 23) 1 15 (termDay (yearTerm y k));
           };
     }
 

@@ -2,6 +2,7 @@
 -- nothing.
 use Prim.Native.Nat.{ℕ, _≤_}
 use mathlib.Core.Path.{_≡_}
+use mathlib.Core.Logic.{_⊎_}
 use mathlib.Core.Bool.{cond}
 use mathlib.Core.List.{List, [], _∷_, _++_}
 use lib.Dec.{eqb}
@@ -40,6 +41,10 @@ Holds room n l = take n room ≡ take 201 l
 pub record Becomes (f : List ℕ → List ℕ) (room : List ℕ) (n : ℕ) (room′ : List ℕ) (r : ℕ) : Type 0 where
   pub few : r ≤ 201
   pub holds : (l : List ℕ) → Holds room n l → Holds room′ r (f l)
+
+-- what a read comes to: the input's end, which is said by 202, or bytes at the front of the buffer, each of which the line has taken
+abbrev pub TakesOn : (bytes room : List ℕ) (n : ℕ) (room′ : List ℕ) (r : ℕ) → Type 0
+TakesOn bytes room n room′ r = (r ≡ 202) ⊎ ((got : ℕ) × Becomes (λ l. lineAfterAll l (take got bytes)) room n room′ r)
 
 -- whatever line is held, what is said to it, to the whole of it, stands at the front of the buffer
 pub record Answers (f : List ℕ → List ℕ) (room : List ℕ) (n : ℕ) (out out′ : List ℕ) : Type 0 where

@@ -5,7 +5,7 @@ ghost use mathlib.Core.Path.{_≡_};
 ghost use mathlib.Core.List.{[], _∷_, _++_};
 ghost use lib.ListN.{length};
 ghost use Rattle.queries.specs.Queries.{answerTo};
-ghost use Rattle.held.specs.Held.{lineAfter, lineAfterAll, saidAt, saidAtEnd, Becomes, Answers};
+ghost use Rattle.held.specs.Held.{lineAfter, lineAfterAll, saidAt, saidAtEnd, Becomes, TakesOn, Answers};
 
 // A byte more of the line, where there is room for it. How many bytes are held then.
 fn hold(b: u8, line: &mut [u8], held: usize) -> usize
@@ -65,6 +65,7 @@ fn take_some(
 ) -> usize
     requires { ⌜ (held ≤ 201) × (length (now line) ≡ 201) × (27759 ≤ length (now days)) × (2304014 ≤ length (now out)) ⌝ }
     ensures { λ r. ⌜ r ≤ 202 ⌝ }
+    ensures { λ r. ⌜ TakesOn (now (bytes .exit)) (now (line .entry)) held (now (line .exit)) r ⌝ }
 {
     let got = libc::read(0, bytes);
     if got <= 0 {

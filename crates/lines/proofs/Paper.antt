@@ -4,7 +4,7 @@ use native.Mathlib.Omega.{arith}
 use mathlib.Core.Path.{_≡_, refl, ap, ap₂, sym, _∙_, subst}
 use mathlib.Core.Bool.{Bool, true, false}
 use mathlib.Core.List.{List, [], _∷_, _++_, append-assoc}
-use mathlib.Core.Logic.{_↔_, Iff·trans}
+use mathlib.Core.Logic.{_↔_, inl, inr, ⊎-elim, Iff·trans}
 use lib.Dec.{leb}
 use lib.ListN.{length, getD}
 use borrow.Author.Tests.{leb-true}
@@ -30,7 +30,7 @@ use Rattle.rule.specs.Lists.{those, placed}
 use Rattle.rule.specs.Reasons.{Answer, is, refused, guard, within, andThen, reasonNumber, intoRoom, afterwards}
 use Rattle.rule.specs.declared.Reason.{Reason}
 use Rattle.rule.specs.declared.Reason.the-variants.{NoSuchYear, NoSuchMonth, NoSuchDay, LentTooShort}
-use Rattle.rule.proofs.Answers.{within-true, holds-all, at-most, two-given, two-first, two-second, given-not}
+use Rattle.rule.proofs.Answers.{reason-back, within-true, holds-all, at-most, two-given, two-first, two-second, given-not, two-only}
 use Rattle.dates.specs.Dates.{dateIn, dateOf}
 use Rattle.facts.specs.Facts.{monthFacts, yearFacts}
 use Rattle.sheet.specs.declared.HowMany.{HowMany}
@@ -197,6 +197,7 @@ reasons-of-printing =
         record {
           absent = Iff·trans (refusal (guard t k (intoRoom (length o) text)) o why) (two-first t s k 12 l text e f);
           short = Iff·trans (refusal (guard t k (intoRoom (length o) text)) o LentTooShort) (two-second t s k 12 l text e f);
+          only = λ other o′ p. ⊎-elim (λ e. inl (e ∙ reason-back why)) inr (two-only other t s k 12 text (sym (refused-of _ length (reasonNumber other) (p .answer))));
           given = Iff·trans (text-given t k text o, λ h. record { answer = rw (h); buffer = rw (h) }) (two-given t s k 12 l text e f);
         }
 

@@ -2,7 +2,7 @@
 -- Assumes nothing.
 use Prim.Native.Nat.{ℕ, _+_, _-_, _≤_}
 use mathlib.Core.Path.{_≡_}
-use mathlib.Core.Logic.{_↔_}
+use mathlib.Core.Logic.{_↔_, _⊎_}
 use mathlib.Core.Bool.{true}
 use mathlib.Core.List.{List, [], _∷_, _++_}
 use lib.ListN.{length, replicate}
@@ -117,10 +117,11 @@ abbrev pub Two-months-two-lines : Type 0
 Two-months-two-lines = (n m : ℕ) → monthLine n ≡ monthLine m → n ≡ m
 
 -- each reason if and only if its row holds and no earlier one's does: what does not exist (1, 7 or 6), then "a lent list or
--- buffer too short for the whole answer"
+-- buffer too short for the whole answer"; and no other
 pub record PrintReasons (There : Type 0) (why : Reason) (text o : List ℕ) (Call : HowMany → List ℕ → Type 0) : Type 0 where
   pub absent : Call (HowMany'.Refused why) o ↔ (There → ⊥)
   pub short : Call (HowMany'.Refused LentTooShort) o ↔ (There × (length text ≤ length o → ⊥))
+  pub only : (other : Reason) (o′ : List ℕ) → Call (HowMany'.Refused other) o′ → (other ≡ why) ⊎ (other ≡ LentTooShort)
   pub given : Call (HowMany'.Is (length text)) (placed text o) ↔ (There × (length text ≤ length o))
 
 pub record Reasons-of-printing : Type 0 where

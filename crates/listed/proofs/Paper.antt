@@ -25,10 +25,10 @@ front-of k h s = go (decLt k (length s))
         ∙ ap (λ (t : List ℕ). printed (readSheet t)) (take-append-drop k s)
 
 pub front-is-enough : Paper.Front-is-enough
-front-is-enough = front-of Paper.held (omega arith)
+front-is-enough = front-of Paper.inputHeld (omega arith)
 
 -- the listing of what a room of so many bytes has taken is that of the whole input
-pub taken-listing : (room : List ℕ) (n : ℕ) (s : List ℕ) → Paper.held ≡ length room → Paper.TakenInto room n s → listing (take n room) ≡ listing s
+pub taken-listing : (room : List ℕ) (n : ℕ) (s : List ℕ) → Paper.inputHeld ≡ length room → Paper.TakenInto room n s → listing (take n room) ≡ listing s
 taken-listing room n s h e = ap listing (e ∙ ap (λ (k : ℕ). take k s) (sym h)) ∙ front-is-enough s
 
 -- a room has taken what stands in it

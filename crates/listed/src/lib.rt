@@ -6,7 +6,7 @@ ghost use Rattle.sheet.specs.Sheet.{yearItems, monthItems, dayItems};
 ghost use Rattle.sheet.specs.Paper.{GoodList, GoodLists};
 ghost use Rattle.fields.specs.Fields.{Put, each};
 ghost use Rattle.lines.specs.Lines.{yearBlock, monthItem, dayItem, listingOf, listing};
-ghost use Rattle.listed.specs.Paper.{held, InputListed};
+ghost use Rattle.listed.specs.Paper.{inputHeld, InputListed};
 use sheet::SheetCounts;
 
 // The blocks of years.
@@ -92,14 +92,14 @@ fn room() -> [u8; 789000] {
 
 // The longest sheet has 10,006 bytes; one byte more shows that an input is longer.
 fn sheet_room() -> [u8; 10007]
-    ensures { λ r. ⌜ held ≡ length r ⌝ }
+    ensures { λ r. ⌜ inputHeld ≡ length r ⌝ }
 {
     [0u8; 10007]
 }
 
 // The listing of the input of which n bytes were taken into a room: the front says what the whole does (Front-is-enough).
 fn list_taken(bytes: &[u8], n: usize, out: &mut [u8]) -> usize
-    requires { ⌜ (held ≡ length (now bytes)) × (n ≤ length (now bytes)) × (789000 ≤ length (now out)) ⌝ }
+    requires { ⌜ (inputHeld ≡ length (now bytes)) × (n ≤ length (now bytes)) × (789000 ≤ length (now out)) ⌝ }
     ensures { λ r. ⌜ InputListed (now (bytes .entry)) n (now (out .entry)) (now (out .exit)) r ⌝ }
 {
     list_sheet(&bytes[0..n], out)

@@ -3,13 +3,15 @@ use Prim.Native.Nat.{ℕ, zero, suc, _+_, _*_, _≤_, _<_}
 use native.Mathlib.Omega.{arith}
 use native.Mathlib.Nat.{eq-one-of-dvd-one, mod-eq-zero-of-dvd, dvd-of-mod-eq-zero}
 use mathlib.Core.Path.{_≡_, refl, ap, sym, subst, _∙_}
-use mathlib.Core.Logic.{_↔_, _⊎_, inl, inr, Iff·trans}
+use mathlib.Core.Logic.{_↔_, _⊎_, inl, inr, ⊎-elim, Iff·trans}
 use mathlib.Core.Bool.{Bool, true, false}
 use lib.Dec.{leb, ltb}
 use borrow.Author.Tests.{ltb-true, ltb-false}
 use Rattle.rule.specs.Counts.{DayInRange}
 use Rattle.rule.specs.Reasons.{Answer, is, refused, within, guard, reasonNumber, reasonOf}
-use Rattle.rule.proofs.Answers.{reason-back, within-true, at-most, holds-all, fails, test-iff, one-refused, read-back, once, given-not}
+use Rattle.rule.specs.declared.Reason.{Reason}
+use Rattle.rule.specs.declared.Reason.the-variants.{NoSuchPlanet}
+use Rattle.rule.proofs.Answers.{reason-back, within-true, at-most, holds-all, fails, test-iff, one-refused, read-back, once, given-not, from-guard, two-only}
 use Rattle.planets.specs.declared.Numbers.{Numbers}
 use Rattle.planets.specs.declared.Phase.{Phase}
 use Rattle.planets.specs.declared.ConjunctionTold.{ConjunctionTold}
@@ -36,7 +38,7 @@ use Rattle.planets.specs.Planets.{
   pairOf,
   pairAt,
 }
-use Rattle.planets.specs.Promises.{saidConjunction, saidNext, saidPair}
+use Rattle.planets.specs.Promises.{saidConjunction, saidNext, saidPair, ReducedPair}
 use Rattle.planets.specs.Paper as Paper
 use Rattle.planets.specs.Paper.{IsConjunction, NoneLeft, IsNext, ConjunctionReasons, NextReasons, morning, mornings}
 use Rattle.planets.proofs.Moments
@@ -105,6 +107,7 @@ conjunctions p k =
       );
       nineteen = turned (Refusing.first planet in-range 19 6 other it first second);
       six = turned (Refusing.second planet in-range 19 6 other it first second);
+      only = λ why. two-only why planet in-range 19 6 it;
     }
   where
     planet : Bool
@@ -220,6 +223,8 @@ nexts p d =
           turned
           (under (test-iff (Refusing.further (within 1 5 p) 19 6 (asked p d) (λ e. omega (arith, e))) planet)
           (λ h. Iff·trans (Refusing.here (leb d 14989859) 6 (left p d) no-six) (fails (leb d 14989859) day)));
+      only = λ why e.
+          ⊎-elim inl (λ q. inr (two-only why (leb d 14989859) in-range 6 20 (found p d) q)) (from-guard why (within 1 5 p) 19 (asked p d) e);
       twenty =
           turned
           (three
@@ -258,7 +263,10 @@ next-is-a-conjunction p d n e =
     )
 
 pub reasons-of-planets : Paper.Reasons-of-planets
-reasons-of-planets = record { conjunctions = conjunctions; nexts = nexts; pair-nineteen = λ p. (λ q. q .0, λ none. (none, refl)) }
+reasons-of-planets = record { conjunctions = conjunctions; nexts = nexts; pair-nineteen = pair-refused }
+  where
+    pair-refused : (p : ℕ) (why : Reason) → ReducedPair p (Pair'.Refused why) ↔ ((why ≡ NoSuchPlanet) × (Planet p → ⊥))
+    pair-refused p why = (λ q. (sym (reason-back why) ∙ ap reasonOf (q .1), q .0), λ q. (q .1, ap reasonNumber (q .0)))
 
 pub figures-are-first : Paper.Figures-are-first
 unfolding conjunctionOf

@@ -102,6 +102,7 @@ pub record ConjunctionReasons (p k : ℕ) : Type 0 where
   pub given : (c : Conjunction) → KthConjunction p k (Conjunction'.Is c) ↔ (Planet p × DayInRange (c .day) × IsConjunction p k c)
   pub nineteen : KthConjunction p k (Conjunction'.Refused NoSuchPlanet) ↔ (Planet p → ⊥)
   pub six : KthConjunction p k (Conjunction'.Refused NoSuchDay) ↔ (Planet p × (DayInRange (conjunctionDay (numbersOf p) k) → ⊥))
+  pub only : (why : Reason) → KthConjunction p k (Conjunction'.Refused why) → (why ≡ NoSuchPlanet) ⊎ (why ≡ NoSuchDay)
 
 -- what the first conjunction on or after day d holds: the least count, and the conjunction of that count, which is in range
 pub record IsNext (p d : ℕ) (n : Next) : Type 0 where
@@ -119,6 +120,9 @@ pub record NextReasons (p d : ℕ) : Type 0 where
   pub nineteen : NextConjunction p d (Next'.Refused NoSuchPlanet) ↔ (Planet p → ⊥)
   pub six : NextConjunction p d (Next'.Refused NoSuchDay) ↔ (Planet p × (DayInRange d → ⊥))
   pub twenty : NextConjunction p d (Next'.Refused NoConjunctionLeft) ↔ (Planet p × DayInRange d × NoneLeft p d)
+  pub only :
+      (why : Reason) → NextConjunction p d (Next'.Refused why) →
+      (why ≡ NoSuchPlanet) ⊎ ((why ≡ NoSuchDay) ⊎ (why ≡ NoConjunctionLeft))
 
 -- the one that is found is what the other call gives for its count, and it is not before the day
 abbrev pub Next-is-a-conjunction : Type 0
@@ -127,7 +131,7 @@ Next-is-a-conjunction = (p d : ℕ) (n : Next) → NextConjunction p d (Next'.Is
 pub record Reasons-of-planets : Type 0 where
   pub conjunctions : (p k : ℕ) → ConjunctionReasons p k
   pub nexts : (p d : ℕ) → NextReasons p d
-  pub pair-nineteen : (p : ℕ) → ReducedPair p (Pair'.Refused NoSuchPlanet) ↔ (Planet p → ⊥)
+  pub pair-nineteen : (p : ℕ) (why : Reason) → ReducedPair p (Pair'.Refused why) ↔ ((why ≡ NoSuchPlanet) × (Planet p → ⊥))
 
 -- two numbers have one common divisor
 abbrev pub One-common-divisor : Type 0

@@ -11,16 +11,18 @@ use Rattle.rule.specs.Counts.{dayName, yearName}
 use Rattle.rule.specs.Lists.{those, placed}
 use Rattle.rule.specs.Rule.{monthStart, monthOfDay, yearOfMonth, leap, midTermsBefore, midTermNumber, monthNumber, monthAt}
 use Rattle.rule.specs.Reasons.{Answer, is, refused, refused-with, reasonNumber, reasonOf, afterwards}
+use Rattle.rule.proofs.Months.{of-day}
 use Rattle.rule.proofs.Leap as Leaps
 use Rattle.rule.proofs.Lists.{those-same, length-all, has-place, at-place, rises, run-at}
 use Rattle.rule.proofs.Answers.{reason-back, one-to-one, both-true}
 use Rattle.dates.specs.Dates.{dateIn, dateOf}
+use Rattle.dates.proofs.Laws.{dated}
 use Rattle.reading.specs.declared.Field.{Field}
 use Rattle.reading.specs.declared.Field.the-variants.{Known, Unread}
 use Rattle.reading.specs.declared.Reading.{Reading}
 use Rattle.reading.specs.declared.Found.{Found}
 use Rattle.reading.specs.declared.Found.the-variants.{Is, TooShort, Refused}
-use Rattle.reading.specs.Readings.{markNumber, sixOf, fieldFits, inRanges, monthFits, dayFits, fits, windowDays, fitting}
+use Rattle.reading.specs.Readings.{markNumber, sixOfDate, sixOf, fieldFits, inRanges, monthFits, dayFits, fits, windowDays, fitting}
 use Rattle.reading.specs.Search.{total, searchAt, saidFound, Searched}
 use Rattle.reading.specs.Paper as Paper
 use Rattle.reading.specs.Paper.{FieldFits, ReadingFits, SearchFault, GoodSearch, ListsExactly, SearchAnswered, SearchTooShort, ReadToo, MoreKnown, allUnread}
@@ -36,6 +38,10 @@ field-fits (Known k) v = (
 field-fits Unread v = (λ e. inl refl, λ h. refl)
 
 -- the four of the month and the two of the day are the six of the paper
+pub six-of-the-date : Paper.Six-of-the-date
+unfolding sixOf
+six-of-the-date d n r p i = ap₂ sixOfDate (of-day n d .0 i) (dated d r .0 (sym p) .1)
+
 pub fits-literally : Paper.Fits-literally
 unfolding fits monthFits dayFits sixOf dateOf dateIn
 fits-literally r d = (λ e. there (six .0 e), λ h. six .1 (back h))

@@ -11,13 +11,20 @@ use Rattle.rule.specs.Lists.{placed}
 use Rattle.rule.specs.Rule.{monthLength, InMonth}
 use Rattle.rule.specs.declared.Reason.{Reason}
 use Rattle.rule.specs.declared.Reason.the-variants.{NoSuchDay, BadWindow, FieldOutOfRange}
+use Rattle.dates.specs.declared.Date.{Date}
+use Rattle.dates.specs.declared.Dated.the-variants as Dated'
+use Rattle.dates.specs.Promises.{DateOfDay}
 use Rattle.reading.specs.declared.Field.{Field}
 use Rattle.reading.specs.declared.Field.the-variants.{Known, Unread}
 use Rattle.reading.specs.declared.Reading.{Reading}
 use Rattle.reading.specs.declared.Found.{Found}
 use Rattle.reading.specs.declared.Found.the-variants.{Is, TooShort, Refused}
-use Rattle.reading.specs.Readings.{sixOf, fits, windowDays}
+use Rattle.reading.specs.Readings.{sixOfDate, sixOf, fits, windowDays}
 use Rattle.reading.specs.Search.{Searched}
+
+-- the six values of a day are those of the date that the call answers for it, and the name of its month's first day
+abbrev pub Six-of-the-date : Type 0
+Six-of-the-date = (d n : ℕ) (r : Date) → DateOfDay d (Dated'.Is r) → InMonth n d → sixOf d ≡ sixOfDate n r
 
 -- "A known field fits the days whose date has that value, an unread field fits every day"
 abbrev pub FieldFits : Field → ℕ → Type 0

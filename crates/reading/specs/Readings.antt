@@ -8,6 +8,7 @@ use Rattle.rule.specs.Counts.{MonthInRange, dayName, yearName}
 use Rattle.rule.specs.Lists.{those}
 use Rattle.rule.specs.Rule.{monthStart, monthOfDay, yearOfMonth, leap, monthNumber, numberOf, leapMark}
 use Rattle.rule.specs.Reasons.{within}
+use Rattle.dates.specs.declared.Date.{Date}
 use Rattle.dates.specs.Dates.{dateOf}
 use Rattle.reading.specs.declared.Field.{Field}
 use Rattle.reading.specs.declared.Field.the-variants.{Known, Unread}
@@ -28,16 +29,19 @@ pub record Six : Type 0 where
   pub day-name : ℕ
   pub first-name : ℕ
 
-unfoldable pub sixOf : ℕ → Six
-sixOf d =
+abbrev pub sixOfDate : ℕ → Date → Six
+sixOfDate n r =
     record {
-      year-name = dateOf d .«year_name»;
-      month-number = numberOf (dateOf d .month);
-      leap-mark = markNumber (leapMark (dateOf d .month));
-      day-of-month = dateOf d .«day_of_month»;
-      day-name = dateOf d .«day_name»;
-      first-name = dayName (monthStart (monthOfDay d));
+      year-name = r .«year_name»;
+      month-number = numberOf (r .month);
+      leap-mark = markNumber (leapMark (r .month));
+      day-of-month = r .«day_of_month»;
+      day-name = r .«day_name»;
+      first-name = dayName (monthStart n);
     }
+
+unfoldable pub sixOf : ℕ → Six
+sixOf d = sixOfDate (monthOfDay d) (dateOf d)
 
 -- "A known field fits the days whose date has that value, an unread field fits every day"
 abbrev pub fieldFits : Field → ℕ → Bool

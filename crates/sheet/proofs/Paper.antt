@@ -463,20 +463,20 @@ calls-back-and-there s y₀ m₀ d₀ y′ m′ d′ o o′ c r bytes p q h =
 pub rest-untouched : Paper.Rest-untouched
 rest-untouched =
     record {
-      reading = λ s y m d y′ m′ d′ c p. let r = read-as s y m d y′ m′ d′ c p in (rest-kept (r .years), rest-kept (r .months), rest-kept (r .days));
-      writing = λ y m d o o′ n p. rest-kept (written-as y m d o o′ n p);
+      read-sheet = λ s y m d y′ m′ d′ c p. let r = read-as s y m d y′ m′ d′ c p in (rest-kept (r .years), rest-kept (r .months), rest-kept (r .days));
+      write-sheet = λ y m d o o′ n p. rest-kept (written-as y m d o o′ n p);
     }
 
 pub refusal-changes-nothing : Paper.Refusal-changes-nothing
 refusal-changes-nothing =
     record {
-      reading = λ s y m d y′ m′ d′ why p.
+      read-sheet = λ s y m d y′ m′ d′ why p.
           let e : readInto s (length y) (length m) (length d) ≡ refused (reasonNumber why) = refused-of (readInto s (length y) (length m) (length d)) counted (reasonNumber why) (p .answer) in (
             p .years ∙ ap (λ (a : Answer Lists). afterwards a (λ l. l .years) y) e,
             p .months ∙ ap (λ (a : Answer Lists). afterwards a (λ l. l .months) m) e,
             p .days ∙ ap (λ (a : Answer Lists). afterwards a (λ l. l .days) d) e,
           );
-      writing = λ y m d o o′ why p.
+      write-sheet = λ y m d o o′ why p.
           p .buffer ∙ ap (λ (a : Answer (List ℕ)). afterwards a (λ b. b) o) (refused-of (writeInto (threeLists y m d) (length o)) length (reasonNumber why) (p .answer));
     }
 
@@ -634,8 +634,8 @@ written-by-item y m d o o′ n a =
 pub item-by-item : Paper.Item-by-item
 item-by-item =
     record {
-      reading = λ s y m d y′ m′ d′ c p. read-by-item s y m d y′ m′ d′ c (read-as s y m d y′ m′ d′ c p);
-      writing = λ y m d o o′ n p. written-by-item y m d o o′ n (written-as y m d o o′ n p);
+      read-sheet = λ s y m d y′ m′ d′ c p. read-by-item s y m d y′ m′ d′ c (read-as s y m d y′ m′ d′ c p);
+      write-sheet = λ y m d o o′ n p. written-by-item y m d o o′ n (written-as y m d o o′ n p);
     }
 
 empty-read : readSheet emptySheet ≡ is (threeLists [] [] [])

@@ -79,9 +79,9 @@ pub record WrittenByItem (y m d : List ℕ) (c : Counted) (n : ℕ) (o : List �
   pub end : n ≡ endOf c
 
 pub record Item-by-item : Type 0 where
-  pub reading :
+  pub read-sheet :
       (s y m d y′ m′ d′ : List ℕ) (c : Counted) → ReadSheet s y m d (Counts'.Is c) y′ m′ d′ → ReadByItem s c y′ m′ d′
-  pub writing :
+  pub write-sheet :
       (y m d o o′ : List ℕ) (n : ℕ) → WriteSheet y m d o (HowMany'.Is n) o′ →
       WrittenByItem y m d (countsAre (length y) (length m) (length d)) n o′
 
@@ -245,10 +245,10 @@ Added =
 
 -- "All lent memory stays as before the call": a refused call changes nothing
 pub record Refusal-changes-nothing : Type 0 where
-  pub reading :
+  pub read-sheet :
       (s y m d y′ m′ d′ : List ℕ) (why : Reason) → ReadSheet s y m d (Counts'.Refused why) y′ m′ d′ →
       (y′ ≡ y) × (m′ ≡ m) × (d′ ≡ d)
-  pub writing : (y m d o o′ : List ℕ) (why : Reason) → WriteSheet y m d o (HowMany'.Refused why) o′ → o′ ≡ o
+  pub write-sheet : (y m d o o′ : List ℕ) (why : Reason) → WriteSheet y m d o (HowMany'.Refused why) o′ → o′ ≡ o
 
 -- "Both leave places beyond what they fill untouched", where n places are filled
 pub record RestKept (n : ℕ) (old new : List ℕ) : Type 0 where
@@ -256,10 +256,10 @@ pub record RestKept (n : ℕ) (old new : List ℕ) : Type 0 where
   pub rest : drop n new ≡ drop n old
 
 pub record Rest-untouched : Type 0 where
-  pub reading :
+  pub read-sheet :
       (s y m d y′ m′ d′ : List ℕ) (c : Counted) → ReadSheet s y m d (Counts'.Is c) y′ m′ d′ →
       RestKept (c .years) y y′ × RestKept (c .months) m m′ × RestKept (c .days) d d′
-  pub writing : (y m d o o′ : List ℕ) (n : ℕ) → WriteSheet y m d o (HowMany'.Is n) o′ → RestKept n o o′
+  pub write-sheet : (y m d o o′ : List ℕ) (n : ℕ) → WriteSheet y m d o (HowMany'.Is n) o′ → RestKept n o o′
 
 -- each promise leaves one answer and one state of lent memory
 abbrev pub Unique-read-sheet : Type 0
