@@ -121,14 +121,14 @@ section-lies k s x y h = go (countRead (k .items) s) refl h
     go (refused-with r n) e h = absurd (let o : _≡_ {A = ℕ} 0 1 = cc in omega arith)
 
 -- a section found good, with n items: how it lies, and where the next one starts
-pub record Found (k : Section) (s : List ℕ) (n : ℕ) : Type 0 where
+pub record FoundGood (k : Section) (s : List ℕ) (n : ℕ) : Type 0 where
   pub count : countOf s ≡ n
   pub few : n ≤ k .items
   pub long : 2 + k .width * n ≤ length s
   pub next : take (length s - (2 + k .width * n)) (drop (2 + k .width * n) s) ≡ leftAfter k s
   pub left : length (leftAfter k s) ≡ length s - (2 + k .width * n)
 
-pub found : (k : Section) (s : List ℕ) (n : ℕ) → sectionRead k s (is (countOf s)) ≡ is n → Found k s n
+pub found : (k : Section) (s : List ℕ) (n : ℕ) → sectionRead k s (is (countOf s)) ≡ is n → FoundGood k s n
 unfolding leftAfter
 found k s n h =
     let a = section-lies k s (countOf s) n h in
