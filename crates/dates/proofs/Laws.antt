@@ -23,12 +23,11 @@ use Rattle.rule.specs.Rule.{
 }
 use Rattle.rule.specs.Reasons.{Answer, is, refused, within, guard}
 use Rattle.rule.specs.Paper.{IsMonth}
-use Rattle.rule.specs.declared.Month.{Month}
 use Rattle.rule.specs.declared.Month.the-variants.{Leap}
 use Rattle.rule.proofs.Months
 use Rattle.rule.proofs.Years
 use Rattle.rule.proofs.Leap as Leaps
-use Rattle.rule.proofs.Paper as Rules
+use Rattle.rule.proofs.Paper.{is-month, month-is}
 use Rattle.rule.proofs.Answers.{
   within-true,
   fails,
@@ -61,14 +60,6 @@ use Rattle.dates.proofs.Named
 
 year-of : (n : ℕ) → InYear (yearOfMonth n) n
 year-of n = Years.of-month (yearOfMonth n) n .1 refl
-
--- month n is what a date holds for it
-is-month : (n : ℕ) → IsMonth n (monthAt n)
-is-month n = Rules.month-literally n (monthAt n) .0 refl
-
--- and only that
-pub month-is : (n : ℕ) (m : Month) → IsMonth n m → monthAt n ≡ m
-month-is n m = Rules.month-literally n m .1
 
 is-date : (d : ℕ) → IsDate d (dateOf d)
 unfolding dateOf dateIn

@@ -7,7 +7,7 @@ use lib.Dec.{leb}
 use Rattle.rule.specs.Counts.{YearInRange, MonthInRange}
 use Rattle.rule.specs.Rule.{termDay, yearTerm}
 use Rattle.rule.specs.Reasons.{Answer, is, refused, guard, within}
-use Rattle.rule.proofs.Answers.{within-true, at-most, passes, holds-all, then-iff, test-iff, one-refused, two-first, two-second}
+use Rattle.rule.proofs.Answers.{within-true, at-most, passes, holds-all, then-iff, test-iff, one-refused, two-first, two-second, turned, under}
 use Rattle.facts.specs.Facts.{
   solsticeYear,
   solsticeYearAt,
@@ -20,10 +20,6 @@ use Rattle.facts.specs.Facts.{
   termAt,
 }
 
--- a promise read the other way round
-turned : {A B : Type 0} {x y : A} → ((x ≡ y) ↔ B) → (y ≡ x) ↔ B
-turned f = (λ p. f .0 (sym p), λ h. sym (f .1 h))
-
 module _ {A : Type 0} where
   -- what is given is one thing
   same-given : (x a : A) → (_≡_ {A = Answer A} (is x) (is a)) ↔ (x ≡ a)
@@ -32,10 +28,6 @@ module _ {A : Type 0} where
   -- what is told of an answer that is given
   pub told-is : (x a : A) (b : Answer A) → b ≡ is x → is a ≡ b → a ≡ x
   told-is x a b e p = sym (same-given x a .0 (sym e ∙ sym p))
-
--- what the rest comes to where the test before it holds
-under : {A P B C : Type 0} → (A ↔ (P × B)) → (P → B ↔ C) → A ↔ (P × C)
-under e f = (λ a. let h = e .0 a in (h .0, f (h .0) .0 (h .1)), λ h. e .1 (h .0, f (h .0) .1 (h .1)))
 
 -- one guard; L says literally what is given
 module _ {A P : Type 0} (t : Bool) (k : ℕ) (x : A) (e : (t ≡ true) ↔ P) where

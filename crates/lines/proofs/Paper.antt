@@ -2,34 +2,19 @@
 use Prim.Native.Nat.{ℕ, _≤_, _<_}
 use native.Mathlib.Omega.{arith}
 use mathlib.Core.Path.{_≡_, refl, ap, ap₂, sym, _∙_, subst}
-use mathlib.Core.Bool.{Bool, true, false}
+use mathlib.Core.Bool.{Bool, true}
 use mathlib.Core.List.{List, [], _∷_, _++_, append-assoc}
 use mathlib.Core.Logic.{_↔_, inl, inr, ⊎-elim, Iff·trans}
 use lib.Dec.{leb}
 use lib.ListN.{length, getD}
 use borrow.Author.Tests.{leb-true}
 use Rattle.rule.specs.Counts.{dayName, yearName}
-use Rattle.rule.specs.Rule.{
-  monthStart,
-  monthLength,
-  monthOfDay,
-  yearOfMonth,
-  firstMonth,
-  monthsInYear,
-  midTermsBefore,
-  leap,
-  midTermNumber,
-  monthNumber,
-  monthAt,
-  marked,
-  numberOf,
-  leapMark,
-  eclipse,
-}
+use Rattle.rule.specs.Rule.{monthStart, monthLength, monthOfDay, yearOfMonth, firstMonth, monthsInYear, midTermsBefore, leap, midTermNumber, monthNumber, monthAt, eclipse}
 use Rattle.rule.specs.Lists.{those, placed}
 use Rattle.rule.specs.Reasons.{Answer, is, refused, guard, within, andThen, reasonNumber, intoRoom, afterwards}
 use Rattle.rule.specs.declared.Reason.{Reason}
 use Rattle.rule.specs.declared.Reason.the-variants.{NoSuchYear, NoSuchMonth, NoSuchDay, LentTooShort}
+use Rattle.rule.proofs.Leap.{mark-at, number-at}
 use Rattle.rule.proofs.Answers.{reason-back, within-true, holds-all, at-most, two-given, two-first, two-second, given-not, two-only}
 use Rattle.dates.specs.Dates.{dateIn, dateOf}
 use Rattle.facts.specs.Facts.{monthFacts, yearFacts}
@@ -87,23 +72,6 @@ refused-listing s k e = ap printed e
 pub listing-in-order : Paper.Listing-in-order
 unfolding listing listingOf
 listing-in-order s l e = ap printed e
-
--- a month as its facts hold it
-number-at : (n : ℕ) → numberOf (monthAt n) ≡ monthNumber n
-unfolding monthAt
-number-at n = go (leap n)
-  where
-    go : (b : Bool) → numberOf (marked b (monthNumber n)) ≡ monthNumber n
-    go true = refl
-    go false = refl
-
-mark-at : (n : ℕ) → leapMark (monthAt n) ≡ leap n
-unfolding monthAt
-mark-at n = go (leap n)
-  where
-    go : (b : Bool) → leapMark (marked b (monthNumber n)) ≡ b
-    go true = refl
-    go false = refl
 
 pub month-line-literally : Paper.Month-line-literally
 unfolding monthLine monthFacts followed

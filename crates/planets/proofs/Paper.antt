@@ -11,7 +11,7 @@ use Rattle.rule.specs.Counts.{DayInRange}
 use Rattle.rule.specs.Reasons.{Answer, is, refused, within, guard, reasonNumber, reasonOf}
 use Rattle.rule.specs.declared.Reason.{Reason}
 use Rattle.rule.specs.declared.Reason.the-variants.{NoSuchPlanet}
-use Rattle.rule.proofs.Answers.{reason-back, within-true, at-most, holds-all, fails, test-iff, one-refused, read-back, once, given-not, from-guard, two-only}
+use Rattle.rule.proofs.Answers.{reason-back, within-true, at-most, holds-all, fails, test-iff, one-refused, read-back, once, given-not, from-guard, two-only, turned, under}
 use Rattle.planets.specs.declared.Numbers.{Numbers}
 use Rattle.planets.specs.declared.Phase.{Phase}
 use Rattle.planets.specs.declared.ConjunctionTold.{ConjunctionTold}
@@ -90,10 +90,6 @@ common-divisor-of-004 = Reducing.common-divisor-of-004
 
 pub reduction : Paper.Reduction
 reduction = Reducing.reduction
-
--- an equation turned round
-turned : {A : Type 0} {x y : A} {P : Type 0} → ((x ≡ y) ↔ P) → (y ≡ x) ↔ P
-turned e = (λ q. e .0 (sym q), λ h. sym (e .1 h))
 
 conjunctions : (p k : ℕ) → ConjunctionReasons p k
 unfolding conjunctionAt conjunctionOf
@@ -200,10 +196,6 @@ left-given p d n h = (there, back)
         let k = Moments.next-only (numbersOf p) (Five.good-planets p h) d (n .k) .1 (q .least) in
         let e : n ≡ first = ap (withCount (n .k)) (Literal.conjunction-is p (n .k) (n .conjunction) h .0 (q .conjunction)) ∙ made refl k in
         all .1 (subst (λ (x : Next). DayInRange (x .conjunction .day)) e (q .in-range), ap is (sym e))
-
--- under a fact that the first test states
-under : {A B C P : Type 0} → (A ↔ (P × B)) → (P → B ↔ C) → A ↔ (P × C)
-under e f = (λ a. (e .0 a .0, f (e .0 a .0) .0 (e .0 a .1)), λ q. e .1 (q .0, f (q .0) .1 (q .1)))
 
 -- three facts side by side
 three : {A P Q R : Type 0} → (A ↔ (P × (Q × R))) → A ↔ (P × Q × R)

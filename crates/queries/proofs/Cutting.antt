@@ -15,7 +15,30 @@ use Rattle.facts.specs.Facts.{yearFacts, yearFactsAt, monthFacts, monthFactsAt}
 use Rattle.reading.specs.declared.Field.the-variants.{Known, Unread}
 use Rattle.reading.specs.declared.Reading.{Reading}
 use Rattle.asked.specs.Asked.{allCapped}
-use Rattle.told.specs.Answers.{told, placeLine, placeText, yearLine, yearText, monthLineOf, monthText, quarterLine, quarterText, termLine, termText, conjunctionLine, conjunctionText, nextLine, nextText, dayLineOf, dayText, dayLine, dateText, textOfDate, moveText, searchText}
+use Rattle.told.specs.Answers.{
+  told,
+  placeLine,
+  placeText,
+  yearLine,
+  yearText,
+  monthLineOf,
+  monthText,
+  quarterLine,
+  quarterText,
+  termLine,
+  termText,
+  conjunctionLine,
+  conjunctionText,
+  nextLine,
+  nextText,
+  dayLineOf,
+  dayText,
+  dayLine,
+  dateText,
+  textOfDate,
+  moveText,
+  searchText,
+}
 use Rattle.capped.specs.Capped.{capped, cappedMove, cappedField, cappedReading}
 use Rattle.capped.specs.Paper.{Settled, AlikeSearch, whole, both}
 use Rattle.capped.proofs.Paper.{at-most, from-one, capped-alike, capped-search}

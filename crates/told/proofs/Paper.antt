@@ -43,7 +43,35 @@ use Rattle.reading.specs.Readings.{windowDays, fitting}
 use Rattle.reading.specs.Search.{total, searchAt}
 use Rattle.reading.proofs.Rows as Searches
 use Rattle.fields.specs.Fields.{word, decimal, followed, each}
-use Rattle.told.specs.Answers.{places, told, placeLine, placeText, leapNumber, leapCount, yearLine, yearText, monthLineOf, monthText, quarterLine, quarterText, termLine, termText, phaseText, conjunctionLine, conjunctionText, nextLine, nextText, dayLineOf, dayText, dayLine, dateText, textOfDate, moveText, foundLine, searchText}
+use Rattle.told.specs.Answers.{
+  places,
+  told,
+  placeLine,
+  placeText,
+  leapNumber,
+  leapCount,
+  yearLine,
+  yearText,
+  monthLineOf,
+  monthText,
+  quarterLine,
+  quarterText,
+  termLine,
+  termText,
+  phaseText,
+  conjunctionLine,
+  conjunctionText,
+  nextLine,
+  nextText,
+  dayLineOf,
+  dayText,
+  dayLine,
+  dateText,
+  textOfDate,
+  moveText,
+  foundLine,
+  searchText,
+}
 use Rattle.told.specs.Paper as Paper
 use Rattle.told.proofs.Telling.{words-back, as-refusal}
 use Rattle.told.proofs.Refusing.{NeverWith, never-refused, never-guard, never-one, never-two, never-then, tells-refusal}

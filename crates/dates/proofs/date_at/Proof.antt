@@ -49,7 +49,16 @@ unfolding dayName
 own-name c = omega (arith, c .before .day-name .ensures)
 
 returns : tie.Need-returns
-returns c = made (c .before .before .before .before .before .before .before .args .day) (c .before .before .before .before .before .before .month-of-day .result) (c .before .before .before .before .before .year-of-month .result) (c .before .before .before .month-start .result) (c .before .before .month-length .result) (c .before .day-name .result) (c .year-name .result) (c .before .before .before .before .month-at .result) (c .before .before .before .before .before .before .month-of-day .ensures) (c .before .before .before .before .before .year-of-month .ensures) (c .before .before .before .before .month-at .ensures) (c .before .before .before .month-start .ensures) (c .before .before .month-length .ensures) (own-name (c)) (c .year-name .ensures)
+returns c =
+    let length = c .before .before in
+    let start = length .before in
+    let month = start .before in
+    let year = month .before in
+    let n = year .before in
+    made (n .before .args .day) (n .month-of-day .result) (year .year-of-month .result) (start .month-start .result)
+    (length .month-length .result) (c .before .day-name .result) (c .year-name .result) (month .month-at .result)
+    (n .month-of-day .ensures) (year .year-of-month .ensures) (month .month-at .ensures) (start .month-start .ensures)
+    (length .month-length .ensures) (own-name c) (c .year-name .ensures)
 
 pub date-at-spec : {M : Type 1} → statement M
 date-at-spec =

@@ -31,7 +31,9 @@ found : (c : tie.After-day) → dayOfDate (c .before .before .before .args .year
 found c = sym (c .before .before .day-of-date .ensures) ∙ ap saidDay (c .day .given .1)
 
 in-range : (c : tie.After-day) → DayInRange (c .day .given .0 .0)
-in-range c = found-date (c .before .before .before .args .year) (c .before .before .before .args .number) (c .before .before .before .args .leap) (c .before .before .before .args .day-of-month) (c .day .given .0 .0) (found c) .0
+in-range c =
+    let s = c .before .before .before .args in
+    found-date (s .year) (s .number) (s .leap) (s .day-of-month) (c .day .given .0 .0) (found c) .0
 
 enum-known-n : tie.Need-enum-known-n
 enum-known-n c = search needs
