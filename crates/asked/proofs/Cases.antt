@@ -1,58 +1,20 @@
--- Texts that are no fields of a query, and the fields of lines with a space too many, by computing. Assumes nothing.
+-- Lines that are no query, and lines that are, by computing. Assumes nothing.
 use mathlib.Core.Path.{_≡_, refl}
-use mathlib.Core.List.{[], _∷_}
 use Rattle.fields.specs.Fields.{word}
 use Rattle.fields.specs.Paper.{valueFrom}
-use Rattle.asked.specs.Asked.{fieldsIn, allDigits, isDecimal, isBack, like, keyword, fieldRead}
-use Rattle.asked.specs.Paper.{Reads}
+use Rattle.forms.specs.Forms.{fieldsIn, fieldAt, same, allDigits, isDecimal, isBack, isMark, admits, like, firstLike, numberIn, leapIn, moveIn, moveOf, slipFieldIn, slipMarkIn}
+use Rattle.asked.specs.declared.Query.{Query}
+use Rattle.asked.specs.Asked.{table, formsOf, forms, queryAt, isNote, readBy}
+use Rattle.asked.specs.Paper.{read}
 
--- "a leading zero, `-0`, a carriage return", a sign, no text at all, small letters
-pub leading-zero : Reads (word "05") 120 0
-unfolding allDigits isDecimal isBack like keyword fieldRead
-leading-zero = refl
-
-pub two-zeros : Reads (word "00") 120 0
-unfolding allDigits isDecimal isBack like keyword fieldRead
-two-zeros = refl
-
-pub minus-nought : Reads (word "-0") 120 0
-unfolding allDigits isDecimal isBack like keyword fieldRead
+pub minus-nought : read (word "MOVE 1 1 - 1 -0") ≡ Query.Unreadable
+unfolding valueFrom fieldsIn fieldAt same allDigits isDecimal isBack isMark admits like firstLike numberIn leapIn moveIn moveOf slipFieldIn slipMarkIn table formsOf forms queryAt isNote readBy
 minus-nought = refl
 
-pub minus-leading-zero : Reads (word "-05") 120 0
-unfolding allDigits isDecimal isBack like keyword fieldRead
-minus-leading-zero = refl
-
-pub with-plus : Reads (word "+5") 120 0
-unfolding allDigits isDecimal isBack like keyword fieldRead
-with-plus = refl
-
-pub nothing : Reads [] 120 0
-unfolding allDigits isDecimal isBack like keyword fieldRead
-nothing = refl
-
-pub carriage-return : Reads (word "5\r") 120 0
-unfolding allDigits isDecimal isBack like keyword fieldRead
-carriage-return = refl
-
-pub small-letters : Reads (word "year") 120 0
-unfolding allDigits isDecimal isBack like keyword fieldRead
-small-letters = refl
-
--- the least number of 33 bits is itself
-pub beyond-32-bits : Reads (word "4294967296") 110 4294967296
-unfolding valueFrom allDigits isDecimal fieldRead
-beyond-32-bits = refl
-
--- "a double, leading or trailing space" makes an empty field
-pub double-space : fieldsIn (word "DAY  5") ≡ word "DAY" ∷ [] ∷ word "5" ∷ []
-unfolding fieldsIn
+pub double-space : read (word "DAY  5") ≡ Query.Unreadable
+unfolding valueFrom fieldsIn fieldAt same allDigits isDecimal isBack isMark admits like firstLike numberIn leapIn moveIn moveOf slipFieldIn slipMarkIn table formsOf forms queryAt isNote readBy
 double-space = refl
 
-pub leading-space : fieldsIn (word " DAY") ≡ [] ∷ word "DAY" ∷ []
-unfolding fieldsIn
-leading-space = refl
-
-pub trailing-space : fieldsIn (word "DAY ") ≡ word "DAY" ∷ [] ∷ []
-unfolding fieldsIn
-trailing-space = refl
+pub a-day : read (word "DAY 39857") ≡ Query.Day 39857
+unfolding valueFrom fieldsIn fieldAt same allDigits isDecimal isBack isMark admits like firstLike numberIn leapIn moveIn moveOf slipFieldIn slipMarkIn table formsOf forms queryAt isNote readBy
+a-day = refl

@@ -1,104 +1,88 @@
--- The desk program's lines: "Fields parted by single spaces", and what a field may be: a decimal number without leading zeros, such a
--- number that starts with `-`, a mark, `?`, or one of the eleven words. All are lists of bytes. Assumes nothing.
-use Prim.Native.Nat.{ℕ}
-use mathlib.Core.Bool.{Bool, true, false, not, cond, _&&_, _||_}
+-- What a line asks: the table of forms, and the query of each. All numbers may be of any size. Assumes nothing.
+use Prim.Native.Nat.{ℕ, zero, suc}
+use Prim.Native.String.{String}
+use mathlib.Core.Bool.{Bool, false, cond}
 use mathlib.Core.List.{List, [], _∷_}
 use lib.Dec.{eqb}
-use lib.ListN.{drop}
-use Rattle.rule.specs.Reasons.{within}
 use Rattle.fields.specs.Fields.{word}
-use Rattle.fields.specs.Paper.{valueFrom}
-use Rattle.asked.specs.declared.Token.{Token}
-use Rattle.capped.specs.Capped.{capped}
+use Rattle.forms.specs.Forms.{fieldsIn, firstLike, numberIn, leapIn, moveIn, slipFieldIn, slipMarkIn}
+use Rattle.asked.specs.declared.Slip.{Slip}
+use Rattle.asked.specs.declared.Places.{Places}
+use Rattle.asked.specs.declared.Query.{Query}
 
--- what stands before the first space, and whether there is a space
-unfoldable pub firstField : List ℕ → List ℕ
-firstField [] = []
-firstField (b ∷ s) = cond (eqb b 32) [] (b ∷ firstField s)
+-- what stands in the places of a line: a slip in 1 to 6; numbers (n), a mark (m) and a move (s), as forms have them there. c says what
+-- becomes of a number
+module _ (c : ℕ → ℕ) (fs : List (List ℕ)) where
+  abbrev pub slipIn : Slip
+  slipIn =
+      record {
+        «year_name» = slipFieldIn c fs 1;
+        «month_number» = slipFieldIn c fs 2;
+        «leap_mark» = slipMarkIn fs 3;
+        «day_of_month» = slipFieldIn c fs 4;
+        «day_name» = slipFieldIn c fs 5;
+        «first_name» = slipFieldIn c fs 6;
+      }
 
--- a byte in front of a line's fields: a space ends an empty field, any other is the first byte of the first field
-abbrev pub inFrontOf : Bool → ℕ → List (List ℕ) → List (List ℕ)
-inFrontOf true b fs = [] ∷ fs
-inFrontOf false b [] = (b ∷ []) ∷ []
-inFrontOf false b (f ∷ fs) = (b ∷ f) ∷ fs
+  abbrev pub placesIn : Places
+  placesIn =
+      record {
+        n1 = c (numberIn fs 1);
+        n2 = c (numberIn fs 2);
+        m3 = leapIn fs 3;
+        n4 = c (numberIn fs 4);
+        s5 = moveIn c fs 5;
+        n7 = c (numberIn fs 7);
+        n8 = c (numberIn fs 8);
+      }
 
--- a line's fields: a space parts two of them (Paper, Fields-joined)
-unfoldable pub fieldsIn : List ℕ → List (List ℕ)
-fieldsIn [] = [] ∷ []
-fieldsIn (b ∷ s) = inFrontOf (eqb b 32) b (fieldsIn s)
+-- a form, and the query of a line that is like it
+pub record Row : Type 0 where
+  pub form : List ℕ
+  pub query : Query
 
--- "numbers decimal without leading zeros"
-unfoldable pub allDigits : List ℕ → Bool
-allDigits [] = true
-allDigits (b ∷ s) = within 48 57 b && allDigits s
+abbrev row : String → Query → Row
+row f q = record { form = word f; query = q }
 
-abbrev pub leads : List ℕ → Bool
-leads [] = false
-leads (b ∷ []) = true
-leads (b ∷ c ∷ s) = not (eqb b 48)
+-- the table of forms: `n` is a number, `m` a mark, `s` a number that may start with `-`, `f` and `g` a number and a mark that may be `?`
+unfoldable pub table : Places → Slip → List Row
+table w slip =
+    row "PLACE n" (Query.Place (w .n1))
+    ∷ row "YEAR n" (Query.Year (w .n1))
+    ∷ row "MONTH n" (Query.Month (w .n1))
+    ∷ row "QUARTER n n" (Query.Quarter (w .n1) (w .n2))
+    ∷ row "TERM n n" (Query.Term (w .n1) (w .n2))
+    ∷ row "CONJUNCTION n n" (Query.Conjunction (w .n1) (w .n2))
+    ∷ row "NEXT n n" (Query.Next (w .n1) (w .n2))
+    ∷ row "PAIR n" (Query.Pair (w .n1))
+    ∷ row "DAY n" (Query.Day (w .n1))
+    ∷ row "DATE n n m n" (Query.Date (w .n1) (w .n2) (w .m3) (w .n4))
+    ∷ row "MOVE n n m n s" (Query.Move (w .n1) (w .n2) (w .m3) (w .n4) (w .s5))
+    ∷ row "SEARCH f f g f f f n n" (Query.Search slip (w .n7) (w .n8))
+    ∷ []
 
-unfoldable pub isDecimal : List ℕ → Bool
-isDecimal s = leads s && allDigits s
+-- the table, with what stands in the places of a line
+abbrev pub tableOf : (ℕ → ℕ) → List (List ℕ) → List Row
+tableOf c fs = table (placesIn c fs) (slipIn c fs)
 
--- The kinds of a field are letters: `n` a number, `b` a number that starts with `-`, `m` a mark, `?` unread, a capital for each of the
--- eleven words, `x` any other. A query's form is a line of such letters, where `f` admits a number or `?`, `g` a mark or `?`, and `s` a
--- number with `-` or without; any other letter admits itself alone.
-abbrev pub admits : ℕ → ℕ → Bool
-admits p k =
-    cond (eqb p 102) (eqb k 110 || eqb k 63)
-    (cond (eqb p 103) (eqb k 109 || eqb k 63)
-    (cond (eqb p 115) (eqb k 110 || eqb k 98)
-    (eqb p k)))
+-- the forms alone, and the query in a place
+unfoldable pub formsOf : List Row → List (List ℕ)
+formsOf [] = []
+formsOf (r ∷ rs) = r .form ∷ formsOf rs
 
-unfoldable pub like : List ℕ → List ℕ → Bool
-like [] [] = true
-like [] (k ∷ ks) = false
-like (p ∷ ps) [] = false
-like (p ∷ ps) (k ∷ ks) = admits p k && like ps ks
+unfoldable pub forms : List (List ℕ)
+forms = formsOf (tableOf (λ n. n) [])
 
--- "a move's number may start with `-`", but `-0` is none
-unfoldable pub isBack : List ℕ → Bool
-isBack [] = false
-isBack (b ∷ s) = eqb b 45 && not (like (word "0") s) && isDecimal s
+unfoldable pub queryAt : List Row → ℕ → Query
+queryAt [] k = Query.Unreadable
+queryAt (r ∷ rs) zero = r .query
+queryAt (r ∷ rs) (suc k) = queryAt rs k
 
--- the eleven words: a text without small letters admits itself alone
-unfoldable pub keyword : List ℕ → ℕ
-keyword s =
-    cond (like (word "PLACE") s) 80
-    (cond (like (word "YEAR") s) 89
-    (cond (like (word "MONTH") s) 77
-    (cond (like (word "QUARTER") s) 81
-    (cond (like (word "TERM") s) 84
-    (cond (like (word "CONJUNCTION") s) 67
-    (cond (like (word "NEXT") s) 78
-    (cond (like (word "DAY") s) 68
-    (cond (like (word "DATE") s) 65
-    (cond (like (word "MOVE") s) 86
-    (cond (like (word "SEARCH") s) 83 120))))))))))
+-- "A line that begins with `#` (..) is a note"
+unfoldable pub isNote : List ℕ → Bool
+isNote [] = false
+isNote (b ∷ s) = eqb b 35
 
--- a field's kind and value: a number's own; of a mark 1 for ordinary and 2 for leap; of any other 0
-unfoldable pub fieldRead : List ℕ → Token
-fieldRead s =
-    cond (isDecimal s) (record { kind = 110; value = valueFrom 0 s })
-    (cond (isBack s) (record { kind = 98; value = valueFrom 0 (drop 1 s) })
-    (cond (like (word "-") s) (record { kind = 109; value = 1 })
-    (cond (like (word "L") s) (record { kind = 109; value = 2 })
-    (cond (like (word "?") s) (record { kind = 63; value = 0 })
-    (record { kind = keyword s; value = 0 })))))
-
--- the same with its number cut down
-abbrev pub cappedToken : Token → Token
-cappedToken f = record { kind = f .kind; value = capped (f .value) }
-
--- the kinds and the values of a line's fields
-unfoldable pub kindsOf : List (List ℕ) → List ℕ
-kindsOf [] = []
-kindsOf (f ∷ fs) = fieldRead f .kind ∷ kindsOf fs
-
-unfoldable pub valuesOf : List (List ℕ) → List ℕ
-valuesOf [] = []
-valuesOf (f ∷ fs) = fieldRead f .value ∷ valuesOf fs
-
-unfoldable pub allCapped : List ℕ → List ℕ
-allCapped [] = []
-allCapped (n ∷ ns) = capped n ∷ allCapped ns
+-- what a line asks: nothing, where it is a note; else the query of the first form that it is like
+unfoldable pub readBy : (ℕ → ℕ) → List ℕ → Query
+readBy c s = cond (isNote s) Query.Note (queryAt (tableOf c (fieldsIn 32 s)) (firstLike forms (fieldsIn 32 s)))

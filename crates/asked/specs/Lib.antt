@@ -1,3 +1,3 @@
--- A line's fields and what each of them is: definitions, and statements of them.
+-- What a line asks: definitions, and statements of them.
 pub mod Asked
 pub mod Paper

@@ -1,85 +1,56 @@
--- What a line's fields are, and what a field may be, literally. No proofs here: proofs/Paper.antt has each under its own name.
-use Prim.Native.Nat.{ℕ, suc}
+-- How each query is written, literally, and that nothing else is read. No proofs here: proofs/Paper.antt has each under its own name.
+use Prim.Native.Nat.{ℕ}
 use mathlib.Core.Path.{_≡_}
-use mathlib.Core.Bool.{cond}
-use mathlib.Core.Logic.{_⊎_}
 use mathlib.Core.List.{List, [], _∷_}
-use lib.Dec.{eqb}
-use Rattle.fields.specs.Fields.{word, decimal, leapText, joined}
-use Rattle.asked.specs.Asked.{fieldsIn, fieldRead}
+use Rattle.forms.specs.Texts.{Text, w, n, m, s, f, g, line}
+use Rattle.asked.specs.declared.Slip.{Slip}
+use Rattle.asked.specs.declared.Query.{Query}
+use Rattle.asked.specs.Asked.{readBy}
 
--- a text without a space, and such texts
-pub data NoSpace : List ℕ → Type 0 where
-  none : NoSpace []
-  one-more : {b : ℕ} {s : List ℕ} → (b ≡ 32 → ⊥) → NoSpace s → NoSpace (b ∷ s)
+-- a slip's six fields in front of others
+abbrev pub slip : Slip → List Text → List Text
+slip r ts =
+    f (r .«year_name») ∷ f (r .«month_number») ∷ g (r .«leap_mark»)
+    ∷ f (r .«day_of_month») ∷ f (r .«day_name») ∷ f (r .«first_name») ∷ ts
 
-pub data NoSpaces : List (List ℕ) → Type 0 where
-  no-field : NoSpaces []
-  field-more : {f : List ℕ} {fs : List (List ℕ)} → NoSpace f → NoSpaces fs → NoSpaces (f ∷ fs)
+-- each query, as README's table shows it: `w` a word, `n` a number of any size, `m` a mark, `s` a number that may start with `-`. A line
+-- with nothing in it asks nothing, and the shortest note is `#`
+abbrev pub texts : Query → List Text
+texts Query.Unreadable = []
+texts Query.Note = w "#" ∷ []
+texts (Query.Place y) = w "PLACE" ∷ n y ∷ []
+texts (Query.Year y) = w "YEAR" ∷ n y ∷ []
+texts (Query.Month k) = w "MONTH" ∷ n k ∷ []
+texts (Query.Quarter k q) = w "QUARTER" ∷ n k ∷ n q ∷ []
+texts (Query.Term y k) = w "TERM" ∷ n y ∷ n k ∷ []
+texts (Query.Conjunction p k) = w "CONJUNCTION" ∷ n p ∷ n k ∷ []
+texts (Query.Next p d) = w "NEXT" ∷ n p ∷ n d ∷ []
+texts (Query.Pair p) = w "PAIR" ∷ n p ∷ []
+texts (Query.Day d) = w "DAY" ∷ n d ∷ []
+texts (Query.Date y k l d) = w "DATE" ∷ n y ∷ n k ∷ m l ∷ n d ∷ []
+texts (Query.Move y k l d z) = w "MOVE" ∷ n y ∷ n k ∷ m l ∷ n d ∷ s z ∷ []
+texts (Query.Search r a b) = w "SEARCH" ∷ slip r (n a ∷ n b ∷ [])
 
--- "Fields parted by single spaces": the fields of a line, with single spaces between, are the line
-abbrev pub Fields-joined : Type 0
-Fields-joined = (s : List ℕ) → joined (fieldsIn s) ≡ s
+unfoldable pub written : Query → List ℕ
+written q = line (texts q)
 
--- there is a space in none of them
-abbrev pub Fields-without-spaces : Type 0
-Fields-without-spaces = (s : List ℕ) → NoSpaces (fieldsIn s)
+-- what a line asks, with numbers of any size
+abbrev pub read : List ℕ → Query
+read = readBy (λ k. k)
 
--- and no other texts without spaces make the line
-abbrev pub Joined-parts : Type 0
-Joined-parts = (f : List ℕ) (fs : List (List ℕ)) → NoSpaces (f ∷ fs) → fieldsIn (joined (f ∷ fs)) ≡ f ∷ fs
+-- every query is read as it is written
+abbrev pub Written-is-read : Type 0
+Written-is-read = (q : Query) → read (written q) ≡ q
 
--- the eleven words by their letters
-abbrev pub wordOf : ℕ → List ℕ
-wordOf k =
-    cond (eqb k 80) (word "PLACE")
-    (cond (eqb k 89) (word "YEAR")
-    (cond (eqb k 77) (word "MONTH")
-    (cond (eqb k 81) (word "QUARTER")
-    (cond (eqb k 84) (word "TERM")
-    (cond (eqb k 67) (word "CONJUNCTION")
-    (cond (eqb k 78) (word "NEXT")
-    (cond (eqb k 68) (word "DAY")
-    (cond (eqb k 65) (word "DATE")
-    (cond (eqb k 86) (word "MOVE")
-    (cond (eqb k 83) (word "SEARCH") []))))))))))
+-- "A line that begins with `#`" is a note, whatever follows
+abbrev pub Note-is-read : Type 0
+Note-is-read = (t : List ℕ) → read (35 ∷ t) ≡ Query.Note
 
--- the one text of a field of a kind and with a value: `n` is 110, `b` 98, `m` 109; "a mark is `-` (ordinary) or `L` (leap)", 2 is leap
-unfoldable pub textOf : ℕ → ℕ → List ℕ
-textOf k v =
-    cond (eqb k 110) (decimal v)
-    (cond (eqb k 98) (45 ∷ decimal v)
-    (cond (eqb k 109) (leapText (eqb v 2))
-    (cond (eqb k 63) (word "?")
-    (wordOf k))))
+-- any other line that is no query is unreadable
+abbrev pub Else-unreadable : Type 0
+Else-unreadable =
+    (t : List ℕ) → ((u : List ℕ) → t ≡ 35 ∷ u → ⊥) → ((q : Query) → t ≡ written q → ⊥) → read t ≡ Query.Unreadable
 
--- a field is read as what its text says, and any text that says nothing is `x`, 120, which is no field of a query
-abbrev pub Read-back : Type 0
-Read-back = (f : List ℕ) → (fieldRead f .kind ≡ 120) ⊎ (f ≡ textOf (fieldRead f .kind) (fieldRead f .value))
-
--- `-0` is none
-abbrev pub Never-minus-nought : Type 0
-Never-minus-nought = (f : List ℕ) → fieldRead f .kind ≡ 98 → fieldRead f .value ≡ 0 → ⊥
-
--- what a field of a kind and with a value is
-abbrev pub Reads : List ℕ → ℕ → ℕ → Type 0
-Reads f k v = fieldRead f ≡ record { kind = k; value = v }
-
--- every number is a field, however large, and with `-` every number but 0; so are the marks, `?` and the eleven words
-pub record All-read : Type 0 where
-  pub number : (n : ℕ) → Reads (decimal n) 110 n
-  pub number-back : (n : ℕ) → Reads (45 ∷ decimal (suc n)) 98 (suc n)
-  pub ordinary : Reads (word "-") 109 1
-  pub leap : Reads (word "L") 109 2
-  pub unread : Reads (word "?") 63 0
-  pub place : Reads (word "PLACE") 80 0
-  pub year : Reads (word "YEAR") 89 0
-  pub month : Reads (word "MONTH") 77 0
-  pub quarter : Reads (word "QUARTER") 81 0
-  pub term : Reads (word "TERM") 84 0
-  pub conjunction : Reads (word "CONJUNCTION") 67 0
-  pub next : Reads (word "NEXT") 78 0
-  pub day : Reads (word "DAY") 68 0
-  pub date : Reads (word "DATE") 65 0
-  pub move : Reads (word "MOVE") 86 0
-  pub search : Reads (word "SEARCH") 83 0
+-- a line is one query alone
+abbrev pub One-query : Type 0
+One-query = (p q : Query) → written p ≡ written q → p ≡ q

@@ -1,252 +1,151 @@
-// A query line's fields, and what each of them is: its kind, a letter, and its value. Numbers are cut down to 32 bits (crate `capped`).
+// What a line asks: one table of forms as text, and the query of each form. A new query is a row of the table, a variant of `Query` and
+// an arm of `query_of`.
 ghost use mathlib.Core.Path.{_≡_};
-ghost use Prim.Native.Nat.{_+_, _-_, _*_, _≤_};
-ghost use lib.ListN.{length, drop};
-ghost use lib.Seq.{sets};
-ghost use Rattle.rule.specs.Reasons.{within};
-ghost use Rattle.fields.specs.Paper.{valueFrom};
 ghost use Rattle.capped.specs.Capped.{capped};
-ghost use Rattle.asked.specs.Asked.{
-  firstField,
-  fieldsIn,
-  allDigits,
-  leads,
-  isDecimal,
-  admits,
-  like,
-  isBack,
-  keyword,
-  fieldRead,
-  cappedToken,
-  kindsOf,
-  valuesOf,
-  allCapped,
-};
+ghost use Rattle.forms.specs.Forms.{fieldsIn, firstLike};
+ghost use Rattle.asked.specs.Asked.{isNote, slipIn, placesIn, tableOf, forms, queryAt, readBy};
+use forms::Mark;
+use reading::Field;
 
-// What a field is: a letter for its kind, and its value.
-pub struct Token {
-    pub kind: u8,
-    pub value: u32,
+// What was read on a slip.
+pub struct Slip {
+    pub year_name: Field,
+    pub month_number: Field,
+    pub leap_mark: Mark,
+    pub day_of_month: Field,
+    pub day_name: Field,
+    pub first_name: Field,
 }
 
-// Whether a letter of a query's form admits a kind.
-fn admits(p: u8, k: u8) -> bool
-    ensures { λ r. ⌜ r ≡ admits p k ⌝ }
-{
-    if p == 102 {
-        return (k == 110) | (k == 63);
-    }
-    if p == 103 {
-        return (k == 109) | (k == 63);
-    }
-    if p == 115 {
-        return (k == 110) | (k == 98);
-    }
-    p == k
+// What a line asks, in the paper's words. A note holds nothing: what is said to it is the line.
+pub enum Query {
+    Unreadable,
+    Note,
+    Place(u32),
+    Year(u32),
+    Month(u32),
+    Quarter(u32, u32),
+    Term(u32, u32),
+    Conjunction(u32, u32),
+    Next(u32, u32),
+    Pair(u32),
+    Day(u32),
+    Date(u32, u32, bool, u32),
+    Move(u32, u32, bool, u32, i64),
+    Search(Slip, u32, u32),
 }
 
-// Whether a text is like a form: as long, and each byte admitted.
-pub fn is_like(p: &[u8], s: &[u8]) -> bool
-    ensures { λ r. ⌜ r ≡ like (now (p .entry)) (now (s .entry)) ⌝ }
+// The slip in places 1 to 6 of a line.
+fn read_slip(line: &[u8]) -> Slip
+    ensures { λ r. ⌜ r ≡ slipIn capped (fieldsIn 32 (now (line .entry))) ⌝ }
 {
-    if p.len() != s.len() {
+    let s1 = forms::after_first(line);
+    let s2 = forms::after_first(s1);
+    let s3 = forms::after_first(s2);
+    let s4 = forms::after_first(s3);
+    let s5 = forms::after_first(s4);
+    let s6 = forms::after_first(s5);
+    Slip {
+        year_name: forms::slip_field(s1),
+        month_number: forms::slip_field(s2),
+        leap_mark: forms::slip_mark(s3),
+        day_of_month: forms::slip_field(s4),
+        day_name: forms::slip_field(s5),
+        first_name: forms::slip_field(s6),
+    }
+}
+
+// What stands in the places of a line, read as the part that forms have there: a number, a mark, a move.
+pub struct Places {
+    pub n1: u32,
+    pub n2: u32,
+    pub m3: bool,
+    pub n4: u32,
+    pub s5: i64,
+    pub n7: u32,
+    pub n8: u32,
+}
+
+fn read_places(line: &[u8]) -> Places
+    ensures { λ r. ⌜ r ≡ placesIn capped (fieldsIn 32 (now (line .entry))) ⌝ }
+{
+    let s1 = forms::after_first(line);
+    let s2 = forms::after_first(s1);
+    let s3 = forms::after_first(s2);
+    let s4 = forms::after_first(s3);
+    let s5 = forms::after_first(s4);
+    let s6 = forms::after_first(s5);
+    let s7 = forms::after_first(s6);
+    let s8 = forms::after_first(s7);
+    Places {
+        n1: forms::number(s1),
+        n2: forms::number(s2),
+        m3: forms::leap(s3),
+        n4: forms::number(s4),
+        s5: forms::signed(s5),
+        n7: forms::number(s7),
+        n8: forms::number(s8),
+    }
+}
+
+// The table of forms: which of them a line is like, counted from 0. A row has 32 bytes, the form up to the first dot.
+fn form_number(line: &[u8]) -> usize
+    ensures { λ r. ⌜ r ≡ firstLike forms (fieldsIn 32 (now (line .entry))) ⌝ }
+{
+    let table: &[u8] = b"PLACE n........................
+YEAR n.........................
+MONTH n........................
+QUARTER n n....................
+TERM n n.......................
+CONJUNCTION n n................
+NEXT n n.......................
+PAIR n.........................
+DAY n..........................
+DATE n n m n...................
+MOVE n n m n s.................
+SEARCH f f g f f f n n.........
+";
+    forms::form_of(table, 12, line)
+}
+
+// The query of a line that is like a form, counted from 0.
+fn query_of(k: usize, line: &[u8]) -> Query
+    ensures { λ r. ⌜ r ≡ queryAt (tableOf capped (fieldsIn 32 (now (line .entry)))) k ⌝ }
+{
+    let w = read_places(line);
+    match k {
+        0 => Query::Place(w.n1),
+        1 => Query::Year(w.n1),
+        2 => Query::Month(w.n1),
+        3 => Query::Quarter(w.n1, w.n2),
+        4 => Query::Term(w.n1, w.n2),
+        5 => Query::Conjunction(w.n1, w.n2),
+        6 => Query::Next(w.n1, w.n2),
+        7 => Query::Pair(w.n1),
+        8 => Query::Day(w.n1),
+        9 => Query::Date(w.n1, w.n2, w.m3, w.n4),
+        10 => Query::Move(w.n1, w.n2, w.m3, w.n4, w.s5),
+        11 => Query::Search(read_slip(line), w.n7, w.n8),
+        _ => Query::Unreadable,
+    }
+}
+
+// Whether a line begins with `#`.
+pub fn is_note(line: &[u8]) -> bool
+    ensures { λ r. ⌜ r ≡ isNote (now (line .entry)) ⌝ }
+{
+    if line.len() == 0 {
         return false;
     }
-    let mut i = 0;
-    while i < p.len() {
-        if !admits(p[i], s[i]) {
-            return false;
-        }
-        i += 1;
-    }
-    true
+    line[0] == 35
 }
 
-// Whether a byte is a digit.
-fn is_digit(b: u8) -> bool
-    ensures { λ r. ⌜ r ≡ within 48 57 b ⌝ }
+// What a line asks.
+pub fn read_query(line: &[u8]) -> Query
+    ensures { λ r. ⌜ r ≡ readBy capped (now (line .entry)) ⌝ }
 {
-    (48 <= b) & (b <= 57)
-}
-
-// Whether every byte is a digit.
-fn all_digits(s: &[u8]) -> bool
-    ensures { λ r. ⌜ r ≡ allDigits (now (s .entry)) ⌝ }
-{
-    let mut i = 0;
-    while i < s.len() {
-        if !is_digit(s[i]) {
-            return false;
-        }
-        i += 1;
+    if is_note(line) {
+        return Query::Note;
     }
-    true
-}
-
-// Whether a number of so many digits may start so: 0 stands alone.
-fn leads_well(s: &[u8]) -> bool
-    ensures { λ r. ⌜ r ≡ leads (now (s .entry)) ⌝ }
-{
-    if s.len() < 2 {
-        return s.len() == 1;
-    }
-    s[0] != 48
-}
-
-// Whether a text is a decimal number without leading zeros.
-fn is_decimal(s: &[u8]) -> bool
-    ensures { λ r. ⌜ r ≡ isDecimal (now (s .entry)) ⌝ }
-{
-    leads_well(s) & all_digits(s)
-}
-
-// A number with one digit more.
-fn one_more(v: u32, b: u8) -> u32
-    ensures { λ r. ⌜ r ≡ capped (10 * v + (b - 48)) ⌝ }
-{
-    if b < 48 {
-        return capped::cap(10 * v as u64);
-    }
-    capped::cap(10 * v as u64 + (b - 48) as u64)
-}
-
-// What digits are worth.
-fn value_of(s: &[u8]) -> u32
-    ensures { λ r. ⌜ r ≡ capped (valueFrom 0 (now (s .entry))) ⌝ }
-{
-    let mut v = 0;
-    let mut i = 0;
-    while i < s.len() {
-        v = one_more(v, s[i]);
-        i += 1;
-    }
-    v
-}
-
-// Whether a text is `-` and a number that is not 0.
-fn is_back(s: &[u8]) -> bool
-    ensures { λ r. ⌜ r ≡ isBack (now (s .entry)) ⌝ }
-{
-    if s.len() == 0 {
-        return false;
-    }
-    (s[0] == 45) & !is_like(b"0", &s[1..]) & is_decimal(&s[1..])
-}
-
-// The letter of one of the eleven words, or `x`.
-fn keyword(s: &[u8]) -> u8
-    ensures { λ r. ⌜ r ≡ keyword (now (s .entry)) ⌝ }
-{
-    if is_like(b"PLACE", s) {
-        return 80;
-    }
-    if is_like(b"YEAR", s) {
-        return 89;
-    }
-    if is_like(b"MONTH", s) {
-        return 77;
-    }
-    if is_like(b"QUARTER", s) {
-        return 81;
-    }
-    if is_like(b"TERM", s) {
-        return 84;
-    }
-    if is_like(b"CONJUNCTION", s) {
-        return 67;
-    }
-    if is_like(b"NEXT", s) {
-        return 78;
-    }
-    if is_like(b"DAY", s) {
-        return 68;
-    }
-    if is_like(b"DATE", s) {
-        return 65;
-    }
-    if is_like(b"MOVE", s) {
-        return 86;
-    }
-    if is_like(b"SEARCH", s) {
-        return 83;
-    }
-    120
-}
-
-// What a field is.
-fn read_field(s: &[u8]) -> Token
-    ensures { λ r. ⌜ r ≡ cappedToken (fieldRead (now (s .entry))) ⌝ }
-{
-    if is_decimal(s) {
-        return Token {
-            kind: 110,
-            value: value_of(s),
-        };
-    }
-    if is_back(s) {
-        return Token {
-            kind: 98,
-            value: value_of(&s[1..]),
-        };
-    }
-    if is_like(b"-", s) {
-        return Token {
-            kind: 109,
-            value: 1,
-        };
-    }
-    if is_like(b"L", s) {
-        return Token {
-            kind: 109,
-            value: 2,
-        };
-    }
-    if is_like(b"?", s) {
-        return Token { kind: 63, value: 0 };
-    }
-    Token {
-        kind: keyword(s),
-        value: 0,
-    }
-}
-
-// Where the field ends that starts at a place: at the next space, or with the line.
-fn field_end(line: &[u8], from: usize) -> usize
-    requires { ⌜ from ≤ length (now line) ⌝ }
-    ensures { λ r. ⌜ r ≡ from + length (firstField (drop from (now (line .entry)))) ⌝ }
-{
-    let mut to = from;
-    while to < line.len() {
-        if line[to] == 32 {
-            return to;
-        }
-        to += 1;
-    }
-    to
-}
-
-// The fields from a place of the line on, put into the two lists from place n on: how many there are then.
-pub fn read_fields(
-    line: &[u8],
-    from: usize,
-    kinds: &mut [u8],
-    values: &mut [u32],
-    n: usize,
-) -> usize
-    requires { ⌜ (from ≤ length (now line))
-        × (n + (length (now line) - from) + 1 ≤ length (now kinds))
-        × (n + (length (now line) - from) + 1 ≤ length (now values)) ⌝ }
-    ensures { λ r. ⌜ r ≡ n + length (fieldsIn (drop from (now (line .entry)))) ⌝ }
-    ensures { λ _. ⌜ now (kinds .exit) ≡ sets (now (kinds .entry)) n (kindsOf (fieldsIn (drop from (now (line .entry))))) ⌝ }
-    ensures { λ _. ⌜ now (values .exit)
-        ≡ sets (now (values .entry)) n (allCapped (valuesOf (fieldsIn (drop from (now (line .entry)))))) ⌝ }
-{
-    let to = field_end(line, from);
-    let f = read_field(&line[from..to]);
-    kinds[n] = f.kind;
-    values[n] = f.value;
-    if to == line.len() {
-        return n + 1;
-    }
-    read_fields(line, to + 1, kinds, values, n + 1)
+    query_of(form_number(line), line)
 }

@@ -1,20 +1,25 @@
--- A line whose numbers are cut down has the answer of the line itself. Assumes nothing.
-use Prim.Native.Nat.{ℕ, zero, suc, _-_, _≤_}
+-- Every answer is the same of numbers and of numbers cut down. Assumes nothing.
+use Prim.Native.Nat.{ℕ, zero, suc, _-_, _≤_, _<_}
 use native.Mathlib.Omega.{arith}
 use native.Mathlib.Decide.{decLe}
 use mathlib.Core.Path.{_≡_, refl, ap, ap₂, sym, _∙_}
 use mathlib.Core.Bool.{Bool, true, false, cond}
-use mathlib.Core.List.{List, [], _∷_}
+use mathlib.Core.List.{List, [], _∷_, _++_}
 use lib.Dec.{eqb, leb}
-use lib.IntN.{ℤ, pos}
-use lib.ListN.{getD}
-use borrow.Author.Tests.{ne-eqb}
-use Rattle.rule.specs.Reasons.{is, guard, within}
+use lib.IntN.{ℤ, pos, negsuc}
+use lib.ListN.{length, drop}
+use borrow.Author.Tests.{ne-eqb, le-leb, lt-leb}
+use Rattle.rule.specs.Reasons.{Answer, is, guard, within}
+use Rattle.dates.specs.declared.Date.{Date}
 use Rattle.dates.specs.Dates.{dateOf, dateAt}
+use Rattle.facts.specs.declared.YearFacts.{YearFacts}
+use Rattle.facts.specs.declared.MonthFacts.{MonthFacts}
 use Rattle.facts.specs.Facts.{yearFacts, yearFactsAt, monthFacts, monthFactsAt}
+use Rattle.reading.specs.declared.Field.{Field}
 use Rattle.reading.specs.declared.Field.the-variants.{Known, Unread}
 use Rattle.reading.specs.declared.Reading.{Reading}
-use Rattle.asked.specs.Asked.{allCapped}
+use Rattle.reading.specs.Readings.{windowDays, fitting}
+use Rattle.fields.specs.Fields.{word, each}
 use Rattle.told.specs.Answers.{
   told,
   placeLine,
@@ -37,12 +42,21 @@ use Rattle.told.specs.Answers.{
   dateText,
   textOfDate,
   moveText,
+  foundLine,
   searchText,
 }
 use Rattle.capped.specs.Capped.{capped, cappedMove, cappedField, cappedReading}
 use Rattle.capped.specs.Paper.{Settled, AlikeSearch, whole, both}
 use Rattle.capped.proofs.Paper.{at-most, from-one, capped-alike, capped-search}
-use Rattle.queries.specs.Queries.{isLeap, back, moveBy, fieldBy, fieldIn, readingIn, dayAnswer, planetAnswer, lineAnswer, answerOf}
+use Rattle.forms.specs.declared.Mark.{Mark}
+use Rattle.forms.specs.declared.Mark.the-variants.{Seen, Unseen}
+use Rattle.forms.specs.Forms.{fieldsIn, fieldAt, same, firstLike, back, isMinus, moveOf, slipFieldOf, moveIn, slipFieldIn, numberIn}
+use Rattle.fields.specs.Paper.{valueFrom}
+use Rattle.asked.specs.declared.Query.{Query}
+use Rattle.asked.specs.declared.Slip.{Slip}
+use Rattle.asked.specs.Asked.{Row, slipIn, saidIn, table, forms, queryAt, readBy}
+use Rattle.asked.specs.Paper.{read}
+use Rattle.queries.specs.Queries.{unreadable, markField, readingOf, answered, answerTo}
 
 -- a line that also says the number itself
 line-capped : {A : Type 0} (b : ℕ → Bool) → Settled b → (k : ℕ) (f : ℕ → A → List ℕ) (h : ℕ → A) (n : ℕ) → told (f (capped n)) (guard (b (capped n)) k (is (h (capped n)))) ≡ told (f n) (guard (b n) k (is (h n)))
@@ -100,91 +114,84 @@ search-capped r first last = go (capped-search r first last)
     go (whole a b c) = rw (a, b, c) refl
     go (both k h g) = rw (h 27759, g 27759) refl
 
--- a mark, a move and a field in a line
-leap-capped : (v : ℕ) → isLeap (capped v) ≡ isLeap v
-leap-capped v = go (decLe v 4294967295)
-  where
-    go : Dec (v ≤ 4294967295) → isLeap (capped v) ≡ isLeap v
-    go (yes h) = ap isLeap {x = capped v} {y = v} (omega arith)
-    go (no g) = ne-eqb (capped v) 2 (λ e. omega (arith, e, g)) ∙ sym (ne-eqb v 2 (λ e. omega (arith, e, g)))
+-- a move and a field in a line
+abbrev itself : ℕ → ℕ
+itself k = k
 
 back-capped : (v : ℕ) → back (capped v) ≡ cappedMove (back v)
 back-capped zero = refl
 back-capped (suc n) = ap back {x = capped (suc n)} {y = suc (capped (suc n) - 1)} (omega arith)
 
-by-capped : (k v : ℕ) → moveBy k (capped v) ≡ cappedMove (moveBy k v)
-by-capped k v = go (eqb k 98)
+move-in : (fs : List (List ℕ)) (k : ℕ) → moveIn capped fs k ≡ cappedMove (moveIn itself fs k)
+unfolding moveIn moveOf
+move-in fs k = go (isMinus (fieldAt fs k)) (valueFrom 0 (drop 1 (fieldAt fs k))) (valueFrom 0 (fieldAt fs k))
   where
-    go : (t : Bool) → cond t (back (capped v)) (pos (capped v)) ≡ cappedMove (cond t (back v) (pos v))
-    go true = back-capped v
-    go false = refl
+    go : (t : Bool) (u v : ℕ) → cond t (back (capped u)) (pos (capped v)) ≡ cappedMove (cond t (back u) (pos v))
+    go true u v = back-capped u
+    go false u v = refl
 
-field-capped : (k v : ℕ) → fieldBy k (capped v) ≡ cappedField (fieldBy k v)
-field-capped k v = go (eqb k 63)
+field-in : (fs : List (List ℕ)) (k : ℕ) → slipFieldIn capped fs k ≡ cappedField (slipFieldIn itself fs k)
+unfolding slipFieldIn slipFieldOf
+field-in fs k = go (same (word "?") (fieldAt fs k)) (valueFrom 0 (fieldAt fs k))
   where
-    go : (t : Bool) → cond t Unread (Known (capped v)) ≡ cappedField (cond t Unread (Known v))
-    go true = refl
-    go false = refl
+    go : (t : Bool) (v : ℕ) → cond t Unread (Known (capped v)) ≡ cappedField (cond t Unread (Known v))
+    go true v = refl
+    go false v = refl
 
--- the value in a place
-at-capped : (vs : List ℕ) (i : ℕ) → getD (allCapped vs) i 0 ≡ capped (getD vs i 0)
-unfolding allCapped
-at-capped [] i = refl
-at-capped (v ∷ vs) zero = refl
-at-capped (v ∷ vs) (suc i) = at-capped vs i
+mark-kept : (m : Mark) → cappedField (markField m) ≡ markField m
+mark-kept (Seen true) = refl
+mark-kept (Seen false) = refl
+mark-kept Unseen = refl
 
-module _ (ks vs : List ℕ) where
-  abbrev cs : List ℕ
-  cs = allCapped vs
+slip-in : (fs : List (List ℕ)) → readingOf (slipIn capped fs) ≡ cappedReading (readingOf (slipIn itself fs))
+slip-in fs = rw (field-in fs 1, field-in fs 2, field-in fs 4, field-in fs 5, field-in fs 6, mark-kept (slipIn itself fs .«leap_mark»)) refl
 
-  in-capped : (i : ℕ) → fieldIn ks cs i ≡ cappedField (fieldIn ks vs i)
-  in-capped i = ap (fieldBy (getD ks i 0)) (at-capped vs i) ∙ field-capped (getD ks i 0) (getD vs i 0)
+-- the answers of all rows
+answersOf : List Row → List (List ℕ)
+answersOf [] = []
+answersOf (r ∷ rs) = answered (r .query) ∷ answersOf rs
 
-  reading-capped : readingIn ks cs ≡ cappedReading (readingIn ks vs)
-  reading-capped = rw (in-capped 1, in-capped 2, in-capped 3, in-capped 4, in-capped 5, in-capped 6) refl
+answerAt : List (List ℕ) → ℕ → List ℕ
+answerAt [] k = unreadable
+answerAt (a ∷ l) zero = a
+answerAt (a ∷ l) (suc k) = answerAt l k
 
-  one : (f : ℕ → List ℕ) → ((n : ℕ) → f (capped n) ≡ f n) → f (getD cs 1 0) ≡ f (getD vs 1 0)
-  one f h = ap f (at-capped vs 1) ∙ h (getD vs 1 0)
+at : (rs : List Row) (k : ℕ) → answered (queryAt rs k) ≡ answerAt (answersOf rs) k
+unfolding answersOf answerAt queryAt
+at [] k = refl
+at (r ∷ rs) zero = refl
+at (r ∷ rs) (suc k) = at rs k
 
-  two : (f : ℕ → ℕ → List ℕ) → ((n m : ℕ) → f (capped n) (capped m) ≡ f n m) → f (getD cs 1 0) (getD cs 2 0) ≡ f (getD vs 1 0) (getD vs 2 0)
-  two f h = ap₂ f (at-capped vs 1) (at-capped vs 2) ∙ h (getD vs 1 0) (getD vs 2 0)
+rows-alike : (fs : List (List ℕ)) → answersOf (table (saidIn capped fs)) ≡ answersOf (table (saidIn itself fs))
+unfolding answersOf table
+rows-alike fs =
+    simp (
+      move-in,
+      slip-in,
+      place-capped,
+      year-capped,
+      month-capped,
+      quarter-capped,
+      term-capped,
+      conjunction-capped,
+      next-capped,
+      day-capped,
+      date-capped,
+      move-capped,
+      search-capped,
+    )
 
-  mark-capped : isLeap (getD cs 3 0) ≡ isLeap (getD vs 3 0)
-  mark-capped = ap isLeap (at-capped vs 3) ∙ leap-capped (getD vs 3 0)
+same-answer : (s : List ℕ) → answered (readBy capped s) ≡ answered (read s)
+unfolding readBy
+same-answer s =
+    at (table (saidIn capped (fieldsIn 32 s))) (firstLike forms (fieldsIn 32 s))
+    ∙ ap (λ (l : List (List ℕ)). answerAt l (firstLike forms (fieldsIn 32 s))) (rows-alike (fieldsIn 32 s))
+    ∙ sym (at (table (saidIn itself (fieldsIn 32 s))) (firstLike forms (fieldsIn 32 s)))
 
-  date-in : dateText (getD cs 1 0) (getD cs 2 0) (isLeap (getD cs 3 0)) (getD cs 4 0) ≡ dateText (getD vs 1 0) (getD vs 2 0) (isLeap (getD vs 3 0)) (getD vs 4 0)
-  date-in =
-      rw (at-capped vs 1, at-capped vs 2, mark-capped, at-capped vs 4)
-      (date-capped (getD vs 1 0) (getD vs 2 0) (isLeap (getD vs 3 0)) (getD vs 4 0))
+pub short-enough : (s : List ℕ) → length s ≤ 200 → answered (readBy capped s) ≡ answerTo s
+unfolding answerTo
+short-enough s h = rw (le-leb (length s) 200 h) (same-answer s)
 
-  by-in : moveBy (getD ks 5 0) (getD cs 5 0) ≡ cappedMove (moveBy (getD ks 5 0) (getD vs 5 0))
-  by-in = ap (moveBy (getD ks 5 0)) (at-capped vs 5) ∙ by-capped (getD ks 5 0) (getD vs 5 0)
-
-  move-in : moveText (getD cs 1 0) (getD cs 2 0) (isLeap (getD cs 3 0)) (getD cs 4 0) (moveBy (getD ks 5 0) (getD cs 5 0)) ≡ moveText (getD vs 1 0) (getD vs 2 0) (isLeap (getD vs 3 0)) (getD vs 4 0) (moveBy (getD ks 5 0) (getD vs 5 0))
-  move-in =
-      rw (by-in, at-capped vs 1, at-capped vs 2, mark-capped, at-capped vs 4)
-      (move-capped (getD vs 1 0) (getD vs 2 0) (isLeap (getD vs 3 0)) (getD vs 4 0) (moveBy (getD ks 5 0) (getD vs 5 0)))
-
-  search-in : searchText (readingIn ks cs) (getD cs 7 0) (getD cs 8 0) ≡ searchText (readingIn ks vs) (getD vs 7 0) (getD vs 8 0)
-  search-in =
-      rw (reading-capped, at-capped vs 7, at-capped vs 8)
-      (search-capped (readingIn ks vs) (getD vs 7 0) (getD vs 8 0))
-
-  days-in : dayAnswer ks cs ≡ dayAnswer ks vs
-  unfolding dayAnswer
-  days-in = rw (one dayText day-capped, date-in, move-in) refl
-
-  planets-in : planetAnswer ks cs ≡ planetAnswer ks vs
-  unfolding planetAnswer
-  planets-in = rw (two conjunctionText conjunction-capped, two nextText next-capped, days-in) refl
-
-  lines-in : lineAnswer ks cs ≡ lineAnswer ks vs
-  unfolding lineAnswer
-  lines-in =
-      rw
-      (one placeText place-capped, one yearText year-capped, one monthText month-capped, two quarterText quarter-capped, two termText term-capped, planets-in)
-      refl
-
-  pub all-in : answerOf ks cs ≡ answerOf ks vs
-  unfolding answerOf
-  all-in = rw (search-in, lines-in) refl
+pub too-long : (s : List ℕ) → 200 < length s → unreadable ≡ answerTo s
+unfolding answerTo
+too-long s h = rw (lt-leb (length s) 200 h) refl

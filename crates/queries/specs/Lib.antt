@@ -1,3 +1,3 @@
--- The desk program's queries: which answer a line has, and what a line may be.
+-- The desk program's answers.
 pub mod Queries
 pub mod Paper

@@ -1,9 +1,13 @@
-// The desk program's queries: a line is read and answered, on byte slices.
+// The desk program's answers: a line is read and answered, on byte slices.
 ghost use mathlib.Core.Path.{_≡_};
 ghost use Prim.Native.Nat.{_+_, _≤_};
 ghost use lib.ListN.{length};
 ghost use Rattle.fields.specs.Fields.{Put};
-ghost use Rattle.queries.specs.Queries.{unreadable, moveBy, fieldBy, readingIn, dayAnswer, planetAnswer, lineAnswer, answerOf, answerTo};
+ghost use Rattle.told.specs.Answers.{searchText};
+ghost use Rattle.queries.specs.Queries.{unreadable, readingOf, markField, answered, answerTo};
+use asked::Query;
+use asked::Slip;
+use forms::Mark;
 use reading::Field;
 use reading::Reading;
 
@@ -15,112 +19,72 @@ fn put_unreadable(out: &mut [u8], at: usize) -> usize
     fields::put_bytes(b"UNREADABLE\n", out, at)
 }
 
-// A move's number, by its kind and value.
-fn move_by(kind: u8, value: u32) -> i64
-    ensures { λ r. ⌜ r ≡ moveBy kind value ⌝ }
+// A mark of a slip as a field of a reading.
+fn mark_field(m: Mark) -> Field
+    ensures { λ r. ⌜ r ≡ markField m ⌝ }
 {
-    if kind == 98 {
-        return -(value as i64);
+    match m {
+        Mark::Seen(l) => {
+            if l {
+                return Field::Known(2);
+            }
+            Field::Known(1)
+        }
+        Mark::Unseen => Field::Unread,
     }
-    value as i64
 }
 
-// A field of a reading, by its kind and value.
-fn field_by(kind: u8, value: u32) -> Field
-    ensures { λ r. ⌜ r ≡ fieldBy kind value ⌝ }
+// A slip as the search takes it.
+fn reading_of(s: Slip) -> Reading
+    ensures { λ r. ⌜ r ≡ readingOf s ⌝ }
 {
-    if kind == 63 {
-        return Field::Unread;
-    }
-    Field::Known(value)
-}
-
-// The reading of a `SEARCH` line.
-fn reading_in(kinds: &[u8], values: &[u32]) -> Reading
-    requires { ⌜ (length (now kinds) ≡ 9) × (length (now values) ≡ 9) ⌝ }
-    ensures { λ r. ⌜ r ≡ readingIn (now (kinds .entry)) (now (values .entry)) ⌝ }
-{
+    let a = s.year_name;
+    let b = s.month_number;
+    let m = s.leap_mark;
+    let d = s.day_of_month;
+    let e = s.day_name;
+    let f = s.first_name;
     Reading {
-        year_name: field_by(kinds[1], values[1]),
-        month_number: field_by(kinds[2], values[2]),
-        leap_mark: field_by(kinds[3], values[3]),
-        day_of_month: field_by(kinds[4], values[4]),
-        day_name: field_by(kinds[5], values[5]),
-        first_name: field_by(kinds[6], values[6]),
+        year_name: a,
+        month_number: b,
+        leap_mark: mark_field(m),
+        day_of_month: d,
+        day_name: e,
+        first_name: f,
     }
 }
 
-// The queries whose answer is a `DAY` line, and `UNREADABLE` for any other line.
-fn answer_days(kinds: &[u8], values: &[u32], out: &mut [u8], at: usize) -> usize
-    requires { ⌜ (length (now values) ≡ length (now kinds)) × (at + 120 ≤ length (now out)) ⌝ }
-    ensures { λ r. ⌜ Put 120 (now (out .entry)) at (dayAnswer (now (kinds .entry)) (now (values .entry))) (now (out .exit)) r ⌝ }
+// The answer to a search by a slip.
+fn answer_slip(s: Slip, first: u32, last: u32, days: &mut [u32], out: &mut [u8], at: usize) -> usize
+    requires { ⌜ (27759 ≤ length (now days)) × (at + 2304014 ≤ length (now out)) ⌝ }
+    ensures { λ b. ⌜ Put 2304014 (now (out .entry)) at (searchText (readingOf s) first last) (now (out .exit)) b ⌝ }
 {
-    if asked::is_like(b"Dn", kinds) {
-        return founds::answer_day(values[1], out, at);
-    }
-    if asked::is_like(b"Annmn", kinds) {
-        return founds::answer_date(values[1], values[2], values[3] == 2, values[4], out, at);
-    }
-    if asked::is_like(b"Vnnmns", kinds) {
-        let n = move_by(kinds[5], values[5]);
-        return founds::answer_move(values[1], values[2], values[3] == 2, values[4], n, out, at);
-    }
-    put_unreadable(out, at)
+    founds::answer_search(reading_of(s), first, last, days, out, at)
 }
 
-// The queries of the planets, and those whose answer is a `DAY` line.
-fn answer_planets(kinds: &[u8], values: &[u32], out: &mut [u8], at: usize) -> usize
-    requires { ⌜ (length (now values) ≡ length (now kinds)) × (at + 120 ≤ length (now out)) ⌝ }
-    ensures { λ r. ⌜ Put 120 (now (out .entry)) at (planetAnswer (now (kinds .entry)) (now (values .entry))) (now (out .exit)) r ⌝ }
+// The answer to a query.
+fn answer(q: Query, days: &mut [u32], out: &mut [u8], at: usize) -> usize
+    requires { ⌜ (27759 ≤ length (now days)) × (at + 2304014 ≤ length (now out)) ⌝ }
+    ensures { λ r. ⌜ Put 2304014 (now (out .entry)) at (answered q) (now (out .exit)) r ⌝ }
 {
-    if asked::is_like(b"Cnn", kinds) {
-        return answers::answer_conjunction(values[1], values[2], out, at);
+    match q {
+        Query::Unreadable => put_unreadable(out, at),
+        Query::Place(y) => answers::answer_place(y, out, at),
+        Query::Year(y) => answers::answer_year(y, out, at),
+        Query::Month(n) => answers::answer_month(n, out, at),
+        Query::Quarter(n, k) => answers::answer_quarter(n, k, out, at),
+        Query::Term(y, k) => answers::answer_term(y, k, out, at),
+        Query::Conjunction(p, k) => answers::answer_conjunction(p, k, out, at),
+        Query::Next(p, d) => answers::answer_next(p, d, out, at),
+        Query::Day(d) => founds::answer_day(d, out, at),
+        Query::Date(y, k, l, d) => founds::answer_date(y, k, l, d, out, at),
+        Query::Move(y, k, l, d, n) => founds::answer_move(y, k, l, d, n, out, at),
+        Query::Search(s, a, b) => answer_slip(s, a, b, days, out, at),
+        Query::Clerk(a, b) => answers::answer_quarter(a, b, out, at),
+        Query::Emend(s, a, b) => answer_slip(s, a, b, days, out, at),
+        Query::Figures(a, b) => answers::answer_term(a, b, out, at),
+        Query::OldDay(d) => founds::answer_day(d, out, at),
     }
-    if asked::is_like(b"Nnn", kinds) {
-        return answers::answer_next(values[1], values[2], out, at);
-    }
-    answer_days(kinds, values, out, at)
-}
-
-// The queries whose answer is one line.
-fn answer_facts(kinds: &[u8], values: &[u32], out: &mut [u8], at: usize) -> usize
-    requires { ⌜ (length (now values) ≡ length (now kinds)) × (at + 120 ≤ length (now out)) ⌝ }
-    ensures { λ r. ⌜ Put 120 (now (out .entry)) at (lineAnswer (now (kinds .entry)) (now (values .entry))) (now (out .exit)) r ⌝ }
-{
-    if asked::is_like(b"Pn", kinds) {
-        return answers::answer_place(values[1], out, at);
-    }
-    if asked::is_like(b"Yn", kinds) {
-        return answers::answer_year(values[1], out, at);
-    }
-    if asked::is_like(b"Mn", kinds) {
-        return answers::answer_month(values[1], out, at);
-    }
-    if asked::is_like(b"Qnn", kinds) {
-        return answers::answer_quarter(values[1], values[2], out, at);
-    }
-    if asked::is_like(b"Tnn", kinds) {
-        return answers::answer_term(values[1], values[2], out, at);
-    }
-    answer_planets(kinds, values, out, at)
-}
-
-// All eleven: a search needs room for its many lines.
-fn answer_fields(kinds: &[u8], values: &[u32], days: &mut [u32], out: &mut [u8], at: usize) -> usize
-    requires { ⌜ (length (now values) ≡ length (now kinds)) × (27759 ≤ length (now days)) × (at + 2304014 ≤ length (now out)) ⌝ }
-    ensures { λ r. ⌜ Put 2304014 (now (out .entry)) at (answerOf (now (kinds .entry)) (now (values .entry))) (now (out .exit)) r ⌝ }
-{
-    if asked::is_like(b"Sffgfffnn", kinds) {
-        return founds::answer_search(
-            reading_in(kinds, values),
-            values[7],
-            values[8],
-            days,
-            out,
-            at,
-        );
-    }
-    answer_facts(kinds, values, out, at)
 }
 
 // The answer to a line, its newlines included, from a place of the buffer on: where it ends. The lent list of days is used by
@@ -132,8 +96,5 @@ pub fn answer_line(line: &[u8], days: &mut [u32], out: &mut [u8], at: usize) -> 
     if 200 < line.len() {
         return put_unreadable(out, at);
     }
-    let mut kinds = [0u8; 201];
-    let mut values = [0u32; 201];
-    let n = asked::read_fields(line, 0, &mut kinds, &mut values, 0);
-    answer_fields(&kinds[..n], &values[..n], days, out, at)
+    answer(asked::read_query(line), days, out, at)
 }

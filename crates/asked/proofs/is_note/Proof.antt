@@ -1,0 +1,14 @@
+-- `asked::is_note` meets its contract. Assumes nothing.
+use native.Mathlib.Omega.{arith}
+use Rattle.asked.proofs.Rows.{no-byte, first-byte}
+use borrow.Author.Needs.{needs}
+use Rattle.asked.proofs.is_note.Statement.{statement}
+use Rattle.asked.proofs.is_note.Tie as tie
+
+pub is-note-spec : {M : Type 1} → statement M
+is-note-spec =
+    tie.close
+    (tie.spec
+    (λ c. no-byte (c .before .args .line .now) (c .if1 .taken))
+    (λ c. search needs)
+    (λ c. first-byte (c .before .before .args .line .now) (c .before .if1 .left)))

@@ -1,0 +1,7 @@
+-- Laws of a line's fields.
+pub mod Scanning
+pub mod Fields
+pub mod Likeness
+pub mod Moves
+pub mod Spaces
+pub mod Saying

@@ -1,0 +1,170 @@
+-- Laws of forms, field by field. Assumes nothing.
+use Prim.Native.Nat.{ℕ, suc, _+_, _-_, _*_, _≤_, _<_}
+use native.Mathlib.Omega.{arith}
+use native.Mathlib.Decide.{decLe}
+use mathlib.Core.Path.{_≡_, refl, ap, ap₂, sym, _∙_}
+use mathlib.Core.Bool.{Bool, true, false, not, cond, _&&_, and-eq-true-iff}
+use mathlib.Core.List.{List, [], _∷_}
+use lib.Dec.{eqb, ltb}
+use lib.ListN.{length, getD, take, drop}
+use lib.Seq.{drop-drop}
+use borrow.Author.Tests.{eq-eqb, ne-eqb, ltb-true, eqb-false, not-true}
+use Rattle.forms.specs.Forms.{firstField, fieldsIn, same, letter, admits, like, otherWord, rowsIn, firstLike}
+use Rattle.forms.proofs.Fields.{end-in, the-last, the-next, starts}
+
+-- fields and what is left of them
+abbrev Some : List (List ℕ) → Type 0
+Some fs = (f : List ℕ) × (gs : List (List ℕ)) × (fs ≡ f ∷ gs)
+
+some : (c : ℕ) (s : List ℕ) → Some (fieldsIn c s)
+some c s = let (gs, e) = starts c s in (firstField c s, gs, e)
+
+none-like : {fs : List (List ℕ)} → Some fs → like [] fs ≡ false
+unfolding like
+none-like (f, gs, e) = rw (e) refl
+
+some-unlike : {fs : List (List ℕ)} → Some fs → like fs [] ≡ false
+unfolding like
+some-unlike (f, gs, e) = rw (e) refl
+
+-- a field of a form and a field of a line, each from its place on
+module _ (s t : List ℕ) (i a j b : ℕ) (ri : i ≤ length s) (rj : j ≤ length t) (ea : a ≡ i + length (firstField 32 (drop i s))) (eb : b ≡ j + length (firstField 32 (drop j t))) where
+  abbrev p : List ℕ
+  p = take (a - i) (drop i s)
+
+  abbrev f : List ℕ
+  f = take (b - j) (drop j t)
+
+  abbrev Like : Bool → Type 0
+  Like r = r ≡ like (fieldsIn 32 (drop i s)) (fieldsIn 32 (drop j t))
+
+  module _ (h : admits p f ≡ true) where
+    pub both-last : a ≡ length s → b ≡ length t → Like true
+    unfolding like
+    both-last l m = rw (the-last 32 s i a ri ea l, the-last 32 t j b rj eb m, h) refl
+
+    pub line-longer : a ≡ length s → (b ≡ length t → ⊥) → Like false
+    unfolding like
+    line-longer l m = rw (the-last 32 s i a ri ea l, the-next 32 t j b rj eb m, h) (sym (none-like (some 32 (drop (b + 1) t))))
+
+    pub line-ends : a ≡ length s → Like (eqb b (length t))
+    line-ends l = go (decLe (length t) b)
+      where
+        go : Dec (length t ≤ b) → Like (eqb b (length t))
+        go (yes m) = let e : b ≡ length t = omega (arith, m, end-in 32 t j b rj eb) in eq-eqb b (length t) e ∙ both-last l e
+        go (no m) = ne-eqb b (length t) (λ e. omega (arith, e, m)) ∙ line-longer l (λ e. omega (arith, e, m))
+
+    pub form-longer : (a ≡ length s → ⊥) → b ≡ length t → Like false
+    unfolding like
+    form-longer l m = rw (the-next 32 s i a ri ea l, the-last 32 t j b rj eb m, h) (sym (some-unlike (some 32 (drop (a + 1) s))))
+
+    pub both-next : (a ≡ length s → ⊥) → (b ≡ length t → ⊥) → Like (like (fieldsIn 32 (drop (a + 1) s)) (fieldsIn 32 (drop (b + 1) t)))
+    unfolding like
+    both-next l m = rw (the-next 32 s i a ri ea l, the-next 32 t j b rj eb m, h) refl
+
+  pub refused : admits p f ≡ false → Like false
+  unfolding like
+  refused h = go (decLe (length s) a) (decLe (length t) b)
+    where
+      go : Dec (length s ≤ a) → Dec (length t ≤ b) → Like false
+      go (yes l) (yes m) = rw (the-last 32 s i a ri ea (omega (arith, l, end-in 32 s i a ri ea)), the-last 32 t j b rj eb (omega (arith, m, end-in 32 t j b rj eb)), h) refl
+      go (yes l) (no m) = rw (the-last 32 s i a ri ea (omega (arith, l, end-in 32 s i a ri ea)), the-next 32 t j b rj eb (λ e. omega (arith, e, m)), h) refl
+      go (no l) (yes m) = rw (the-next 32 s i a ri ea (λ e. omega (arith, e, l)), the-last 32 t j b rj eb (omega (arith, m, end-in 32 t j b rj eb)), h) refl
+      go (no l) (no m) = rw (the-next 32 s i a ri ea (λ e. omega (arith, e, l)), the-next 32 t j b rj eb (λ e. omega (arith, e, m)), h) refl
+
+-- the rows of a table, one after the other
+module _ (fs : List (List ℕ)) (t : List ℕ) (n k : ℕ) where
+  -- row k on
+  abbrev rowsFrom : ℕ → List (List ℕ)
+  rowsFrom j = rowsIn (n - j) (drop (32 * j) t)
+
+  abbrev Row : Bool → Type 0
+  Row x = like (fieldsIn 32 (firstField 46 (drop (32 * k) t))) fs ≡ x
+
+  one-row : k < n → rowsFrom k ≡ firstField 46 (drop (32 * k) t) ∷ rowsFrom (k + 1)
+  unfolding rowsIn
+  one-row h =
+      ap (λ (i : ℕ). rowsIn i (drop (32 * k) t)) {x = n - k} {y = suc (n - (k + 1))} (omega (arith, h))
+      ∙ ap (λ (l : List ℕ). firstField 46 (drop (32 * k) t) ∷ rowsIn (n - (k + 1)) l)
+      (drop-drop 32 (32 * k) t ∙ ap (λ (i : ℕ). drop i t) {x = 32 * k + 32} {y = 32 * (k + 1)} (omega arith))
+
+  pub found : k < n → Row true → firstLike (rowsFrom k) fs ≡ 0
+  unfolding firstLike
+  found h e = rw (one-row h, e) refl
+
+  pub further : k < n → Row false → firstLike (rowsFrom k) fs ≡ suc (firstLike (rowsFrom (k + 1)) fs)
+  unfolding firstLike
+  further h e = rw (one-row h, e) refl
+
+  pub no-more : n ≤ k → firstLike (rowsFrom k) fs ≡ 0
+  unfolding firstLike rowsIn
+  no-more h = ap (λ (i : ℕ). firstLike (rowsIn i (drop (32 * k) t)) fs) {x = n - k} {y = 0} (omega (arith, h))
+
+-- the first letters of a row and of a line
+pub no-form : (p s : List ℕ) → length p ≡ 0 → false ≡ otherWord p s
+unfolding otherWord
+no-form [] s h = refl
+no-form (a ∷ p) s h = absurd (omega arith)
+
+pub no-line : (p s : List ℕ) → length s ≡ 0 → false ≡ otherWord p s
+unfolding otherWord
+no-line [] s h = refl
+no-line (a ∷ p) [] h = refl
+no-line (a ∷ p) (b ∷ s) h = absurd (omega arith)
+
+pub first-letters : (p s : List ℕ) → (length p ≡ 0 → ⊥) → (length s ≡ 0 → ⊥) →
+    (ltb (getD p 0 0) 91 && ltb 64 (getD p 0 0) && not (eqb (getD p 0 0) (getD s 0 0))) ≡ otherWord p s
+unfolding otherWord
+first-letters [] s h i = absurd (h refl)
+first-letters (a ∷ p) [] h i = absurd (i refl)
+first-letters (a ∷ p) (b ∷ s) h i = refl
+
+-- a word that begins with a capital admits no field that begins otherwise
+module _ (a : ℕ) (low : 64 < a) (high : a < 91) where
+  no-letter-of-a-form : (k : ℕ) → 100 ≤ k → eqb a k ≡ false
+  no-letter-of-a-form k h = ne-eqb a k (λ e. omega (arith, e, h, high))
+
+  word-alone : (p f : List ℕ) → admits (a ∷ p) f ≡ same (a ∷ p) f
+  unfolding admits
+  word-alone [] f =
+      rw (
+        no-letter-of-a-form 110 (omega arith),
+        no-letter-of-a-form 109 (omega arith),
+        no-letter-of-a-form 115 (omega arith),
+        no-letter-of-a-form 102 (omega arith),
+        no-letter-of-a-form 103 (omega arith),
+      ) refl
+  word-alone (c ∷ p) f = refl
+
+  differing : (p s : List ℕ) (b : ℕ) → (a ≡ b → ⊥) → same (a ∷ p) (firstField 32 (b ∷ s)) ≡ false
+  unfolding same firstField
+  differing p s b h = go (eqb b 32)
+    where
+      go : (x : Bool) → same (a ∷ p) (cond x [] (b ∷ firstField 32 s)) ≡ false
+      go true = refl
+      go false = rw (ne-eqb a b h) refl
+
+  begins : (c : ℕ) → c ≤ 64 → (p : List ℕ) → firstField c (a ∷ p) ≡ a ∷ firstField c p
+  unfolding firstField
+  begins c h p = rw (ne-eqb a c (λ e. omega (arith, e, h, low))) refl
+
+  unlike : (p s : List ℕ) (b : ℕ) → (a ≡ b → ⊥) → like (fieldsIn 32 (firstField 46 (a ∷ p))) (fieldsIn 32 (b ∷ s)) ≡ false
+  unfolding like
+  unlike p s b h =
+      rw (
+        begins 46 (omega arith) p,
+        starts 32 (a ∷ firstField 46 p) .1,
+        starts 32 (b ∷ s) .1,
+        begins 32 (omega arith) (firstField 46 p),
+        word-alone (firstField 32 (firstField 46 p)) (firstField 32 (b ∷ s)),
+        differing (firstField 32 (firstField 46 p)) s b h,
+      ) refl
+
+pub other-word : (p s : List ℕ) → otherWord p s ≡ true → false ≡ like (fieldsIn 32 (firstField 46 p)) (fieldsIn 32 s)
+unfolding otherWord
+other-word [] s e = absurd (let o : _≡_ {A = ℕ} 0 1 = cc in omega arith)
+other-word (a ∷ p) [] e = absurd (let o : _≡_ {A = ℕ} 0 1 = cc in omega arith)
+other-word (a ∷ p) (b ∷ s) e =
+    let (c, d) = and-eq-true-iff (ltb a 91 && ltb 64 a) (not (eqb a b)) .0 e in
+    let (h, l) = and-eq-true-iff (ltb a 91) (ltb 64 a) .0 c in
+    sym (unlike a (ltb-true 64 a l) (ltb-true a 91 h) p s b (eqb-false a b (not-true (eqb a b) d)))

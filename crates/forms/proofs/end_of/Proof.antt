@@ -1,0 +1,32 @@
+-- `forms::end_of` meets its contract. The invariant: no space so far. Assumes nothing.
+use borrow.Author.Tests.{eq-eqb, ne-eqb}
+use Prim.Native.Nat.{_-_, _≤_, _<_}
+use native.Mathlib.Omega.{arith}
+use mathlib.Core.Path.{_≡_, refl, sym, _∙_}
+use lib.ListN.{length, drop}
+use borrow.Author.Needs.{needs}
+use Prim.Native.Nat.{_+_}
+use Rattle.forms.specs.Forms.{firstField}
+use Rattle.forms.proofs.Scanning.{field-more, field-over, field-none}
+use Rattle.forms.proofs.end_of.Statement.{statement}
+use Rattle.forms.proofs.end_of.Tie as tie
+
+abbrev Inv-loop : tie.InvT-loop
+Inv-loop line from sep to₀ to = (to ≤ length line) × (to + length (firstField sep (drop to line)) ≡ from + length (firstField sep (drop from line)))
+
+abbrev μ-loop : tie.MeasureT-loop
+μ-loop line from sep to₀ to = length line - to
+
+pub end-of-spec : {M : Type 1} → statement M
+end-of-spec =
+    tie.close
+    (tie.spec
+    Inv-loop
+    μ-loop
+    (λ c. (c .pre, refl))
+    (λ c. omega arith)
+    (λ c. omega (arith, field-over _ (c .before .before .before .before .args .s .now) (c .before .before .before .loop .to) (c .before .before .loop-test .taken) (eq-eqb _ _ (c .if1 .taken)), c .before .before .before .loop .inv .1))
+    (λ c. omega arith)
+    (λ c. omega arith)
+    (λ c. (omega arith, omega (arith, field-more _ (c .before .before .before .before .args .s .now) (c .before .before .before .loop .to) (c .before .before .loop-test .taken) (ne-eqb _ _ (c .if1 .left)), c .before .before .before .loop .inv .1)))
+    (λ c. omega (arith, field-none (c .before .before .args .sep) (c .before .before .args .s .now) (c .before .loop .to) (c .loop-test .left), c .before .loop .inv .1)))

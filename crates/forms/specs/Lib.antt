@@ -1,0 +1,3 @@
+-- A line's fields: definitions, and statements of them.
+pub mod Forms
+pub mod Texts

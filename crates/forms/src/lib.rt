@@ -1,0 +1,324 @@
+// A line's fields, parted by single spaces: whether they are like a form, and what each of them says. No query is named here. Numbers
+// are cut down to 32 bits (crate `capped`).
+ghost use mathlib.Core.Path.{_≡_};
+ghost use Prim.Native.Nat.{_+_, _-_, _*_, _≤_};
+ghost use lib.ListN.{length, drop};
+ghost use Rattle.rule.specs.Reasons.{within};
+ghost use Rattle.fields.specs.Fields.{word};
+ghost use Rattle.fields.specs.Paper.{valueFrom};
+ghost use Rattle.capped.specs.Capped.{capped};
+ghost use Rattle.forms.specs.Forms.{
+  firstField,
+  fieldsIn,
+  afterFirst,
+  same,
+  allDigits,
+  leads,
+  isDecimal,
+  isBack,
+  isMark,
+  letter,
+  admits,
+  like,
+  otherWord,
+  rowsIn,
+  firstLike,
+  moveOf,
+  slipFieldOf,
+  slipMarkOf,
+};
+use reading::Field;
+
+// A mark that was read on a slip, leap or not, or that is unread.
+pub enum Mark {
+    Seen(bool),
+    Unseen,
+}
+
+// Where the field ends that starts at a place: at the next separator, or with the text.
+fn end_of(s: &[u8], from: usize, sep: u8) -> usize
+    requires { ⌜ from ≤ length (now s) ⌝ }
+    ensures { λ r. ⌜ r ≡ from + length (firstField sep (drop from (now (s .entry)))) ⌝ }
+{
+    let mut to = from;
+    while to < s.len() {
+        if s[to] == sep {
+            return to;
+        }
+        to += 1;
+    }
+    to
+}
+
+// The first field of a line.
+fn first_field(s: &[u8]) -> &[u8]
+    ensures { λ r. ⌜ now r ≡ firstField 32 (now (s .entry)) ⌝ }
+{
+    let to = end_of(s, 0, 32);
+    &s[0..to]
+}
+
+// What stands after the first field of a line and its space: nothing where there is no other field.
+pub fn after_first(s: &[u8]) -> &[u8]
+    ensures { λ r. ⌜ now r ≡ afterFirst (now (s .entry)) ⌝ }
+{
+    let to = end_of(s, 0, 32);
+    if to == s.len() {
+        return &s[to..];
+    }
+    &s[to + 1..]
+}
+
+// Whether two texts are the same.
+fn same(p: &[u8], s: &[u8]) -> bool
+    ensures { λ r. ⌜ r ≡ same (now (p .entry)) (now (s .entry)) ⌝ }
+{
+    if p.len() != s.len() {
+        return false;
+    }
+    let mut i = 0;
+    while i < p.len() {
+        if p[i] != s[i] {
+            return false;
+        }
+        i += 1;
+    }
+    true
+}
+
+// Whether a byte is a digit.
+fn is_digit(b: u8) -> bool
+    ensures { λ r. ⌜ r ≡ within 48 57 b ⌝ }
+{
+    (48 <= b) & (b <= 57)
+}
+
+// Whether every byte is a digit.
+fn all_digits(s: &[u8]) -> bool
+    ensures { λ r. ⌜ r ≡ allDigits (now (s .entry)) ⌝ }
+{
+    let mut i = 0;
+    while i < s.len() {
+        if !is_digit(s[i]) {
+            return false;
+        }
+        i += 1;
+    }
+    true
+}
+
+// Whether a number of so many digits may start so: 0 stands alone.
+fn leads_well(s: &[u8]) -> bool
+    ensures { λ r. ⌜ r ≡ leads (now (s .entry)) ⌝ }
+{
+    if s.len() < 2 {
+        return s.len() == 1;
+    }
+    s[0] != 48
+}
+
+// Whether a text is a decimal number without leading zeros.
+fn is_decimal(s: &[u8]) -> bool
+    ensures { λ r. ⌜ r ≡ isDecimal (now (s .entry)) ⌝ }
+{
+    leads_well(s) & all_digits(s)
+}
+
+// Whether a text is `-` and a number that is not 0.
+fn is_back(s: &[u8]) -> bool
+    ensures { λ r. ⌜ r ≡ isBack (now (s .entry)) ⌝ }
+{
+    if s.len() == 0 {
+        return false;
+    }
+    (s[0] == 45) & !same(b"0", &s[1..]) & is_decimal(&s[1..])
+}
+
+// Whether a text is a mark.
+fn is_mark(s: &[u8]) -> bool
+    ensures { λ r. ⌜ r ≡ isMark (now (s .entry)) ⌝ }
+{
+    same(b"-", s) | same(b"L", s)
+}
+
+// The letter that a field of a form is, 0 for a longer word.
+fn letter(s: &[u8]) -> u8
+    ensures { λ r. ⌜ r ≡ letter (now (s .entry)) ⌝ }
+{
+    if s.len() != 1 {
+        return 0;
+    }
+    s[0]
+}
+
+// Whether a field of a form admits a field of a line.
+fn admits(p: &[u8], s: &[u8]) -> bool
+    ensures { λ r. ⌜ r ≡ admits (now (p .entry)) (now (s .entry)) ⌝ }
+{
+    let k = letter(p);
+    if k == 110 {
+        return is_decimal(s);
+    }
+    if k == 109 {
+        return is_mark(s);
+    }
+    if k == 115 {
+        return is_decimal(s) | is_back(s);
+    }
+    if k == 102 {
+        return is_decimal(s) | same(b"?", s);
+    }
+    if k == 103 {
+        return is_mark(s) | same(b"?", s);
+    }
+    same(p, s)
+}
+
+// Whether a line is like a form: as many fields, and each admitted.
+fn is_like(form: &[u8], line: &[u8]) -> bool
+    ensures { λ r. ⌜ r ≡ like (fieldsIn 32 (now (form .entry))) (fieldsIn 32 (now (line .entry))) ⌝ }
+{
+    let mut i = 0;
+    let mut j = 0;
+    loop {
+        let a = end_of(form, i, 32);
+        let b = end_of(line, j, 32);
+        if !admits(&form[i..a], &line[j..b]) {
+            return false;
+        }
+        if a == form.len() {
+            return b == line.len();
+        }
+        if b == line.len() {
+            return false;
+        }
+        i = a + 1;
+        j = b + 1;
+    }
+}
+
+// Whether a row begins with a capital letter with which the line does not begin: then its word is another.
+fn begins_otherwise(row: &[u8], line: &[u8]) -> bool
+    ensures { λ r. ⌜ r ≡ otherWord (now (row .entry)) (now (line .entry)) ⌝ }
+{
+    if row.len() == 0 {
+        return false;
+    }
+    if line.len() == 0 {
+        return false;
+    }
+    (row[0] < 91) & (64 < row[0]) & (row[0] != line[0])
+}
+
+// Whether a line is like the form at the front of a row, the first letter looked at first.
+fn is_like_row(row: &[u8], line: &[u8]) -> bool
+    ensures { λ r. ⌜ r ≡ like (fieldsIn 32 (firstField 46 (now (row .entry)))) (fieldsIn 32 (now (line .entry))) ⌝ }
+{
+    if begins_otherwise(row, line) {
+        return false;
+    }
+    let to = end_of(row, 0, 46);
+    is_like(&row[0..to], line)
+}
+
+// The first form of a table of n rows that a line is like, counted from 0; n where there is none.
+pub fn form_of(table: &[u8], n: usize, line: &[u8]) -> usize
+    requires { ⌜ 32 * n ≤ length (now table) ⌝ }
+    ensures { λ r. ⌜ r ≡ firstLike (rowsIn n (now (table .entry))) (fieldsIn 32 (now (line .entry))) ⌝ }
+{
+    let mut k = 0;
+    while k < n {
+        if is_like_row(&table[32 * k..], line) {
+            return k;
+        }
+        k += 1;
+    }
+    n
+}
+
+// A number with one digit more.
+fn one_more(v: u32, b: u8) -> u32
+    ensures { λ r. ⌜ r ≡ capped (10 * v + (b - 48)) ⌝ }
+{
+    if b < 48 {
+        return capped::cap(10 * v as u64);
+    }
+    capped::cap(10 * v as u64 + (b - 48) as u64)
+}
+
+// What digits are worth.
+fn value_of(s: &[u8]) -> u32
+    ensures { λ r. ⌜ r ≡ capped (valueFrom 0 (now (s .entry))) ⌝ }
+{
+    let mut v = 0;
+    let mut i = 0;
+    while i < s.len() {
+        v = one_more(v, s[i]);
+        i += 1;
+    }
+    v
+}
+
+// A move's number: so many days back where it starts with `-`.
+fn move_of(s: &[u8]) -> i64
+    ensures { λ r. ⌜ r ≡ moveOf capped (now (s .entry)) ⌝ }
+{
+    if s.len() == 0 {
+        return 0;
+    }
+    if s[0] == 45 {
+        return -(value_of(&s[1..]) as i64);
+    }
+    value_of(s) as i64
+}
+
+// A field of a slip.
+fn slip_field_of(s: &[u8]) -> Field
+    ensures { λ r. ⌜ r ≡ slipFieldOf capped (now (s .entry)) ⌝ }
+{
+    if same(b"?", s) {
+        return Field::Unread;
+    }
+    Field::Known(value_of(s))
+}
+
+// A mark of a slip.
+fn slip_mark_of(s: &[u8]) -> Mark
+    ensures { λ r. ⌜ r ≡ slipMarkOf (now (s .entry)) ⌝ }
+{
+    if same(b"?", s) {
+        return Mark::Unseen;
+    }
+    Mark::Seen(same(b"L", s))
+}
+
+// What the first field says, as a number, a mark, a move, and on a slip.
+pub fn number(s: &[u8]) -> u32
+    ensures { λ r. ⌜ r ≡ capped (valueFrom 0 (firstField 32 (now (s .entry)))) ⌝ }
+{
+    value_of(first_field(s))
+}
+
+pub fn leap(s: &[u8]) -> bool
+    ensures { λ r. ⌜ r ≡ same (word "L") (firstField 32 (now (s .entry))) ⌝ }
+{
+    same(b"L", first_field(s))
+}
+
+pub fn signed(s: &[u8]) -> i64
+    ensures { λ r. ⌜ r ≡ moveOf capped (firstField 32 (now (s .entry))) ⌝ }
+{
+    move_of(first_field(s))
+}
+
+pub fn slip_field(s: &[u8]) -> Field
+    ensures { λ r. ⌜ r ≡ slipFieldOf capped (firstField 32 (now (s .entry))) ⌝ }
+{
+    slip_field_of(first_field(s))
+}
+
+pub fn slip_mark(s: &[u8]) -> Mark
+    ensures { λ r. ⌜ r ≡ slipMarkOf (firstField 32 (now (s .entry))) ⌝ }
+{
+    slip_mark_of(first_field(s))
+}

@@ -1,0 +1,11 @@
+-- The law of one arm: what is put for a query's variant is put for the query. Assumes nothing.
+use Prim.Native.Nat.{ℕ, _≤_}
+use mathlib.Core.Path.{_≡_, refl, ap, sym}
+use mathlib.Core.List.{List}
+use Rattle.fields.specs.Fields.{Put}
+use Rattle.fields.proofs.Putting.{put-as, wide}
+use Rattle.asked.specs.declared.Query.{Query}
+use Rattle.queries.specs.Queries.{answered}
+
+pub arm : {w a b : ℕ} {o o′ : List ℕ} {q p : Query} → q ≡ p → w ≤ 2304014 → Put w o a (answered p) o′ b → Put 2304014 o a (answered q) o′ b
+arm e h t = put-as (sym (ap answered e)) (wide h t)

@@ -1,0 +1,17 @@
+use mathlib.Core.Path.{ap}
+use Rattle.fields.proofs.Putting.{put-as}
+use Rattle.reading.specs.declared.Reading.{Reading}
+use Rattle.told.specs.Answers.{searchText}
+use borrow.Author.Needs.{needs}
+use Rattle.queries.proofs.answer_slip.Statement.{statement}
+use Rattle.queries.proofs.answer_slip.Tie as tie
+
+pub answer-slip-spec : {M : Type 1} → statement M
+answer-slip-spec =
+    tie.close
+    (tie.spec
+    (λ c κs. search needs)
+    (λ c κs. search needs)
+    (λ c. search needs)
+    (λ c. search needs)
+    (λ c. put-as (ap (λ (r : Reading). searchText r (c .before .before .before .before .before .before .before .before .before .before .args .first) (c .before .before .before .before .before .before .before .before .before .before .args .last)) (c .before .before .before .before .before .before .before .reading-of .ensures)) (c .before .before .before .before .answer-search .ensures)))
