@@ -56,14 +56,14 @@ fn answer_days(kinds: &[u8], values: &[u32], out: &mut [u8], at: usize) -> usize
     ensures { λ r. ⌜ Put 120 (now (out .entry)) at (dayAnswer (now (kinds .entry)) (now (values .entry))) (now (out .exit)) r ⌝ }
 {
     if asked::is_like(b"Dn", kinds) {
-        return founds::answer_day(values[1], out, at);
+        return answers::answer_day(values[1], out, at);
     }
     if asked::is_like(b"Annmn", kinds) {
-        return founds::answer_date(values[1], values[2], values[3] == 2, values[4], out, at);
+        return answers::answer_date(values[1], values[2], values[3] == 2, values[4], out, at);
     }
     if asked::is_like(b"Vnnmns", kinds) {
         let n = move_by(kinds[5], values[5]);
-        return founds::answer_move(values[1], values[2], values[3] == 2, values[4], n, out, at);
+        return answers::answer_move(values[1], values[2], values[3] == 2, values[4], n, out, at);
     }
     put_unreadable(out, at)
 }
@@ -111,7 +111,7 @@ fn answer_fields(kinds: &[u8], values: &[u32], days: &mut [u32], out: &mut [u8],
     ensures { λ r. ⌜ Put 2304014 (now (out .entry)) at (answerOf (now (kinds .entry)) (now (values .entry))) (now (out .exit)) r ⌝ }
 {
     if asked::is_like(b"Sffgfffnn", kinds) {
-        return founds::answer_search(
+        return answers::answer_search(
             reading_in(kinds, values),
             values[7],
             values[8],

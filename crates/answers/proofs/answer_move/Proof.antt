@@ -1,0 +1,50 @@
+-- `answers::answer_move` meets its contract: what `moves::move_date` says, told. Assumes nothing.
+use Prim.Native.Nat.{ℕ}
+use native.Mathlib.Omega.{arith}
+use mathlib.Core.Path.{_≡_, ap, _∙_}
+use mathlib.Core.Bool.{Bool}
+use lib.IntN.{ℤ}
+use mir.Syntax.{w64}
+use mir.ValLaws.{toZ-ofZ}
+use Rattle.rule.specs.Reasons.{Answer}
+use Rattle.dates.specs.declared.Date.{Date}
+use Rattle.dates.specs.Promises.{saidDate}
+use Rattle.moves.specs.Moves.{moved}
+use Rattle.fields.proofs.Putting.{wide}
+use Rattle.told.specs.Answers.{textOfDate, moveText}
+use Rattle.told.proofs.Telling.{tells}
+use borrow.Author.Needs.{needs}
+use Rattle.answers.proofs.answer_move.Statement.{statement}
+use Rattle.answers.proofs.answer_move.Tie as tie
+
+-- what the move promised, its number read through its bits
+through : (y k : ℕ) (l : Bool) (m : ℕ) {z n : ℤ} {a : Answer Date} → a ≡ moved y k l m z → z ≡ n → a ≡ moved y k l m n
+through y k l m e f = e ∙ ap (moved y k l m) f
+
+promised : (c : tie.After-move-date) →
+    saidDate (c .move-date .result)
+    ≡ moved (c .before .before .args .year) (c .before .before .args .number) (c .before .before .args .leap) (c .before .before .args .day-of-month) (c .before .before .args .days)
+promised c =
+    let s = c .before .before in
+    through (s .args .year) (s .args .number) (s .args .leap) (s .args .day-of-month) (c .move-date .ensures) (toZ-ofZ w64 (s .args .days) (s .fits .days))
+
+pub answer-move-spec : {M : Type 1} → statement M
+unfolding moveText
+answer-move-spec =
+    tie.close
+    (tie.spec
+    (λ c κs. search needs)
+    (λ c. search needs)
+    (λ c κs. search needs)
+    (λ c. search needs)
+    (λ c κs. search needs)
+    (λ c. search needs)
+    (λ c.
+    let p = c .before .before in
+    let q = p .before .before .before in
+    tells textOfDate saidDate (promised (q .before .before)) (q .d .given .1) (wide (omega arith) (p .answer-of-date .ensures)))
+    (λ c. search needs)
+    (λ c.
+    let p = c .before .before in
+    let q = p .before .before .before in
+    tells textOfDate saidDate (promised (q .before .before)) (q .why .given .1) (wide (omega arith) (p .put-refusal .ensures))))
