@@ -27,6 +27,8 @@ ghost use Rattle.told.specs.Answers.{
   conjunctionText,
   nextLine,
   nextText,
+  pairLine,
+  pairText,
   dayLineOf,
   dayText,
   dayLine,
@@ -53,6 +55,8 @@ use planets::Conjunction;
 use planets::ConjunctionTold;
 use planets::Next;
 use planets::NextTold;
+use planets::Pair;
+use planets::PairTold;
 use planets::Phase;
 use reading::Found;
 use reading::Reading;
@@ -276,6 +280,28 @@ pub fn answer_next(planet: u32, day: u32, out: &mut [u8], at: usize) -> usize
     match planets::next_conjunction(planet, day) {
         NextTold::Is(n) => put_next_line(n, out, at),
         NextTold::Refused(why) => put_refusal(why, out, at),
+    }
+}
+
+// A `PAIR` line.
+fn put_pair(p: Pair, out: &mut [u8], at: usize) -> usize
+    requires { ⌜ (p .years ≤ 9415) × (p .conjunctions ≤ 11908) × (at + 27 ≤ length (now out)) ⌝ }
+    ensures { λ r. ⌜ Put 27 (now (out .entry)) at (pairLine p) (now (out .exit)) r ⌝ }
+{
+    let to1 = fields::put_bytes(b"PAIR", out, at);
+    let to2 = fields::put_next(p.years as u32, out, to1);
+    let to3 = fields::put_next(p.conjunctions as u32, out, to2);
+    fields::put_byte(10, out, to3)
+}
+
+// The answer to `PAIR planet`.
+pub fn answer_pair(planet: u32, out: &mut [u8], at: usize) -> usize
+    requires { ⌜ at + 120 ≤ length (now out) ⌝ }
+    ensures { λ r. ⌜ Put 120 (now (out .entry)) at (pairText planet) (now (out .exit)) r ⌝ }
+{
+    match planets::reduced_pair(planet) {
+        PairTold::Is(p) => put_pair(p, out, at),
+        PairTold::Refused(why) => put_refusal(why, out, at),
     }
 }
 

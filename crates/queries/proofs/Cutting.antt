@@ -31,6 +31,8 @@ use Rattle.told.specs.Answers.{
   conjunctionText,
   nextLine,
   nextText,
+  pairLine,
+  pairText,
   dayLineOf,
   dayText,
   dayLine,
@@ -79,6 +81,10 @@ conjunction-capped p k = ap (told conjunctionLine) (capped-alike .conjunction p 
 next-capped : (p d : ℕ) → nextText (capped p) (capped d) ≡ nextText p d
 unfolding nextText
 next-capped p d = ap (told nextLine) (capped-alike .next p d)
+
+pair-capped : (p : ℕ) → pairText (capped p) ≡ pairText p
+unfolding pairText
+pair-capped p = ap (told pairLine) (capped-alike .pair p)
 
 day-capped : (d : ℕ) → dayText (capped d) ≡ dayText d
 unfolding dayText dateAt

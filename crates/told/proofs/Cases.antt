@@ -39,7 +39,7 @@ use Rattle.facts.specs.Facts.{
   quarterAt,
   termAt,
 }
-use Rattle.planets.specs.Planets.{numbersOf, conjunctionDay, conjunctionParts, phase, conjunctionOf, conjunctionAt, nextCount, nextOf, nextAt}
+use Rattle.planets.specs.Planets.{numbersOf, conjunctionDay, conjunctionParts, phase, conjunctionOf, conjunctionAt, nextCount, nextOf, nextAt, pairAt}
 use Rattle.reading.specs.declared.Field.the-variants.{Known, Unread}
 use Rattle.reading.specs.declared.Reading.{Reading}
 use Rattle.reading.specs.Readings.{monthFits, dayFits, fits, inRanges, fitting}
@@ -64,6 +64,8 @@ use Rattle.told.specs.Answers.{
   conjunctionText,
   nextLine,
   nextText,
+  pairLine,
+  pairText,
   dayLineOf,
   dayText,
   dayLine,
@@ -154,6 +156,17 @@ next-293 = refl
 pub none-left : nextText 1 14989826 ≡ inLines (word "REFUSED 20 no conjunction falls from the given day to the end of the range" ∷ [])
 unfolding nextText nextLine nextAt nextCount nextOf conjunctionOf numbersOf conjunctionDay conjunctionParts phase digits decimal followed inLines refusedText wordsNumbered
 none-left = refl
+
+-- the pairs that 004 gives (P01, P02, P22, P23, P43, P44, P65, P66, P90, P91)
+pub five-pairs :
+    each pairText (1 ∷ 2 ∷ 3 ∷ 4 ∷ 5 ∷ [])
+    ≡ inLines (word "PAIR 4725 4327" ∷ word "PAIR 1876 879" ∷ word "PAIR 9415 9096" ∷ word "PAIR 4661 5830" ∷ word "PAIR 1889 11908" ∷ [])
+unfolding pairText pairLine pairAt numbersOf digits decimal followed each inLines
+five-pairs = refl
+
+pub no-pair : pairText 6 ≡ inLines (word "REFUSED 19 planet outside 1 to 5" ∷ [])
+unfolding pairText pairLine pairAt refusedText wordsNumbered digits decimal followed inLines
+no-pair = refl
 
 -- the last day of year 11's month 134, and a day that is none
 pub last-of-134 : dayText 3985 ≡ inLines (word "DAY 3985 11 9 L 29 26 29 27" ∷ [])

@@ -11,7 +11,7 @@ use Rattle.rule.specs.Counts.{DayInRange}
 use Rattle.rule.specs.Rule.{monthStart, monthLength, monthOfDay, termDay, yearTerm}
 use Rattle.rule.specs.Reasons.{Answer, is, refused, refused-with, guard, within, andThen}
 use Rattle.rule.specs.declared.Reason.the-variants.{MoveOutOfRange}
-use Rattle.rule.proofs.Answers.{at-most, holds-all}
+use Rattle.rule.proofs.Answers.{at-most, within-true, passes, holds-all}
 use Rattle.rule.proofs.Leap.{number-at, mark-at}
 use Rattle.dates.specs.declared.Date.{Date}
 use Rattle.dates.specs.Dates.{dateIn, dateOf, dateAt, isThere, monthAsked, dayInMonth, dayOfNamed, dayOfDate}
@@ -35,7 +35,7 @@ use Rattle.facts.specs.Facts.{
 }
 use Rattle.facts.proofs.Given as Given
 use Rattle.facts.proofs.Exactly.{leap-there}
-use Rattle.planets.specs.Planets.{Planet, numbersOf, conjunctionDay, phase, conjunctionOf, conjunctionAt, nextCount, nextOf, nextAt}
+use Rattle.planets.specs.Planets.{Planet, numbersOf, conjunctionDay, phase, conjunctionOf, conjunctionAt, nextCount, nextOf, nextAt, pairOf, pairAt}
 use Rattle.planets.specs.Paper.{IsConjunction}
 use Rattle.planets.proofs.Paper as Planets
 use Rattle.planets.proofs.Literal.{of-count, venus-or-mercury, conjunction-is}
@@ -63,6 +63,8 @@ use Rattle.told.specs.Answers.{
   conjunctionText,
   nextLine,
   nextText,
+  pairLine,
+  pairText,
   dayLineOf,
   dayText,
   dayLine,
@@ -143,6 +145,10 @@ next-line-literally p d k last l h least i =
     ∙ ap (λ (s : List ℕ). word "NEXT " ++ s) (append-assoc (decimal k) _ (10 ∷ []))
     ∙ ap (λ (s : List ℕ). word "NEXT " ++ (decimal k ++ (32 ∷ Paper.conjunctionWith p k s))) (letter-of l)
 
+pub pair-line-literally : Paper.Pair-line-literally
+unfolding pairText pairLine pairAt followed
+pair-line-literally p h = ap (told pairLine) (passes (within 1 5 p) 19 (is (pairOf (numbersOf p))) (within-true 1 5 p .1 h))
+
 pub day-line-literally : Paper.Day-line-literally
 unfolding dayLine dayLineOf dateOf dateIn followed
 day-line-literally d = rw (number-at (monthOfDay d), mark-at (monthOfDay d)) refl
@@ -219,7 +225,7 @@ unfolding moved
 moved-never-with y k l m n = never-then (dayOfDate y k l m) _ (date-never-with y k l m) (λ d. landed-never-with (pos d +ℤ n))
 
 pub refusals-told : Paper.Refusals-told
-unfolding placeText placeLine yearText yearLine monthText monthLineOf quarterText quarterLine termText termLine conjunctionText conjunctionLine nextText nextLine dayText dayLine dayLineOf dateText moveText foundLine searchText solsticeYearAt yearFactsAt monthFactsAt quarterAt termAt conjunctionAt nextAt dateAt followed
+unfolding placeText placeLine yearText yearLine monthText monthLineOf quarterText quarterLine termText termLine conjunctionText conjunctionLine nextText nextLine pairText pairLine dayText dayLine dayLineOf dateText moveText foundLine searchText solsticeYearAt yearFactsAt monthFactsAt quarterAt termAt conjunctionAt nextAt pairAt dateAt followed
 refusals-told =
     record {
       place = λ y. tells-refusal placeLine 80 (λ e. omega (arith, e)) (solsticeYearAt y) (λ x e. refl) (never-one (within 1 41040 y) 1 (solsticeYear y));
@@ -232,6 +238,7 @@ refusals-told =
           tells-refusal nextLine 78 (λ e. omega (arith, e)) (nextAt p d) (λ x e. refl)
           (never-guard (within 1 5 p) 19 _
           (never-two (leb d 14989859) 6 (leb (conjunctionDay (numbersOf p) (nextCount (numbersOf p) d)) 14989859) 20 (nextOf (numbersOf p) (nextCount (numbersOf p) d))));
+      pair = λ p. tells-refusal pairLine 80 (λ e. omega (arith, e)) (pairAt p) (λ x e. refl) (never-one (within 1 5 p) 19 (pairOf (numbersOf p)));
       day = λ d. tells-refusal (dayLineOf d) 68 (λ e. omega (arith, e)) (dateAt d) (λ x e. refl) (never-one (leb d 14989859) 6 (dateOf d));
       date = λ y k l m. tells-refusal dayLine 68 (λ e. omega (arith, e)) (dayOfDate y k l m) (λ x e. refl) (date-never-with y k l m);
       move = λ y k l m n. tells-refusal textOfDate 68 (λ e. omega (arith, e)) (moved y k l m n) (moved-line y k l m n) (moved-never-with y k l m n);
