@@ -16,20 +16,20 @@ use Rattle.facts.specs.Promises.{saidYear, YearOwnFacts}
 use Rattle.planets.specs.declared.Pair.{Pair}
 use Rattle.planets.specs.declared.PairTold.{PairTold}
 use Rattle.planets.specs.declared.PairTold.the-variants as Pair'
-use Rattle.planets.specs.Planets.{Planet, numbersOf, pairOf}
+use Rattle.planets.specs.Planets.{numbersOf, pairOf}
 use Rattle.planets.specs.Promises.{ReducedPair}
 use Rattle.planets.proofs.Five.{each-planet}
 use Rattle.planets.proofs.Reducing.{reduction}
 use Rattle.fields.specs.Fields.{word, decimal, joined, lined, Put}
-use Rattle.fields.proofs.Putting.{then, put-as}
+use Rattle.fields.proofs.Putting.{wide, then, put-as}
 use Rattle.fields.proofs.Paper.{joined-more}
 use Rattle.lines.specs.Lines.{wordsOf}
 use Rattle.told.specs.Answers.{wordsNumbered, refusedText, told}
 
--- the text of what a call said is the text of what it promised to say
-pub tells : {A R : Type 0} {w a b : ℕ} {o o′ : List ℕ} (f : A → List ℕ) (said : R → Answer A) {r s : R} {x : Answer A} →
-    said r ≡ x → r ≡ s → Put w o a (told f (said s)) o′ b → Put w o a (told f x) o′ b
-tells {R = R} f said {r} {s} e g p = put-as (sym (ap (λ (t : R). told f (said t)) g) ∙ ap (told f) e) p
+-- the text of what a call said is the text of what it promised to say; v bytes are room for it if w are
+pub tells : {A R : Type 0} {w v a b : ℕ} {o o′ : List ℕ} (f : A → List ℕ) (said : R → Answer A) {r s : R} {x : Answer A} →
+    said r ≡ x → r ≡ s → w ≤ v → Put w o a (told f (said s)) o′ b → Put v o a (told f x) o′ b
+tells {R = R} f said {r} {s} e g h p = put-as (sym (ap (λ (t : R). told f (said t)) g) ∙ ap (told f) e) (wide h p)
 
 -- a year that has facts is in range
 pub year-there : (y : ℕ) {r : YearTold} {f : YearFacts} → YearOwnFacts y r → r ≡ Is f → YearInRange y
@@ -38,7 +38,7 @@ year-there y {r} {f} e g =
     within-true 1 41040 y .0 (holds-all (within 1 41040 y) 1 (is (yearFacts y)) f .0 (sym e ∙ ap saidYear g) .0)
 
 -- a pair that is given is a planet's: 9,415 years and 11,908 conjunctions at most
-abbrev pub Few : Pair → Type 0
+abbrev Few : Pair → Type 0
 Few r = (r .years ≤ 9415) × (r .conjunctions ≤ 11908)
 
 pub pair-few : (p : ℕ) {r : PairTold} {x : Pair} → ReducedPair p r → r ≡ Pair'.Is x → Few x

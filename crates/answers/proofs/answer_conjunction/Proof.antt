@@ -1,7 +1,6 @@
 -- `answers::answer_conjunction` meets its contract: what `planets::kth_conjunction` says, told. Assumes nothing.
 use native.Mathlib.Omega.{arith}
 use Rattle.planets.specs.Promises.{saidConjunction}
-use Rattle.fields.proofs.Putting.{wide}
 use Rattle.told.specs.Answers.{conjunctionLine, conjunctionText}
 use Rattle.told.proofs.Telling.{tells}
 use borrow.Author.Needs.{needs}
@@ -22,9 +21,11 @@ answer-conjunction-spec =
     (λ c.
     let p = c .before .before in
     let q = p .before .before .before in
-    tells conjunctionLine saidConjunction (q .before .before .kth-conjunction .ensures) (q .c .given .1) (wide (omega arith) (p .put-conjunction .ensures)))
+    let r = q .before .before in
+    tells conjunctionLine saidConjunction (r .kth-conjunction .ensures) (q .c .given .1) (omega arith) (p .put-conjunction .ensures))
     (λ c. search needs)
     (λ c.
     let p = c .before .before in
     let q = p .before .before .before in
-    tells conjunctionLine saidConjunction (q .before .before .kth-conjunction .ensures) (q .why .given .1) (wide (omega arith) (p .put-refusal .ensures))))
+    let r = q .before .before in
+    tells conjunctionLine saidConjunction (r .kth-conjunction .ensures) (q .why .given .1) (omega arith) (p .put-refusal .ensures)))

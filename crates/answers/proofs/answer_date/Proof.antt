@@ -3,7 +3,6 @@ use native.Mathlib.Omega.{arith}
 use mathlib.Core.Path.{ap, sym, _∙_}
 use Rattle.dates.proofs.Laws.{found-date}
 use Rattle.dates.specs.Promises.{saidDay}
-use Rattle.fields.proofs.Putting.{wide}
 use Rattle.told.specs.Answers.{dayLine, dateText}
 use Rattle.told.proofs.Telling.{tells}
 use borrow.Author.Needs.{needs}
@@ -19,8 +18,9 @@ answer-date-spec =
     (λ c. search needs)
     (λ c κs.
     let q = c .before .before in
-    let s = q .before .before .before .before .args in
-    let e = sym (q .before .before .day-of-date .ensures) ∙ ap saidDay (q .day .given .1) in
+    let r = q .before .before in
+    let s = r .before .before .args in
+    let e = sym (r .day-of-date .ensures) ∙ ap saidDay (q .day .given .1) in
     (found-date (s .year) (s .number) (s .leap) (s .day-of-month) (q .day .given .0 .0) e .0, omega arith))
     (λ c. search needs)
     (λ c κs. search needs)
@@ -28,9 +28,11 @@ answer-date-spec =
     (λ c.
     let p = c .before .before in
     let q = p .before .before .before in
-    tells dayLine saidDay (q .before .before .day-of-date .ensures) (q .day .given .1) (wide (omega arith) (p .put-day-of .ensures)))
+    let r = q .before .before in
+    tells dayLine saidDay (r .day-of-date .ensures) (q .day .given .1) (omega arith) (p .put-day-of .ensures))
     (λ c. search needs)
     (λ c.
     let p = c .before .before in
     let q = p .before .before .before in
-    tells dayLine saidDay (q .before .before .day-of-date .ensures) (q .why .given .1) (wide (omega arith) (p .put-refusal .ensures))))
+    let r = q .before .before in
+    tells dayLine saidDay (r .day-of-date .ensures) (q .why .given .1) (omega arith) (p .put-refusal .ensures)))

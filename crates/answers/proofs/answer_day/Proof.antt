@@ -1,7 +1,6 @@
 -- `answers::answer_day` meets its contract: what `dates::date_of_day` says, told. Assumes nothing.
 use native.Mathlib.Omega.{arith}
 use Rattle.dates.specs.Promises.{saidDate}
-use Rattle.fields.proofs.Putting.{wide}
 use Rattle.told.specs.Answers.{dayLineOf, dayText}
 use Rattle.told.proofs.Telling.{tells}
 use borrow.Author.Needs.{needs}
@@ -22,9 +21,11 @@ answer-day-spec =
     (λ c.
     let p = c .before .before in
     let q = p .before .before .before in
-    tells (dayLineOf (q .before .before .before .before .args .day)) saidDate (q .before .before .date-of-day .ensures) (q .d .given .1) (wide (omega arith) (p .put-day-line .ensures)))
+    let r = q .before .before in
+    tells (dayLineOf (r .before .before .args .day)) saidDate (r .date-of-day .ensures) (q .d .given .1) (omega arith) (p .put-day-line .ensures))
     (λ c. search needs)
     (λ c.
     let p = c .before .before in
     let q = p .before .before .before in
-    tells (dayLineOf (q .before .before .before .before .args .day)) saidDate (q .before .before .date-of-day .ensures) (q .why .given .1) (wide (omega arith) (p .put-refusal .ensures))))
+    let r = q .before .before in
+    tells (dayLineOf (r .before .before .args .day)) saidDate (r .date-of-day .ensures) (q .why .given .1) (omega arith) (p .put-refusal .ensures)))

@@ -1,7 +1,6 @@
 -- `answers::answer_month` meets its contract: what `facts::month_facts` says, told. Assumes nothing.
 use native.Mathlib.Omega.{arith}
 use Rattle.facts.specs.Promises.{saidMonth}
-use Rattle.fields.proofs.Putting.{wide}
 use Rattle.told.specs.Answers.{monthLineOf, monthText}
 use Rattle.told.proofs.Telling.{tells}
 use borrow.Author.Needs.{needs}
@@ -22,9 +21,11 @@ answer-month-spec =
     (λ c.
     let p = c .before .before in
     let q = p .before .before .before in
-    tells (monthLineOf (q .before .before .before .before .args .n)) saidMonth (q .before .before .month-facts .ensures) (q .f .given .1) (wide (omega arith) (p .put-month-line .ensures)))
+    let r = q .before .before in
+    tells (monthLineOf (r .before .before .args .n)) saidMonth (r .month-facts .ensures) (q .f .given .1) (omega arith) (p .put-month-line .ensures))
     (λ c. search needs)
     (λ c.
     let p = c .before .before in
     let q = p .before .before .before in
-    tells (monthLineOf (q .before .before .before .before .args .n)) saidMonth (q .before .before .month-facts .ensures) (q .why .given .1) (wide (omega arith) (p .put-refusal .ensures))))
+    let r = q .before .before in
+    tells (monthLineOf (r .before .before .args .n)) saidMonth (r .month-facts .ensures) (q .why .given .1) (omega arith) (p .put-refusal .ensures)))

@@ -10,7 +10,6 @@ use Rattle.rule.specs.Reasons.{Answer}
 use Rattle.dates.specs.declared.Date.{Date}
 use Rattle.dates.specs.Promises.{saidDate}
 use Rattle.moves.specs.Moves.{moved}
-use Rattle.fields.proofs.Putting.{wide}
 use Rattle.told.specs.Answers.{textOfDate, moveText}
 use Rattle.told.proofs.Telling.{tells}
 use borrow.Author.Needs.{needs}
@@ -21,12 +20,13 @@ use Rattle.answers.proofs.answer_move.Tie as tie
 through : (y k : ℕ) (l : Bool) (m : ℕ) {z n : ℤ} {a : Answer Date} → a ≡ moved y k l m z → z ≡ n → a ≡ moved y k l m n
 through y k l m e f = e ∙ ap (moved y k l m) f
 
-promised : (c : tie.After-move-date) →
-    saidDate (c .move-date .result)
-    ≡ moved (c .before .before .args .year) (c .before .before .args .number) (c .before .before .args .leap) (c .before .before .args .day-of-month) (c .before .before .args .days)
+abbrev asked : tie.After-move-date → Answer Date
+asked c = let s = c .before .before .args in moved (s .year) (s .number) (s .leap) (s .day-of-month) (s .days)
+
+promised : (c : tie.After-move-date) → saidDate (c .move-date .result) ≡ asked c
 promised c =
-    let s = c .before .before in
-    through (s .args .year) (s .args .number) (s .args .leap) (s .args .day-of-month) (c .move-date .ensures) (toZ-ofZ w64 (s .args .days) (s .fits .days))
+    let s = c .before .before .args in
+    through (s .year) (s .number) (s .leap) (s .day-of-month) (c .move-date .ensures) (toZ-ofZ w64 (s .days) (c .before .before .fits .days))
 
 pub answer-move-spec : {M : Type 1} → statement M
 unfolding moveText
@@ -42,9 +42,11 @@ answer-move-spec =
     (λ c.
     let p = c .before .before in
     let q = p .before .before .before in
-    tells textOfDate saidDate (promised (q .before .before)) (q .d .given .1) (wide (omega arith) (p .answer-of-date .ensures)))
+    let r = q .before .before in
+    tells textOfDate saidDate (promised r) (q .d .given .1) (omega arith) (p .answer-of-date .ensures))
     (λ c. search needs)
     (λ c.
     let p = c .before .before in
     let q = p .before .before .before in
-    tells textOfDate saidDate (promised (q .before .before)) (q .why .given .1) (wide (omega arith) (p .put-refusal .ensures))))
+    let r = q .before .before in
+    tells textOfDate saidDate (promised r) (q .why .given .1) (omega arith) (p .put-refusal .ensures)))

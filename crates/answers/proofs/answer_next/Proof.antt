@@ -1,7 +1,6 @@
 -- `answers::answer_next` meets its contract: what `planets::next_conjunction` says, told. Assumes nothing.
 use native.Mathlib.Omega.{arith}
 use Rattle.planets.specs.Promises.{saidNext}
-use Rattle.fields.proofs.Putting.{wide}
 use Rattle.told.specs.Answers.{nextLine, nextText}
 use Rattle.told.proofs.Telling.{tells}
 use borrow.Author.Needs.{needs}
@@ -22,9 +21,11 @@ answer-next-spec =
     (λ c.
     let p = c .before .before in
     let q = p .before .before .before in
-    tells nextLine saidNext (q .before .before .next-conjunction .ensures) (q .n .given .1) (wide (omega arith) (p .put-next-line .ensures)))
+    let r = q .before .before in
+    tells nextLine saidNext (r .next-conjunction .ensures) (q .n .given .1) (omega arith) (p .put-next-line .ensures))
     (λ c. search needs)
     (λ c.
     let p = c .before .before in
     let q = p .before .before .before in
-    tells nextLine saidNext (q .before .before .next-conjunction .ensures) (q .why .given .1) (wide (omega arith) (p .put-refusal .ensures))))
+    let r = q .before .before in
+    tells nextLine saidNext (r .next-conjunction .ensures) (q .why .given .1) (omega arith) (p .put-refusal .ensures)))

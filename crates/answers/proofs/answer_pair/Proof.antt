@@ -2,7 +2,6 @@
 use native.Mathlib.Omega.{arith}
 use Rattle.planets.specs.Promises.{saidPair}
 use Rattle.planets.proofs.Reducing.{as-printed}
-use Rattle.fields.proofs.Putting.{wide}
 use Rattle.told.specs.Answers.{pairLine, pairText}
 use Rattle.told.proofs.Telling.{tells, pair-few}
 use borrow.Author.Needs.{needs}
@@ -28,12 +27,12 @@ answer-pair-spec =
     let p = c .before .before in
     let q = p .before .before .before in
     let r = q .before .before in
-    tells pairLine saidPair (as-printed (r .before .before .args .planet) (r .reduced-pair .result) .0 (r .reduced-pair .ensures)) (q .p .given .1)
-    (wide (omega arith) (p .put-pair .ensures)))
+    let e = as-printed (r .before .before .args .planet) (r .reduced-pair .result) .0 (r .reduced-pair .ensures) in
+    tells pairLine saidPair e (q .p .given .1) (omega arith) (p .put-pair .ensures))
     (λ c. search needs)
     (λ c.
     let p = c .before .before in
     let q = p .before .before .before in
     let r = q .before .before in
-    tells pairLine saidPair (as-printed (r .before .before .args .planet) (r .reduced-pair .result) .0 (r .reduced-pair .ensures)) (q .why .given .1)
-    (wide (omega arith) (p .put-refusal .ensures))))
+    let e = as-printed (r .before .before .args .planet) (r .reduced-pair .result) .0 (r .reduced-pair .ensures) in
+    tells pairLine saidPair e (q .why .given .1) (omega arith) (p .put-refusal .ensures)))

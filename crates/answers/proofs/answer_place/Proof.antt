@@ -1,7 +1,6 @@
 -- `answers::answer_place` meets its contract: what `facts::solstice_year` says, told. Assumes nothing.
 use native.Mathlib.Omega.{arith}
 use Rattle.facts.specs.Promises.{saidSolsticeYear}
-use Rattle.fields.proofs.Putting.{wide}
 use Rattle.told.specs.Answers.{placeLine, placeText}
 use Rattle.told.proofs.Telling.{tells}
 use borrow.Author.Needs.{needs}
@@ -22,9 +21,11 @@ answer-place-spec =
     (λ c.
     let p = c .before .before in
     let q = p .before .before .before in
-    tells placeLine saidSolsticeYear (q .before .before .solstice-year .ensures) (q .p .given .1) (wide (omega arith) (p .put-place .ensures)))
+    let r = q .before .before in
+    tells placeLine saidSolsticeYear (r .solstice-year .ensures) (q .p .given .1) (omega arith) (p .put-place .ensures))
     (λ c. search needs)
     (λ c.
     let p = c .before .before in
     let q = p .before .before .before in
-    tells placeLine saidSolsticeYear (q .before .before .solstice-year .ensures) (q .why .given .1) (wide (omega arith) (p .put-refusal .ensures))))
+    let r = q .before .before in
+    tells placeLine saidSolsticeYear (r .solstice-year .ensures) (q .why .given .1) (omega arith) (p .put-refusal .ensures)))

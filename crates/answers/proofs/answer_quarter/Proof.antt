@@ -1,7 +1,6 @@
 -- `answers::answer_quarter` meets its contract: what `facts::quarter` says, told. Assumes nothing.
 use native.Mathlib.Omega.{arith}
 use Rattle.facts.specs.Promises.{saidQuarter}
-use Rattle.fields.proofs.Putting.{wide}
 use Rattle.told.specs.Answers.{quarterLine, quarterText}
 use Rattle.told.proofs.Telling.{tells}
 use borrow.Author.Needs.{needs}
@@ -22,9 +21,11 @@ answer-quarter-spec =
     (λ c.
     let p = c .before .before in
     let q = p .before .before .before in
-    tells quarterLine saidQuarter (q .before .before .quarter .ensures) (q .f .given .1) (wide (omega arith) (p .put-quarter .ensures)))
+    let r = q .before .before in
+    tells quarterLine saidQuarter (r .quarter .ensures) (q .f .given .1) (omega arith) (p .put-quarter .ensures))
     (λ c. search needs)
     (λ c.
     let p = c .before .before in
     let q = p .before .before .before in
-    tells quarterLine saidQuarter (q .before .before .quarter .ensures) (q .why .given .1) (wide (omega arith) (p .put-refusal .ensures))))
+    let r = q .before .before in
+    tells quarterLine saidQuarter (r .quarter .ensures) (q .why .given .1) (omega arith) (p .put-refusal .ensures)))

@@ -4,10 +4,11 @@ use native.Mathlib.Omega.{arith}
 use mathlib.Core.Path.{_≡_, ap, _∙_}
 use mathlib.Core.List.{List, _++_}
 use lib.ListN.{length}
+use Rattle.rule.specs.Reasons.{Answer}
 use Rattle.reading.specs.Readings.{windowDays, fitting}
 use Rattle.reading.specs.Search.{searchAt, saidFound}
 use Rattle.fields.specs.Fields.{each}
-use Rattle.fields.proofs.Putting.{put-kept, wide, then, put-as}
+use Rattle.fields.proofs.Putting.{put-kept, then, put-as}
 use Rattle.told.specs.Answers.{dayLine, foundLine, places, searchText}
 use Rattle.told.proofs.Telling.{tells}
 use Rattle.told.proofs.Finding.{room-enough, found-days, found-few, found-inside, found-in-range}
@@ -20,8 +21,10 @@ abbrev lines-of : tie.Start → ℕ → List ℕ
 lines-of s n = foundLine n ++ each dayLine (fitting (s .args .r) (s .args .first) (windowDays (s .args .first) (s .args .last)))
 
 -- what the search promised, of a list with so many places as there are
-promised : (x : tie.After-search) →
-    saidFound (x .search .result) ≡ searchAt (x .before .before .before .before .args .r) (x .before .before .before .before .args .first) (x .before .before .before .before .args .last) places
+abbrev asked : tie.After-search → Answer ℕ
+asked x = let s = x .before .before .before .before .args in searchAt (s .r) (s .first) (s .last) places
+
+promised : (x : tie.After-search) → saidFound (x .search .result) ≡ asked x
 promised x =
     let s = x .before .before .before .before in
     x .search .ensures .answered ∙ room-enough (s .args .r) (s .args .first) (s .args .last) (length (s .args .days .now)) (s .pre .0)
@@ -41,7 +44,8 @@ answer-search-spec =
     let x = q .before .before .before .before in
     let s = x .search .ensures in
     let e = q .n .given .1 in
-    (found-inside s e, found-in-range s e, omega (arith, found-few s e, put-kept (p .put-found .ensures), p .put-found .ensures .few, x .before .before .before .before .pre .1)))
+    let room = x .before .before .before .before .pre .1 in
+    (found-inside s e, found-in-range s e, omega (arith, found-few s e, put-kept (p .put-found .ensures), p .put-found .ensures .few, room)))
     (λ c. search needs)
     (λ c κs. search needs)
     (λ c. search needs)
@@ -55,19 +59,20 @@ answer-search-spec =
     let x = q .before .before .before .before in
     let s = x .search .ensures in
     let e = q .n .given .1 in
-    tells (lines-of (x .before .before .before .before)) saidFound (promised x) e
-    (wide (omega (arith, found-few s e)) (put-as (ap (λ (l : List ℕ). foundLine (q .n .given .0 .0) ++ each dayLine l) (found-days s e)) (then (p1 .put-found .ensures) (p2 .put-days .ensures)))))
+    tells (lines-of (x .before .before .before .before)) saidFound (promised x) e (omega (arith, found-few s e))
+    (put-as (ap (λ (l : List ℕ). foundLine (q .n .given .0 .0) ++ each dayLine l) (found-days s e))
+    (then (p1 .put-found .ensures) (p2 .put-days .ensures))))
     (λ c. search needs)
     (λ c. search needs)
     (λ c.
     let p = c .before .before in
     let q = p .before .before in
     let x = q .before .before .before .before in
-    tells (lines-of (x .before .before .before .before)) saidFound (promised x) (q .enum-told .given .1) (wide (omega arith) (p .put-refusal .ensures)))
+    tells (lines-of (x .before .before .before .before)) saidFound (promised x) (q .enum-told .given .1) (omega arith) (p .put-refusal .ensures))
     (λ c. search needs)
     (λ c. search needs)
     (λ c.
     let p = c .before .before in
     let q = p .before .before .before in
     let x = q .before .before .before .before in
-    tells (lines-of (x .before .before .before .before)) saidFound (promised x) (q .why .given .1) (wide (omega arith) (p .put-refusal2 .ensures))))
+    tells (lines-of (x .before .before .before .before)) saidFound (promised x) (q .why .given .1) (omega arith) (p .put-refusal2 .ensures)))

@@ -1,7 +1,6 @@
 -- `answers::answer_term` meets its contract: what `facts::term` says, told. Assumes nothing.
 use native.Mathlib.Omega.{arith}
 use Rattle.facts.specs.Promises.{saidTerm}
-use Rattle.fields.proofs.Putting.{wide}
 use Rattle.told.specs.Answers.{termLine, termText}
 use Rattle.told.proofs.Telling.{tells}
 use borrow.Author.Needs.{needs}
@@ -22,9 +21,11 @@ answer-term-spec =
     (λ c.
     let p = c .before .before in
     let q = p .before .before .before in
-    tells termLine saidTerm (q .before .before .term .ensures) (q .day .given .1) (wide (omega arith) (p .put-term .ensures)))
+    let r = q .before .before in
+    tells termLine saidTerm (r .term .ensures) (q .day .given .1) (omega arith) (p .put-term .ensures))
     (λ c. search needs)
     (λ c.
     let p = c .before .before in
     let q = p .before .before .before in
-    tells termLine saidTerm (q .before .before .term .ensures) (q .why .given .1) (wide (omega arith) (p .put-refusal .ensures))))
+    let r = q .before .before in
+    tells termLine saidTerm (r .term .ensures) (q .why .given .1) (omega arith) (p .put-refusal .ensures)))

@@ -1,7 +1,6 @@
 -- `answers::answer_year` meets its contract: what `facts::year_facts` says, told. Assumes nothing.
 use native.Mathlib.Omega.{arith}
 use Rattle.facts.specs.Promises.{saidYear}
-use Rattle.fields.proofs.Putting.{wide}
 use Rattle.told.proofs.Telling.{year-there, tells}
 use Rattle.told.specs.Answers.{yearLine, yearText}
 use borrow.Author.Needs.{needs}
@@ -17,7 +16,8 @@ answer-year-spec =
     (λ c. search needs)
     (λ c.
     let q = c .before in
-    omega (arith, year-there (q .before .before .before .before .args .year) (q .before .before .year-facts .ensures) (q .f .given .1) .1))
+    let r = q .before .before in
+    omega (arith, year-there (r .before .before .args .year) (r .year-facts .ensures) (q .f .given .1) .1))
     (λ c κs. search needs)
     (λ c. search needs)
     (λ c κs. search needs)
@@ -25,9 +25,11 @@ answer-year-spec =
     (λ c.
     let p = c .before .before in
     let q = p .before .before .before in
-    tells (yearLine (q .before .before .before .before .args .year)) saidYear (q .before .before .year-facts .ensures) (q .f .given .1) (wide (omega arith) (p .put-year-line .ensures)))
+    let r = q .before .before in
+    tells (yearLine (r .before .before .args .year)) saidYear (r .year-facts .ensures) (q .f .given .1) (omega arith) (p .put-year-line .ensures))
     (λ c. search needs)
     (λ c.
     let p = c .before .before in
     let q = p .before .before .before in
-    tells (yearLine (q .before .before .before .before .args .year)) saidYear (q .before .before .year-facts .ensures) (q .why .given .1) (wide (omega arith) (p .put-refusal .ensures))))
+    let r = q .before .before in
+    tells (yearLine (r .before .before .args .year)) saidYear (r .year-facts .ensures) (q .why .given .1) (omega arith) (p .put-refusal .ensures)))

@@ -30,6 +30,7 @@ put-day-line-spec =
     let s = p1 .before .before .before in
     let d = s .args .d in
     then
-    (more-fields (fieldsOfDay (s .args .day) d) (decimal (d .«month_length») ∷ decimal (d .«year_name») ∷ []) (omega arith) (omega arith) (p1 .put-day-fields .ensures)
+    (more-fields (fieldsOfDay (s .args .day) d) (decimal (d .«month_length») ∷ decimal (d .«year_name») ∷ []) (omega arith) (omega arith)
+    (p1 .put-day-fields .ensures)
     (then (p2 .put-next .ensures) (p3 .put-next2 .ensures)))
     (p4 .put-byte .ensures)))

@@ -28,14 +28,17 @@ put-days-spec =
     (λ c κs.
     let l = c .before .before .before in
     let pre = l .before .before .before .pre in
-    (pre .1 (l .loop .i) (c .before .before .loop-test .taken), omega (arith, put-kept (l .loop .inv .1), l .loop .inv .1 .few, pre .2, c .before .before .loop-test .taken)))
+    let t = c .before .before .loop-test .taken in
+    (pre .1 (l .loop .i) t, omega (arith, put-kept (l .loop .inv .1), l .loop .inv .1 .few, pre .2, t)))
     (λ c. omega arith)
     (λ c. omega arith)
     (λ c.
     let t = c .before .before .before .before .before in
     let l = t .before in
     let s = l .before .before .before in
-    (omega arith, turn (l .loop .i) (each-next dayLine (s .args .days .now) (l .loop .i) (omega (arith, s .pre .0, t .loop-test .taken))) (l .loop .inv .1) (c .before .before .put-day-of .ensures)))
+    let i = l .loop .i in
+    let next = each-next dayLine (s .args .days .now) i (omega (arith, s .pre .0, t .loop-test .taken)) in
+    (omega arith, turn i next (l .loop .inv .1) (c .before .before .put-day-of .ensures)))
     (λ c. put-kept (c .before .loop .inv .1))
     (λ c.
     let l = c .before in

@@ -25,9 +25,11 @@ put-leap-spec =
     (λ c. search needs)
     (λ c.
     let p = c .before .before in
-    put-as (ap (λ (l : LeapMonth). 32 ∷ joined (fieldsOfLeap l)) (sym (p .before .before .before .enum-told .given .1))) (wide (omega arith) (p .put-bytes .ensures)))
+    put-as (ap (λ (l : LeapMonth). 32 ∷ joined (fieldsOfLeap l)) (sym (p .before .before .before .enum-told .given .1)))
+    (wide (omega arith) (p .put-bytes .ensures)))
     (λ c. search needs)
     (λ c.
     let p2 = c .before .before in
     let p1 = p2 .before .before .before .before in
-    put-as (ap (λ (l : LeapMonth). 32 ∷ joined (fieldsOfLeap l)) (sym (p1 .before .before .before .l .given .1))) (then (p1 .put-next .ensures) (p2 .put-next2 .ensures))))
+    put-as (ap (λ (l : LeapMonth). 32 ∷ joined (fieldsOfLeap l)) (sym (p1 .before .before .before .l .given .1)))
+    (then (p1 .put-next .ensures) (p2 .put-next2 .ensures))))

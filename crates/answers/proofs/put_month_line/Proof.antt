@@ -33,6 +33,7 @@ put-month-line-spec =
     let f = s .args .f in
     then (p1 .put-bytes .ensures)
     (then
-    (more-fields (fieldsOfMonth (s .args .n) f) (decimal (f .«first_day») ∷ decimal (f .«small_remainder») ∷ []) (omega arith) (omega arith) (p2 .put-month-fields .ensures)
+    (more-fields (fieldsOfMonth (s .args .n) f) (decimal (f .«first_day») ∷ decimal (f .«small_remainder») ∷ []) (omega arith) (omega arith)
+    (p2 .put-month-fields .ensures)
     (then (p3 .put-next .ensures) (p4 .put-next2 .ensures)))
     (p5 .put-byte .ensures))))

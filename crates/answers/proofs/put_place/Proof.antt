@@ -30,6 +30,7 @@ put-place-spec =
     let p1 = p2 .before .before .before .before in
     let p = p1 .before .before .before .args .p in
     then
-    (more-fields (fieldsOfBu p) (decimal (p .«first_month») ∷ decimal (p .«leap_remainder») ∷ decimal (p .months) ∷ []) (omega arith) (omega arith) (p1 .put-bu-fields .ensures)
+    (more-fields (fieldsOfBu p) (decimal (p .«first_month») ∷ decimal (p .«leap_remainder») ∷ decimal (p .months) ∷ []) (omega arith) (omega arith)
+    (p1 .put-bu-fields .ensures)
     (then (p2 .put-next .ensures) (then (p3 .put-next2 .ensures) (p4 .put-next3 .ensures))))
     (p5 .put-byte .ensures)))

@@ -34,6 +34,8 @@ put-year-line-spec =
     let s = p1 .before .before .before in
     let f = s .args .f in
     then
-    (more-fields (fieldsOfYear (s .args .year) f) (word "FIRST" ∷ decimal (f .«first_month») ∷ word "LEAP" ∷ fieldsOfLeap (f .«leap_month»)) (omega arith) (omega arith) (p1 .put-year-fields .ensures)
+    (more-fields (fieldsOfYear (s .args .year) f)
+    (word "FIRST" ∷ decimal (f .«first_month») ∷ word "LEAP" ∷ fieldsOfLeap (f .«leap_month»)) (omega arith) (omega arith)
+    (p1 .put-year-fields .ensures)
     (then (p2 .put-bytes .ensures) (then (p3 .put-next .ensures) (then (p4 .put-bytes2 .ensures) (p5 .put-leap .ensures)))))
     (p6 .put-byte .ensures)))
