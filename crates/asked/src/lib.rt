@@ -72,6 +72,17 @@ fn read_places(line: &[u8]) -> Places
     let s1 = forms::after_first(line);
     let s2 = forms::after_first(s1);
     let s3 = forms::after_first(s2);
+    if s3.len() == 0 {
+        return Places {
+            n1: forms::number(s1),
+            n2: forms::number(s2),
+            m3: false,
+            n4: 0,
+            s5: 0,
+            n7: 0,
+            n8: 0,
+        };
+    }
     let s4 = forms::after_first(s3);
     let s5 = forms::after_first(s4);
     let s6 = forms::after_first(s5);
@@ -88,24 +99,22 @@ fn read_places(line: &[u8]) -> Places
     }
 }
 
-// The table of forms: which of them a line is like, counted from 0. A row has 32 bytes, the form up to the first dot.
+// The table of forms: which of them a line is like, counted from 0.
 fn form_number(line: &[u8]) -> usize
     ensures { λ r. ⌜ r ≡ firstLike forms (fieldsIn 32 (now (line .entry))) ⌝ }
 {
-    let table: &[u8] = b"PLACE n........................
-YEAR n.........................
-MONTH n........................
-QUARTER n n....................
-TERM n n.......................
-CONJUNCTION n n................
-NEXT n n.......................
-PAIR n.........................
-DAY n..........................
-DATE n n m n...................
-MOVE n n m n s.................
-SEARCH f f g f f f n n.........
-";
-    forms::form_of(table, 12, line)
+    let k1 = forms::past(0, 0, b"PLACE n", line);
+    let k2 = forms::past(k1, 1, b"YEAR n", line);
+    let k3 = forms::past(k2, 2, b"MONTH n", line);
+    let k4 = forms::past(k3, 3, b"QUARTER n n", line);
+    let k5 = forms::past(k4, 4, b"TERM n n", line);
+    let k6 = forms::past(k5, 5, b"CONJUNCTION n n", line);
+    let k7 = forms::past(k6, 6, b"NEXT n n", line);
+    let k8 = forms::past(k7, 7, b"PAIR n", line);
+    let k9 = forms::past(k8, 8, b"DAY n", line);
+    let k10 = forms::past(k9, 9, b"DATE n n m n", line);
+    let k11 = forms::past(k10, 10, b"MOVE n n m n s", line);
+    forms::past(k11, 11, b"SEARCH f f g f f f n n", line)
 }
 
 // The query of a line that is like a form, counted from 0.

@@ -157,3 +157,22 @@ pub at-place : (k : ℕ) (s : List ℕ) → fieldAt (fieldsIn 32 s) k ≡ firstF
 unfolding behind
 at-place zero s = first-at s
 at-place (suc k) s = later-at s k ∙ at-place k (afterFirst s)
+
+-- where nothing stands from a place on, there is no field from there on
+from-there : (k j : ℕ) (s : List ℕ) → fieldAt (fieldsIn 32 s) (k + j) ≡ fieldAt (fieldsIn 32 (behind k s)) j
+unfolding behind
+from-there zero j s = ap (fieldAt (fieldsIn 32 s)) {y = j} (omega arith)
+from-there (suc k) j s =
+    ap (fieldAt (fieldsIn 32 s)) {x = suc k + j} {y = suc (k + j)} (omega arith) ∙ later-at s (k + j) ∙ from-there k j (afterFirst s)
+
+no-field : (j : ℕ) → fieldAt (fieldsIn 32 []) j ≡ []
+unfolding fieldAt fieldsIn
+no-field zero = refl
+no-field (suc j) = refl
+
+empty : (s : List ℕ) → length s ≡ 0 → s ≡ []
+empty [] h = refl
+empty (b ∷ s) h = absurd (omega arith)
+
+pub nothing-at : (k j : ℕ) (s t : List ℕ) → t ≡ behind k s → length t ≡ 0 → fieldAt (fieldsIn 32 s) (k + j) ≡ []
+nothing-at k j s t e h = from-there k j s ∙ ap (λ (u : List ℕ). fieldAt (fieldsIn 32 u) j) (sym e ∙ empty t h) ∙ no-field j

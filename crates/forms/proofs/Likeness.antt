@@ -1,5 +1,6 @@
 -- Laws of forms, field by field. Assumes nothing.
-use Prim.Native.Nat.{ℕ, suc, _+_, _-_, _*_, _≤_, _<_}
+use Prim.Native.Nat.{ℕ, suc, _+_, _-_, _≤_, _<_}
+use native.Mathlib.Numerals.{add-one}
 use native.Mathlib.Omega.{arith}
 use native.Mathlib.Decide.{decLe}
 use mathlib.Core.Path.{_≡_, refl, ap, ap₂, sym, _∙_}
@@ -7,9 +8,8 @@ use mathlib.Core.Bool.{Bool, true, false, not, cond, _&&_, and-eq-true-iff}
 use mathlib.Core.List.{List, [], _∷_}
 use lib.Dec.{eqb, ltb}
 use lib.ListN.{length, getD, take, drop}
-use lib.Seq.{drop-drop}
-use borrow.Author.Tests.{eq-eqb, ne-eqb, ltb-true, eqb-false, not-true}
-use Rattle.forms.specs.Forms.{firstField, fieldsIn, same, letter, admits, like, otherWord, rowsIn, firstLike}
+use borrow.Author.Tests.{eq-eqb, ne-eqb, lt-ltb, le-ltb, ltb-true, eqb-false, not-true}
+use Rattle.forms.specs.Forms.{firstField, fieldsIn, same, letter, admits, like, otherWord, past, firstLike}
 use Rattle.forms.proofs.Fields.{end-in, the-last, the-next, starts}
 
 -- fields and what is left of them
@@ -72,35 +72,48 @@ module _ (s t : List ℕ) (i a j b : ℕ) (ri : i ≤ length s) (rj : j ≤ leng
       go (no l) (yes m) = rw (the-next 32 s i a ri ea (λ e. omega (arith, e, l)), the-last 32 t j b rj eb (omega (arith, m, end-in 32 t j b rj eb)), h) refl
       go (no l) (no m) = rw (the-next 32 s i a ri ea (λ e. omega (arith, e, l)), the-next 32 t j b rj eb (λ e. omega (arith, e, m)), h) refl
 
--- the rows of a table, one after the other
-module _ (fs : List (List ℕ)) (t : List ℕ) (n k : ℕ) where
-  -- row k on
-  abbrev rowsFrom : ℕ → List (List ℕ)
-  rowsFrom j = rowsIn (n - j) (drop (32 * j) t)
+-- the forms of a table, one after the other
+unfoldable pub pastAll : ℕ → ℕ → List (List ℕ) → List (List ℕ) → ℕ
+pastAll k i [] fs = k
+pastAll k i (p ∷ ps) fs = pastAll (past k i p fs) (suc i) ps fs
 
-  abbrev Row : Bool → Type 0
-  Row x = like (fieldsIn 32 (firstField 46 (drop (32 * k) t))) fs ≡ x
+module _ (k i : ℕ) (p : List ℕ) (fs : List (List ℕ)) where
+  pub kept-place : k < i → k ≡ past k i p fs
+  unfolding past
+  kept-place h = rw (lt-ltb k i h) refl
 
-  one-row : k < n → rowsFrom k ≡ firstField 46 (drop (32 * k) t) ∷ rowsFrom (k + 1)
-  unfolding rowsIn
-  one-row h =
-      ap (λ (i : ℕ). rowsIn i (drop (32 * k) t)) {x = n - k} {y = suc (n - (k + 1))} (omega (arith, h))
-      ∙ ap (λ (l : List ℕ). firstField 46 (drop (32 * k) t) ∷ rowsIn (n - (k + 1)) l)
-      (drop-drop 32 (32 * k) t ∙ ap (λ (i : ℕ). drop i t) {x = 32 * k + 32} {y = 32 * (k + 1)} (omega arith))
+  pub this-place : i ≤ k → like (fieldsIn 32 p) fs ≡ true → i ≡ past k i p fs
+  unfolding past
+  this-place h e = rw (le-ltb k i h, e) refl
 
-  pub found : k < n → Row true → firstLike (rowsFrom k) fs ≡ 0
-  unfolding firstLike
-  found h e = rw (one-row h, e) refl
+  pub next-place : i ≤ k → like (fieldsIn 32 p) fs ≡ false → i + 1 ≡ past k i p fs
+  unfolding past
+  next-place h e = rw (le-ltb k i h, e) (add-one i)
 
-  pub further : k < n → Row false → firstLike (rowsFrom k) fs ≡ suc (firstLike (rowsFrom (k + 1)) fs)
-  unfolding firstLike
-  further h e = rw (one-row h, e) refl
+-- one form more: how many were passed before it
+pub and-past : {k j r : ℕ} (i : ℕ) (p : List ℕ) (fs : List (List ℕ)) → k ≡ j → r ≡ past k i p fs → r ≡ past j i p fs
+and-past i p fs h e = e ∙ ap (λ (l : ℕ). past l i p fs) h
 
-  pub no-more : n ≤ k → firstLike (rowsFrom k) fs ≡ 0
-  unfolding firstLike rowsIn
-  no-more h = ap (λ (i : ℕ). firstLike (rowsIn i (drop (32 * k) t)) fs) {x = n - k} {y = 0} (omega (arith, h))
+module _ (fs : List (List ℕ)) where
+  found-before : (ps : List (List ℕ)) (k i : ℕ) → k < i → pastAll k i ps fs ≡ k
+  unfolding pastAll past
+  found-before [] k i h = refl
+  found-before (p ∷ ps) k i h = rw (lt-ltb k i h) (found-before ps k (suc i) (omega (arith, h)))
 
--- the first letters of a row and of a line
+  from-place : (ps : List (List ℕ)) (i : ℕ) → pastAll i i ps fs ≡ i + firstLike ps fs
+  unfolding pastAll past firstLike
+  from-place [] i = omega arith
+  from-place (p ∷ ps) i = rw (le-ltb i i (omega arith)) (go (like (fieldsIn 32 p) fs) (from-place ps (suc i)))
+    where
+      go : (x : Bool) → pastAll (suc i) (suc i) ps fs ≡ suc i + firstLike ps fs →
+          pastAll (cond x i (suc i)) (suc i) ps fs ≡ i + cond x 0 (suc (firstLike ps fs))
+      go true h = found-before ps i (suc i) (omega arith) ∙ omega arith
+      go false h = h ∙ omega arith
+
+  pub past-all : (ps : List (List ℕ)) → pastAll 0 0 ps fs ≡ firstLike ps fs
+  past-all ps = from-place ps 0 ∙ omega arith
+
+-- the first letters of a form and of a line
 pub no-form : (p s : List ℕ) → length p ≡ 0 → false ≡ otherWord p s
 unfolding otherWord
 no-form [] s h = refl
@@ -144,27 +157,26 @@ module _ (a : ℕ) (low : 64 < a) (high : a < 91) where
       go true = refl
       go false = rw (ne-eqb a b h) refl
 
-  begins : (c : ℕ) → c ≤ 64 → (p : List ℕ) → firstField c (a ∷ p) ≡ a ∷ firstField c p
+  begins : (p : List ℕ) → firstField 32 (a ∷ p) ≡ a ∷ firstField 32 p
   unfolding firstField
-  begins c h p = rw (ne-eqb a c (λ e. omega (arith, e, h, low))) refl
+  begins p = rw (ne-eqb a 32 (λ e. omega (arith, e, low))) refl
 
-  unlike : (p s : List ℕ) (b : ℕ) → (a ≡ b → ⊥) → like (fieldsIn 32 (firstField 46 (a ∷ p))) (fieldsIn 32 (b ∷ s)) ≡ false
+  unlike : (p s : List ℕ) (b : ℕ) → (a ≡ b → ⊥) → like (fieldsIn 32 (a ∷ p)) (fieldsIn 32 (b ∷ s)) ≡ false
   unfolding like
   unlike p s b h =
       rw (
-        begins 46 (omega arith) p,
-        starts 32 (a ∷ firstField 46 p) .1,
+        starts 32 (a ∷ p) .1,
         starts 32 (b ∷ s) .1,
-        begins 32 (omega arith) (firstField 46 p),
-        word-alone (firstField 32 (firstField 46 p)) (firstField 32 (b ∷ s)),
-        differing (firstField 32 (firstField 46 p)) s b h,
+        begins p,
+        word-alone (firstField 32 p) (firstField 32 (b ∷ s)),
+        differing (firstField 32 p) s b h,
       ) refl
 
-pub other-word : (p s : List ℕ) → otherWord p s ≡ true → false ≡ like (fieldsIn 32 (firstField 46 p)) (fieldsIn 32 s)
+pub other-word : (p s : List ℕ) → otherWord p s ≡ true → like (fieldsIn 32 p) (fieldsIn 32 s) ≡ false
 unfolding otherWord
 other-word [] s e = absurd (let o : _≡_ {A = ℕ} 0 1 = cc in omega arith)
 other-word (a ∷ p) [] e = absurd (let o : _≡_ {A = ℕ} 0 1 = cc in omega arith)
 other-word (a ∷ p) (b ∷ s) e =
     let (c, d) = and-eq-true-iff (ltb a 91 && ltb 64 a) (not (eqb a b)) .0 e in
     let (h, l) = and-eq-true-iff (ltb a 91) (ltb 64 a) .0 c in
-    sym (unlike a (ltb-true 64 a l) (ltb-true a 91 h) p s b (eqb-false a b (not-true (eqb a b) d)))
+    unlike a (ltb-true 64 a l) (ltb-true a 91 h) p s b (eqb-false a b (not-true (eqb a b) d))

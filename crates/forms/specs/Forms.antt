@@ -90,21 +90,20 @@ like [] (f ∷ fs) = false
 like (p ∷ ps) [] = false
 like (p ∷ ps) (f ∷ fs) = admits p f && like ps fs
 
--- a row that begins with a capital letter, and a line that begins otherwise (proofs/Likeness: they are not alike)
+-- a form that begins with a capital letter, and a line that begins otherwise (proofs/Likeness: they are not alike)
 unfoldable pub otherWord : List ℕ → List ℕ → Bool
 otherWord [] s = false
 otherWord (a ∷ p) [] = false
 otherWord (a ∷ p) (b ∷ s) = ltb a 91 && ltb 64 a && not (eqb a b)
 
--- a table of forms as text: rows of 32 bytes, in each the form up to the first dot
-unfoldable pub rowsIn : ℕ → List ℕ → List (List ℕ)
-rowsIn zero t = []
-rowsIn (suc n) t = firstField 46 t ∷ rowsIn n (drop 32 t)
-
--- the first form of a table that fields are like, counted from 0
+-- the first form of a table that fields are like, counted from 0; how many forms there are where they are like none
 unfoldable pub firstLike : List (List ℕ) → List (List ℕ) → ℕ
 firstLike [] fs = 0
 firstLike (p ∷ ps) fs = cond (like (fieldsIn 32 p) fs) 0 (suc (firstLike ps fs))
+
+-- how many forms fields are past, once they were held against the form in place i, when they were past k of those before it
+unfoldable pub past : ℕ → ℕ → List ℕ → List (List ℕ) → ℕ
+past k i p fs = cond (ltb k i) k (cond (like (fieldsIn 32 p) fs) i (suc i))
 
 -- what the field in a place says, as a number, a mark, a move, a field of a slip and a mark of a slip; c says what becomes of a number
 unfoldable pub numberIn : List (List ℕ) → ℕ → ℕ

@@ -21,8 +21,7 @@ ghost use Rattle.forms.specs.Forms.{
   admits,
   like,
   otherWord,
-  rowsIn,
-  firstLike,
+  past,
   moveOf,
   slipFieldOf,
   slipMarkOf,
@@ -197,43 +196,34 @@ fn is_like(form: &[u8], line: &[u8]) -> bool
     }
 }
 
-// Whether a row begins with a capital letter with which the line does not begin: then its word is another.
-fn begins_otherwise(row: &[u8], line: &[u8]) -> bool
-    ensures { λ r. ⌜ r ≡ otherWord (now (row .entry)) (now (line .entry)) ⌝ }
+// Whether a form begins with a capital letter with which the line does not begin: then its word is another.
+fn begins_otherwise(form: &[u8], line: &[u8]) -> bool
+    ensures { λ r. ⌜ r ≡ otherWord (now (form .entry)) (now (line .entry)) ⌝ }
 {
-    if row.len() == 0 {
+    if form.len() == 0 {
         return false;
     }
     if line.len() == 0 {
         return false;
     }
-    (row[0] < 91) & (64 < row[0]) & (row[0] != line[0])
+    (form[0] < 91) & (64 < form[0]) & (form[0] != line[0])
 }
 
-// Whether a line is like the form at the front of a row, the first letter looked at first.
-fn is_like_row(row: &[u8], line: &[u8]) -> bool
-    ensures { λ r. ⌜ r ≡ like (fieldsIn 32 (firstField 46 (now (row .entry)))) (fieldsIn 32 (now (line .entry))) ⌝ }
+// How many forms of a table a line is past, once it was held against the form in place i: k, where that is an earlier one that it is like;
+// else i where it is like this one, and one more where it is not. The first letter is looked at first.
+pub fn past(k: usize, i: u8, form: &[u8], line: &[u8]) -> usize
+    ensures { λ r. ⌜ r ≡ past k i (now (form .entry)) (fieldsIn 32 (now (line .entry))) ⌝ }
 {
-    if begins_otherwise(row, line) {
-        return false;
+    if k < i as usize {
+        return k;
     }
-    let to = end_of(row, 0, 46);
-    is_like(&row[0..to], line)
-}
-
-// The first form of a table of n rows that a line is like, counted from 0; n where there is none.
-pub fn form_of(table: &[u8], n: usize, line: &[u8]) -> usize
-    requires { ⌜ 32 * n ≤ length (now table) ⌝ }
-    ensures { λ r. ⌜ r ≡ firstLike (rowsIn n (now (table .entry))) (fieldsIn 32 (now (line .entry))) ⌝ }
-{
-    let mut k = 0;
-    while k < n {
-        if is_like_row(&table[32 * k..], line) {
-            return k;
-        }
-        k += 1;
+    if begins_otherwise(form, line) {
+        return i as usize + 1;
     }
-    n
+    if is_like(form, line) {
+        return i as usize;
+    }
+    i as usize + 1
 }
 
 // A number with one digit more.

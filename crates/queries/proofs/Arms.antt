@@ -7,5 +7,5 @@ use Rattle.fields.proofs.Putting.{put-as, wide}
 use Rattle.asked.specs.declared.Query.{Query}
 use Rattle.queries.specs.Queries.{answered}
 
-pub arm : {w a b : ℕ} {o o′ : List ℕ} {q p : Query} → q ≡ p → w ≤ 2304014 → Put w o a (answered p) o′ b → Put 2304014 o a (answered q) o′ b
-arm e h t = put-as (sym (ap answered e)) (wide h t)
+pub arm : {w a b : ℕ} {o o′ : List ℕ} (s : List ℕ) {q p : Query} → q ≡ p → w ≤ 2304014 → Put w o a (answered s p) o′ b → Put 2304014 o a (answered s q) o′ b
+arm s e h t = put-as (sym (ap (answered s) e)) (wide h t)

@@ -36,6 +36,8 @@ use Rattle.told.specs.Answers.{
   conjunctionText,
   nextLine,
   nextText,
+  pairLine,
+  pairText,
   dayLineOf,
   dayText,
   dayLine,
@@ -54,7 +56,7 @@ use Rattle.forms.specs.Forms.{fieldsIn, fieldAt, same, firstLike, back, isMinus
 use Rattle.fields.specs.Paper.{valueFrom}
 use Rattle.asked.specs.declared.Query.{Query}
 use Rattle.asked.specs.declared.Slip.{Slip}
-use Rattle.asked.specs.Asked.{Row, slipIn, saidIn, table, forms, queryAt, readBy}
+use Rattle.asked.specs.Asked.{Row, slipIn, table, tableOf, forms, queryAt, isNote, readBy}
 use Rattle.asked.specs.Paper.{read}
 use Rattle.queries.specs.Queries.{unreadable, markField, readingOf, answered, answerTo}
 
@@ -93,6 +95,10 @@ conjunction-capped p k = ap (told conjunctionLine) (capped-alike .conjunction p 
 next-capped : (p d : ℕ) → nextText (capped p) (capped d) ≡ nextText p d
 unfolding nextText
 next-capped p d = ap (told nextLine) (capped-alike .next p d)
+
+pair-capped : (p : ℕ) → pairText (capped p) ≡ pairText p
+unfolding pairText
+pair-capped p = ap (told pairLine) (capped-alike .pair p)
 
 day-capped : (d : ℕ) → dayText (capped d) ≡ dayText d
 unfolding dayText dateAt
@@ -146,49 +152,61 @@ mark-kept Unseen = refl
 slip-in : (fs : List (List ℕ)) → readingOf (slipIn capped fs) ≡ cappedReading (readingOf (slipIn itself fs))
 slip-in fs = rw (field-in fs 1, field-in fs 2, field-in fs 4, field-in fs 5, field-in fs 6, mark-kept (slipIn itself fs .«leap_mark»)) refl
 
--- the answers of all rows
-answersOf : List Row → List (List ℕ)
-answersOf [] = []
-answersOf (r ∷ rs) = answered (r .query) ∷ answersOf rs
+-- the answers of all rows, to a line
+module _ (s : List ℕ) where
+  answersOf : List Row → List (List ℕ)
+  answersOf [] = []
+  answersOf (r ∷ rs) = answered s (r .query) ∷ answersOf rs
 
-answerAt : List (List ℕ) → ℕ → List ℕ
-answerAt [] k = unreadable
-answerAt (a ∷ l) zero = a
-answerAt (a ∷ l) (suc k) = answerAt l k
+  answerAt : List (List ℕ) → ℕ → List ℕ
+  answerAt [] k = unreadable
+  answerAt (a ∷ l) zero = a
+  answerAt (a ∷ l) (suc k) = answerAt l k
 
-at : (rs : List Row) (k : ℕ) → answered (queryAt rs k) ≡ answerAt (answersOf rs) k
-unfolding answersOf answerAt queryAt
-at [] k = refl
-at (r ∷ rs) zero = refl
-at (r ∷ rs) (suc k) = at rs k
+  at : (rs : List Row) (k : ℕ) → answered s (queryAt rs k) ≡ answerAt (answersOf rs) k
+  unfolding answersOf answerAt queryAt
+  at [] k = refl
+  at (r ∷ rs) zero = refl
+  at (r ∷ rs) (suc k) = at rs k
 
-rows-alike : (fs : List (List ℕ)) → answersOf (table (saidIn capped fs)) ≡ answersOf (table (saidIn itself fs))
-unfolding answersOf table
-rows-alike fs =
-    simp (
-      move-in,
-      slip-in,
-      place-capped,
-      year-capped,
-      month-capped,
-      quarter-capped,
-      term-capped,
-      conjunction-capped,
-      next-capped,
-      day-capped,
-      date-capped,
-      move-capped,
-      search-capped,
-    )
+  rows-alike : (fs : List (List ℕ)) → answersOf (tableOf capped fs) ≡ answersOf (tableOf itself fs)
+  unfolding answersOf table
+  rows-alike fs =
+      simp (
+        move-in,
+        slip-in,
+        place-capped,
+        year-capped,
+        month-capped,
+        quarter-capped,
+        term-capped,
+        conjunction-capped,
+        next-capped,
+        pair-capped,
+        day-capped,
+        date-capped,
+        move-capped,
+        search-capped,
+      )
 
-same-answer : (s : List ℕ) → answered (readBy capped s) ≡ answered (read s)
-unfolding readBy
-same-answer s =
-    at (table (saidIn capped (fieldsIn 32 s))) (firstLike forms (fieldsIn 32 s))
-    ∙ ap (λ (l : List (List ℕ)). answerAt l (firstLike forms (fieldsIn 32 s))) (rows-alike (fieldsIn 32 s))
-    ∙ sym (at (table (saidIn itself (fieldsIn 32 s))) (firstLike forms (fieldsIn 32 s)))
+  same-answer : answered s (readBy capped s) ≡ answered s (read s)
+  unfolding readBy
+  same-answer = go (isNote s)
+    where
+      fs : List (List ℕ)
+      fs = fieldsIn 32 s
 
-pub short-enough : (s : List ℕ) → length s ≤ 200 → answered (readBy capped s) ≡ answerTo s
+      k : ℕ
+      k = firstLike forms fs
+
+      rows : answered s (queryAt (tableOf capped fs) k) ≡ answered s (queryAt (tableOf itself fs) k)
+      rows = at (tableOf capped fs) k ∙ ap (λ (l : List (List ℕ)). answerAt l k) (rows-alike fs) ∙ sym (at (tableOf itself fs) k)
+
+      go : (x : Bool) → answered s (cond x Query.Note (queryAt (tableOf capped fs) k)) ≡ answered s (cond x Query.Note (queryAt (tableOf itself fs) k))
+      go true = refl
+      go false = rows
+
+pub short-enough : (s : List ℕ) → length s ≤ 200 → answered s (readBy capped s) ≡ answerTo s
 unfolding answerTo
 short-enough s h = rw (le-leb (length s) 200 h) (same-answer s)
 

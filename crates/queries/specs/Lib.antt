@@ -1,3 +1,3 @@
--- The desk program's answers.
+-- The answers to queries and lines: definitions, and statements of them.
 pub mod Queries
 pub mod Paper

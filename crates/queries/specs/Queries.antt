@@ -1,7 +1,7 @@
 -- The answer to each query and to each line. All are lists of bytes. Assumes nothing.
 use Prim.Native.Nat.{ℕ}
 use mathlib.Core.Bool.{Bool, true, false, cond}
-use mathlib.Core.List.{List, [], _∷_}
+use mathlib.Core.List.{List, [], _∷_, _++_}
 use lib.Dec.{leb}
 use lib.ListN.{length}
 use Rattle.reading.specs.declared.Field.{Field}
@@ -22,6 +22,7 @@ use Rattle.told.specs.Answers.{
   termText,
   conjunctionText,
   nextText,
+  pairText,
   dayText,
   dateText,
   moveText,
@@ -48,25 +49,23 @@ readingOf s =
       «first_name» = s .«first_name»;
     }
 
--- the answer to each query
-abbrev pub answered : Query → List ℕ
-answered Query.Unreadable = unreadable
-answered (Query.Place y) = placeText y
-answered (Query.Year y) = yearText y
-answered (Query.Month k) = monthText k
-answered (Query.Quarter k q) = quarterText k q
-answered (Query.Term y k) = termText y k
-answered (Query.Conjunction p k) = conjunctionText p k
-answered (Query.Next p d) = nextText p d
-answered (Query.Day d) = dayText d
-answered (Query.Date y k l d) = dateText y k l d
-answered (Query.Move y k l d n) = moveText y k l d n
-answered (Query.Search s a b) = searchText (readingOf s) a b
-answered (Query.Clerk a b) = quarterText a b
-answered (Query.Emend s a b) = searchText (readingOf s) a b
-answered (Query.Figures a b) = termText a b
-answered (Query.OldDay d) = dayText d
+-- the answer to each query, of the line that asks it: a note is printed "as it stands"
+abbrev pub answered : List ℕ → Query → List ℕ
+answered s Query.Unreadable = unreadable
+answered s Query.Note = s ++ (10 ∷ [])
+answered s (Query.Place y) = placeText y
+answered s (Query.Year y) = yearText y
+answered s (Query.Month k) = monthText k
+answered s (Query.Quarter k q) = quarterText k q
+answered s (Query.Term y k) = termText y k
+answered s (Query.Conjunction p k) = conjunctionText p k
+answered s (Query.Next p d) = nextText p d
+answered s (Query.Pair p) = pairText p
+answered s (Query.Day d) = dayText d
+answered s (Query.Date y k l d) = dateText y k l d
+answered s (Query.Move y k l d n) = moveText y k l d n
+answered s (Query.Search r a b) = searchText (readingOf r) a b
 
 -- the answer to a line: "each at most 200 bytes without its newline"
 unfoldable pub answerTo : List ℕ → List ℕ
-answerTo s = cond (leb (length s) 200) (answered (read s)) unreadable
+answerTo s = cond (leb (length s) 200) (answered s (read s)) unreadable

@@ -1,5 +1,6 @@
-// The desk program's answers: a line is read and answered, on byte slices.
+// The answer to a query and to a line, put into a lent buffer.
 ghost use mathlib.Core.Path.{_≡_};
+ghost use mathlib.Core.List.{[], _∷_, _++_};
 ghost use Prim.Native.Nat.{_+_, _≤_};
 ghost use lib.ListN.{length};
 ghost use Rattle.fields.specs.Fields.{Put};
@@ -17,6 +18,15 @@ fn put_unreadable(out: &mut [u8], at: usize) -> usize
     ensures { λ r. ⌜ Put 11 (now (out .entry)) at unreadable (now (out .exit)) r ⌝ }
 {
     fields::put_bytes(b"UNREADABLE\n", out, at)
+}
+
+// A line as it stands, a note.
+pub fn put_line(line: &[u8], out: &mut [u8], at: usize) -> usize
+    requires { ⌜ (length (now line) ≤ 201) × (at + 202 ≤ length (now out)) ⌝ }
+    ensures { λ r. ⌜ Put 202 (now (out .entry)) at (now (line .entry) ++ (10 ∷ [])) (now (out .exit)) r ⌝ }
+{
+    let to = fields::put_bytes(line, out, at);
+    fields::put_byte(10, out, to)
 }
 
 // A mark of a slip as a field of a reading.
@@ -59,16 +69,17 @@ fn answer_slip(s: Slip, first: u32, last: u32, days: &mut [u32], out: &mut [u8],
     requires { ⌜ (27759 ≤ length (now days)) × (at + 2304014 ≤ length (now out)) ⌝ }
     ensures { λ b. ⌜ Put 2304014 (now (out .entry)) at (searchText (readingOf s) first last) (now (out .exit)) b ⌝ }
 {
-    founds::answer_search(reading_of(s), first, last, days, out, at)
+    answers::answer_search(reading_of(s), first, last, days, out, at)
 }
 
-// The answer to a query.
-fn answer(q: Query, days: &mut [u32], out: &mut [u8], at: usize) -> usize
-    requires { ⌜ (27759 ≤ length (now days)) × (at + 2304014 ≤ length (now out)) ⌝ }
-    ensures { λ r. ⌜ Put 2304014 (now (out .entry)) at (answered q) (now (out .exit)) r ⌝ }
+// The answer to a query, which a line of 200 bytes at most asks.
+fn answer(q: Query, line: &[u8], days: &mut [u32], out: &mut [u8], at: usize) -> usize
+    requires { ⌜ (length (now line) ≤ 200) × (27759 ≤ length (now days)) × (at + 2304014 ≤ length (now out)) ⌝ }
+    ensures { λ r. ⌜ Put 2304014 (now (out .entry)) at (answered (now (line .entry)) q) (now (out .exit)) r ⌝ }
 {
     match q {
         Query::Unreadable => put_unreadable(out, at),
+        Query::Note => put_line(line, out, at),
         Query::Place(y) => answers::answer_place(y, out, at),
         Query::Year(y) => answers::answer_year(y, out, at),
         Query::Month(n) => answers::answer_month(n, out, at),
@@ -76,14 +87,11 @@ fn answer(q: Query, days: &mut [u32], out: &mut [u8], at: usize) -> usize
         Query::Term(y, k) => answers::answer_term(y, k, out, at),
         Query::Conjunction(p, k) => answers::answer_conjunction(p, k, out, at),
         Query::Next(p, d) => answers::answer_next(p, d, out, at),
-        Query::Day(d) => founds::answer_day(d, out, at),
-        Query::Date(y, k, l, d) => founds::answer_date(y, k, l, d, out, at),
-        Query::Move(y, k, l, d, n) => founds::answer_move(y, k, l, d, n, out, at),
+        Query::Pair(p) => answers::answer_pair(p, out, at),
+        Query::Day(d) => answers::answer_day(d, out, at),
+        Query::Date(y, k, l, d) => answers::answer_date(y, k, l, d, out, at),
+        Query::Move(y, k, l, d, n) => answers::answer_move(y, k, l, d, n, out, at),
         Query::Search(s, a, b) => answer_slip(s, a, b, days, out, at),
-        Query::Clerk(a, b) => answers::answer_quarter(a, b, out, at),
-        Query::Emend(s, a, b) => answer_slip(s, a, b, days, out, at),
-        Query::Figures(a, b) => answers::answer_term(a, b, out, at),
-        Query::OldDay(d) => founds::answer_day(d, out, at),
     }
 }
 
@@ -96,5 +104,5 @@ pub fn answer_line(line: &[u8], days: &mut [u32], out: &mut [u8], at: usize) -> 
     if 200 < line.len() {
         return put_unreadable(out, at);
     }
-    answer(asked::read_query(line), days, out, at)
+    answer(asked::read_query(line), line, days, out, at)
 }

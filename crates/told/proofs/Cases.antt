@@ -1,5 +1,6 @@
 -- The answers to queries of the paper's own figures, byte by byte: a field lost or in another's place shows here at once.
 -- Assumes nothing.
+use Prim.Native.Nat.{ℕ}
 use mathlib.Core.Path.{_≡_, refl}
 use mathlib.Core.Bool.{true, false}
 use mathlib.Core.List.{[], _∷_}
@@ -39,7 +40,7 @@ use Rattle.facts.specs.Facts.{
   quarterAt,
   termAt,
 }
-use Rattle.planets.specs.Planets.{numbersOf, conjunctionDay, conjunctionParts, phase, conjunctionOf, conjunctionAt, nextCount, nextOf, nextAt}
+use Rattle.planets.specs.Planets.{numbersOf, conjunctionDay, conjunctionParts, phase, conjunctionOf, conjunctionAt, nextCount, nextOf, nextAt, pairAt}
 use Rattle.reading.specs.declared.Field.the-variants.{Known, Unread}
 use Rattle.reading.specs.declared.Reading.{Reading}
 use Rattle.reading.specs.Readings.{monthFits, dayFits, fits, inRanges, fitting}
@@ -64,6 +65,8 @@ use Rattle.told.specs.Answers.{
   conjunctionText,
   nextLine,
   nextText,
+  pairLine,
+  pairText,
   dayLineOf,
   dayText,
   dayLine,
@@ -73,128 +76,174 @@ use Rattle.told.specs.Answers.{
   searchText,
 }
 
+-- What each kind of text is computed with: on an `unfolding` line such a name brings all that its own line names.
+printing : ℕ
+unfolding digits decimal followed inLines
+printing = 0
+
+refusing : ℕ
+unfolding refusedText wordsNumbered printing
+refusing = 0
+
+months : ℕ
+unfolding monthStart monthLength monthOfDay leap midTermsBefore monthNumber midTermNumber monthAt dayName
+months = 0
+
+years : ℕ
+unfolding yearFactsAt yearFacts leapMonth yearName firstMonth monthsInYear those
+years = 0
+
+day-lines : ℕ
+unfolding dayLine dayLineOf dateOf dateIn yearOfMonth yearName months printing
+day-lines = 0
+
+dates : ℕ
+unfolding dateText dayOfDate dayOfNamed dayInMonth namedMonth termDay months day-lines
+dates = 0
+
+conjunctions : ℕ
+unfolding conjunctionOf numbersOf conjunctionDay conjunctionParts phase printing
+conjunctions = 0
+
+searches : ℕ
+unfolding searchText searchAt total fitting fits monthFits dayFits inRanges those foundLine each day-lines
+searches = 0
+
 -- known date 5: year 9,366 is year 18 of bu 4 of ji 1, leap remainder 5, first month 115,830
 pub place-9366 : placeText 9366 ≡ inLines (word "PLACE 1 4 18 58 115830 5 12" ∷ [])
-unfolding placeText placeLine solsticeYear solsticeYearAt ji bu yearInBu headName dayName firstMonth leapRemainder monthsInYear digits decimal followed inLines
+unfolding placeText placeLine solsticeYear solsticeYearAt ji bu yearInBu headName dayName firstMonth leapRemainder monthsInYear printing
 place-9366 = refl
 
 -- known date 4: year 77 is year 1 of bu 2, whose head name is 40
 pub place-77 : placeText 77 ≡ inLines (word "PLACE 1 2 1 40 940 0 12" ∷ [])
-unfolding placeText placeLine solsticeYear solsticeYearAt ji bu yearInBu headName dayName firstMonth leapRemainder monthsInYear digits decimal followed inLines
+unfolding placeText placeLine solsticeYear solsticeYearAt ji bu yearInBu headName dayName firstMonth leapRemainder monthsInYear printing
 place-77 = refl
 
 pub no-year : placeText 41041 ≡ inLines (word "REFUSED 1 year outside 1 to 41,040" ∷ [])
-unfolding placeText placeLine solsticeYear solsticeYearAt refusedText wordsNumbered digits decimal followed inLines
+unfolding placeText placeLine solsticeYear solsticeYearAt refusing
 no-year = refl
 
 -- the paper's example: the header of year 11, whose months are 123 to 135, month 134 being leap 9
 pub year-11 : yearText 11 ≡ inLines (word "YEAR 11 NAME 27 MONTHS 13 FIRST 123 LEAP 9 134" ∷ [])
-unfolding yearText yearLine yearFactsAt yearFacts leapMonth yearName firstMonth monthsInYear those leap midTermsBefore monthStart monthNumber midTermNumber digits decimal followed inLines
+unfolding yearText yearLine years months printing
 year-11 = refl
 
 pub year-1 : yearText 1 ≡ inLines (word "YEAR 1 NAME 17 MONTHS 12 FIRST 0 LEAP - -" ∷ [])
-unfolding yearText yearLine yearFactsAt yearFacts leapMonth yearName firstMonth monthsInYear those leap midTermsBefore monthStart monthNumber midTermNumber digits decimal followed inLines
+unfolding yearText yearLine years months printing
 year-1 = refl
 
 -- lines of the same example, with the first day and the small remainder after them
 pub month-134 : monthText 134 ≡ inLines (word "MONTH 134 9 L 58 29 E 3957 126" ∷ [])
-unfolding monthText monthLineOf monthFactsAt monthFacts monthAt monthStart smallRemainder monthLength dayName eclipse leap midTermsBefore monthNumber midTermNumber digits decimal followed inLines
+unfolding monthText monthLineOf monthFactsAt monthFacts smallRemainder eclipse months printing
 month-134 = refl
 
 pub month-135 : monthText 135 ≡ inLines (word "MONTH 135 10 - 27 30 - 3986 625" ∷ [])
-unfolding monthText monthLineOf monthFactsAt monthFacts monthAt monthStart smallRemainder monthLength dayName eclipse leap midTermsBefore monthNumber midTermNumber digits decimal followed inLines
+unfolding monthText monthLineOf monthFactsAt monthFacts smallRemainder eclipse months printing
 month-135 = refl
 
 -- month 134 is full on day 3,971: 27,759 × 538 is 3,760 × 3,971 and 3,382 more
 pub full-134 : quarterText 134 2 ≡ inLines (word "QUARTER 3971 3382" ∷ [])
-unfolding quarterText quarterLine quarterAt quarterOf quarterDay quarterParts digits decimal followed inLines
+unfolding quarterText quarterLine quarterAt quarterOf quarterDay quarterParts printing
 full-134 = refl
 
 pub no-quarter : quarterText 0 4 ≡ inLines (word "REFUSED 15 term above 23 or quarter above 3" ∷ [])
-unfolding quarterText quarterLine quarterAt quarterOf refusedText wordsNumbered digits decimal followed inLines
+unfolding quarterText quarterLine quarterAt quarterOf refusing
 no-quarter = refl
 
 -- the term after the solstice of year 11: 487 × 241 is 32 × 3,667 and 23 more
 pub term-11-1 : termText 11 1 ≡ inLines (word "TERM 3667" ∷ [])
-unfolding termText termLine termAt termDay digits decimal followed inLines
+unfolding termText termLine termAt termDay printing
 term-11-1 = refl
 
 -- the checks of W11 for k = 1: Jupiter, and Venus, whose odd counts are morning conjunctions
 pub jupiter-1 : conjunctionText 1 1 ≡ inLines (word "CONJUNCTION 398 14641 17308 -" ∷ [])
-unfolding conjunctionText conjunctionLine conjunctionAt conjunctionOf numbersOf conjunctionDay conjunctionParts phase digits decimal followed inLines
+unfolding conjunctionText conjunctionLine conjunctionAt conjunctions
 jupiter-1 = refl
 
 pub venus-1 : conjunctionText 4 1 ≡ inLines (word "CONJUNCTION 292 281 23320 M" ∷ [])
-unfolding conjunctionText conjunctionLine conjunctionAt conjunctionOf numbersOf conjunctionDay conjunctionParts phase digits decimal followed inLines
+unfolding conjunctionText conjunctionLine conjunctionAt conjunctions
 venus-1 = refl
 
 -- an even count is an evening conjunction: Mercury's second
 pub mercury-2 : conjunctionText 5 2 ≡ inLines (word "CONJUNCTION 115 41978 47632 E" ∷ [])
-unfolding conjunctionText conjunctionLine conjunctionAt conjunctionOf numbersOf conjunctionDay conjunctionParts phase digits decimal followed inLines
+unfolding conjunctionText conjunctionLine conjunctionAt conjunctions
 mercury-2 = refl
 
 pub no-planet : conjunctionText 6 1 ≡ inLines (word "REFUSED 19 planet outside 1 to 5" ∷ [])
-unfolding conjunctionText conjunctionLine conjunctionAt conjunctionOf numbersOf conjunctionDay conjunctionParts phase digits decimal followed inLines refusedText wordsNumbered
+unfolding conjunctionText conjunctionLine conjunctionAt conjunctions refusing
 no-planet = refl
 
 pub no-such-count : conjunctionText 1 37584 ≡ inLines (word "REFUSED 6 day count outside the range" ∷ [])
-unfolding conjunctionText conjunctionLine conjunctionAt conjunctionOf numbersOf conjunctionDay conjunctionParts phase digits decimal followed inLines refusedText wordsNumbered
+unfolding conjunctionText conjunctionLine conjunctionAt conjunctions refusing
 no-such-count = refl
 
 -- the first conjunction of Venus on or after day 292 is its first, and after that day its second
 pub next-292 : nextText 4 292 ≡ inLines (word "NEXT 1 292 281 23320 M" ∷ [])
-unfolding nextText nextLine nextAt nextCount nextOf conjunctionOf numbersOf conjunctionDay conjunctionParts phase digits decimal followed inLines
+unfolding nextText nextLine nextAt nextCount nextOf conjunctions
 next-292 = refl
 
 pub next-293 : nextText 4 293 ≡ inLines (word "NEXT 2 584 562 23320 E" ∷ [])
-unfolding nextText nextLine nextAt nextCount nextOf conjunctionOf numbersOf conjunctionDay conjunctionParts phase digits decimal followed inLines
+unfolding nextText nextLine nextAt nextCount nextOf conjunctions
 next-293 = refl
 
 -- after day 14,989,825 no conjunction of Jupiter is left
 pub none-left : nextText 1 14989826 ≡ inLines (word "REFUSED 20 no conjunction falls from the given day to the end of the range" ∷ [])
-unfolding nextText nextLine nextAt nextCount nextOf conjunctionOf numbersOf conjunctionDay conjunctionParts phase digits decimal followed inLines refusedText wordsNumbered
+unfolding nextText nextLine nextAt nextCount nextOf conjunctions refusing
 none-left = refl
+
+-- the pairs that 004 gives: Jupiter's (P01, P02), and Mercury's, which has more conjunctions than years (P90, P91)
+pub jupiter-pair : pairText 1 ≡ inLines (word "PAIR 4725 4327" ∷ [])
+unfolding pairText pairLine pairAt numbersOf printing
+jupiter-pair = refl
+
+pub mercury-pair : pairText 5 ≡ inLines (word "PAIR 1889 11908" ∷ [])
+unfolding pairText pairLine pairAt numbersOf printing
+mercury-pair = refl
+
+pub no-pair : pairText 6 ≡ inLines (word "REFUSED 19 planet outside 1 to 5" ∷ [])
+unfolding pairText pairLine pairAt refusing
+no-pair = refl
 
 -- the last day of year 11's month 134, and a day that is none
 pub last-of-134 : dayText 3985 ≡ inLines (word "DAY 3985 11 9 L 29 26 29 27" ∷ [])
-unfolding dayText dayLineOf dateAt dateOf dateIn monthOfDay monthStart monthLength yearOfMonth monthAt leap midTermsBefore monthNumber midTermNumber dayName yearName digits decimal followed inLines
+unfolding dayText dateAt day-lines
 last-of-134 = refl
 
 pub no-day : dayText 14989860 ≡ inLines (word "REFUSED 6 day count outside the range" ∷ [])
-unfolding dayText dayLineOf dateAt refusedText wordsNumbered digits decimal followed inLines
+unfolding dayText dayLineOf dateAt refusing
 no-day = refl
 
 -- known dates 8 and 9: year 11 has leap 9, of 29 days, and no leap 8
 pub leap-9 : dateText 11 9 true 1 ≡ inLines (word "DAY 3957 11 9 L 1 58 29 27" ∷ [])
-unfolding dateText dayLine dayLineOf dayOfDate dayOfNamed dayInMonth namedMonth termDay dateOf dateIn monthOfDay monthStart monthLength yearOfMonth monthAt leap midTermsBefore monthNumber midTermNumber dayName yearName digits decimal followed inLines
+unfolding dates
 leap-9 = refl
 
 pub leap-9-day-30 : dateText 11 9 true 30 ≡ inLines (word "REFUSED 5 day 30 of a 29-day month" ∷ [])
-unfolding dateText dayLine dayOfDate dayOfNamed dayInMonth namedMonth termDay monthOfDay monthStart monthLength leap midTermsBefore refusedText wordsNumbered digits decimal followed inLines
+unfolding dates refusing
 leap-9-day-30 = refl
 
 pub leap-8 : dateText 11 8 true 1 ≡ inLines (word "REFUSED 4 leap month asked and that year has none of that number" ∷ [])
-unfolding dateText dayLine dayOfDate dayOfNamed dayInMonth namedMonth termDay monthOfDay monthStart monthLength leap midTermsBefore refusedText wordsNumbered digits decimal followed inLines
+unfolding dates refusing
 leap-8 = refl
 
 -- known date 11: day 0 moved by 27,759
 pub seventy-six-on : moveText 1 11 false 1 (pos 27759) ≡ inLines (word "DAY 27759 77 11 - 1 40 29 33" ∷ [])
-unfolding moveText moved dateText dayLine dayLineOf dayOfDate dayOfNamed dayInMonth namedMonth termDay dateOf dateIn monthOfDay monthStart monthLength yearOfMonth monthAt leap midTermsBefore monthNumber midTermNumber dayName yearName digits decimal followed inLines
+unfolding moveText moved dates
 seventy-six-on = refl
 
 -- 30 days after day 1 of year 11's ordinary month 9 comes its leap month 9
 pub into-leap-9 : moveText 11 9 false 1 (pos 30) ≡ inLines (word "DAY 3957 11 9 L 1 58 29 27" ∷ [])
-unfolding moveText moved dateText dayLine dayLineOf dayOfDate dayOfNamed dayInMonth namedMonth termDay dateOf dateIn monthOfDay monthStart monthLength yearOfMonth monthAt leap midTermsBefore monthNumber midTermNumber dayName yearName digits decimal followed inLines
+unfolding moveText moved dates
 into-leap-9 = refl
 
 -- known date 1: day 0 moved by one back
 pub one-back : moveText 1 11 false 1 (negsuc 0) ≡ inLines (word "REFUSED 8 a move ends outside the range" ∷ [])
-unfolding moveText moved dateText dayLine dayOfDate dayOfNamed dayInMonth namedMonth termDay monthOfDay monthStart monthLength leap midTermsBefore refusedText wordsNumbered digits decimal followed inLines
+unfolding moveText moved dates refusing
 one-back = refl
 
 -- known date 2: days 28 and 29, all unread; and of them the one that is day 1 of its month
 pub two-found : searchText allUnread 28 29 ≡ inLines (word "FOUND 2" ∷ word "DAY 28 1 11 - 29 29 29 17" ∷ word "DAY 29 1 12 - 1 30 30 17" ∷ [])
-unfolding searchText searchAt total fitting fits monthFits dayFits inRanges those foundLine dayLine dayLineOf dateOf dateIn monthOfDay monthStart monthLength yearOfMonth monthAt leap midTermsBefore monthNumber midTermNumber dayName yearName digits decimal followed each inLines
+unfolding searches
 two-found = refl
 
 abbrev firstOfMonth : Reading
@@ -209,9 +258,9 @@ firstOfMonth =
     }
 
 pub one-found : searchText firstOfMonth 28 29 ≡ inLines (word "FOUND 1" ∷ word "DAY 29 1 12 - 1 30 30 17" ∷ [])
-unfolding searchText searchAt total fitting fits monthFits dayFits inRanges those foundLine dayLine dayLineOf dateOf dateIn monthOfDay monthStart monthLength yearOfMonth monthAt leap midTermsBefore monthNumber midTermNumber dayName yearName digits decimal followed each inLines
+unfolding searches
 one-found = refl
 
 pub no-window : searchText allUnread 29 28 ≡ inLines (word "REFUSED 13 window's last day before its first, or more than 27,759 days" ∷ [])
-unfolding searchText searchAt total fitting fits monthFits dayFits inRanges those refusedText wordsNumbered digits decimal followed each inLines
+unfolding searches refusing
 no-window = refl

@@ -1,17 +1,16 @@
 -- The statements of specs/Paper, proved, each under its own name. Assumes nothing.
 use Prim.Native.Nat.{ℕ, _+_, _-_, _*_}
 use native.Mathlib.Omega.{arith}
-use mathlib.Core.Path.{_≡_, refl, ap, sym, _∙_}
+use mathlib.Core.Path.{_≡_, refl, ap, sym, subst, _∙_}
 use mathlib.Core.Bool.{Bool}
 use mathlib.Core.List.{List, [], _∷_, _++_, append-assoc}
 use lib.Dec.{leb}
 use lib.IntN.{ℤ, pos, negsuc, _+ℤ_}
-use lib.ListN.{getD}
 use Rattle.rule.specs.Counts.{DayInRange}
 use Rattle.rule.specs.Rule.{monthStart, monthLength, monthOfDay, termDay, yearTerm}
 use Rattle.rule.specs.Reasons.{Answer, is, refused, refused-with, guard, within, andThen}
 use Rattle.rule.specs.declared.Reason.the-variants.{MoveOutOfRange}
-use Rattle.rule.proofs.Answers.{at-most, holds-all}
+use Rattle.rule.proofs.Answers.{at-most, within-true, passes, holds-all, given-not}
 use Rattle.rule.proofs.Leap.{number-at, mark-at}
 use Rattle.dates.specs.declared.Date.{Date}
 use Rattle.dates.specs.Dates.{dateIn, dateOf, dateAt, isThere, monthAsked, dayInMonth, dayOfNamed, dayOfDate}
@@ -35,8 +34,8 @@ use Rattle.facts.specs.Facts.{
 }
 use Rattle.facts.proofs.Given as Given
 use Rattle.facts.proofs.Exactly.{leap-there}
-use Rattle.planets.specs.Planets.{Planet, numbersOf, conjunctionDay, phase, conjunctionOf, conjunctionAt, nextCount, nextOf, nextAt}
-use Rattle.planets.specs.Paper.{IsConjunction}
+use Rattle.planets.specs.Planets.{Planet, numbersOf, conjunctionDay, phase, conjunctionOf, conjunctionAt, nextCount, nextOf, nextAt, pairOf, pairAt}
+use Rattle.planets.specs.Paper.{IsConjunction, IsNext}
 use Rattle.planets.proofs.Paper as Planets
 use Rattle.planets.proofs.Literal.{of-count, venus-or-mercury, conjunction-is}
 use Rattle.reading.specs.Readings.{windowDays, fitting}
@@ -63,6 +62,8 @@ use Rattle.told.specs.Answers.{
   conjunctionText,
   nextLine,
   nextText,
+  pairLine,
+  pairText,
   dayLineOf,
   dayText,
   dayLine,
@@ -74,7 +75,7 @@ use Rattle.told.specs.Answers.{
 }
 use Rattle.told.specs.Paper as Paper
 use Rattle.told.proofs.Telling.{words-back, as-refusal}
-use Rattle.told.proofs.Refusing.{NeverWith, never-refused, never-guard, never-one, never-two, never-then, tells-refusal}
+use Rattle.told.proofs.Refusing.{NoRefusal, NeverWith, never-is, never-refused, never-guard, never-one, never-two, never-then, tells-refusal}
 use Rattle.told.proofs.Finding.{searched-few, searched-never-with, searched-not-twelve}
 
 pub words-of-a-number : Paper.Words-of-a-number
@@ -139,9 +140,14 @@ conjunction-line-literally p k last l h =
 pub next-line-literally : Paper.Next-line-literally
 unfolding nextText nextLine nextOf conjunctionOf followed
 next-line-literally p d k last l h least i =
-    ap (told nextLine) (sym (Planets.reasons-of-planets .nexts p d .given (nextOf (numbersOf p) k) .1 (planet-of l, h, record { least = least; conjunction = as-defined l; in-range = i })))
+    let w : IsNext p d (nextOf (numbersOf p) k) = record { least = least; conjunction = as-defined l; in-range = i } in
+    ap (told nextLine) (sym (Planets.reasons-of-planets .nexts p d .given (nextOf (numbersOf p) k) .1 (planet-of l, h, w)))
     ∙ ap (λ (s : List ℕ). word "NEXT " ++ s) (append-assoc (decimal k) _ (10 ∷ []))
     ∙ ap (λ (s : List ℕ). word "NEXT " ++ (decimal k ++ (32 ∷ Paper.conjunctionWith p k s))) (letter-of l)
+
+pub pair-line-literally : Paper.Pair-line-literally
+unfolding pairText pairLine pairAt followed
+pair-line-literally p h = ap (told pairLine) (passes (within 1 5 p) 19 (is (pairOf (numbersOf p))) (within-true 1 5 p .1 h))
 
 pub day-line-literally : Paper.Day-line-literally
 unfolding dayLine dayLineOf dateOf dateIn followed
@@ -176,39 +182,40 @@ search-lines-literally r first last h i w f =
     ap (told (λ n. foundLine n ++ each dayLine (fitting r first (windowDays first last))))
     (Searches.gives r first last places (record { ends = (h, i); window = w; fields = f }) (searched-few r first last w))
 
--- a `DAY` line starts with `D`
-day-first : (d : ℕ) (r : Date) → getD (dayLineOf d r) 0 0 ≡ 68
+-- a `DAY` line is no refusal
+day-first : (d : ℕ) (r : Date) → NoRefusal (dayLineOf d r)
 unfolding dayLineOf followed
 day-first d r = refl
 
 -- a move that is answered has the line of a day in range
-moved-line : (y k : ℕ) (l : Bool) (m : ℕ) (n : ℤ) (r : Date) → moved y k l m n ≡ is r → getD (textOfDate r) 0 0 ≡ 68
+moved-line : (y k : ℕ) (l : Bool) (m : ℕ) (n : ℤ) (r : Date) → moved y k l m n ≡ is r → NoRefusal (textOfDate r)
 unfolding moved dayLine
 moved-line y k l m n r = from (dayOfDate y k l m)
   where
-    at : (e : ℕ) → guard (leb e 14989859) 8 (is (dateOf e)) ≡ is r → getD (textOfDate r) 0 0 ≡ 68
+    at : (e : ℕ) → guard (leb e 14989859) 8 (is (dateOf e)) ≡ is r → NoRefusal (textOfDate r)
     at e h =
         let w = holds-all (leb e 14989859) 8 (is (dateOf e)) r .0 h in
         let g : dateOf e ≡ r = let a : _≡_ {A = Answer Date} (is (dateOf e)) (is r) = w .1 in cc in
-        ap (λ (s : Date). getD (textOfDate s) 0 0) (sym g)
-        ∙ ap (λ (s : List ℕ). getD s 0 0) (date-of-day-line e (at-most e 14989859 .0 (w .0)))
-        ∙ day-first e (dateOf e)
+        subst (λ (s : Date). NoRefusal (textOfDate s)) g
+        (subst NoRefusal (sym (date-of-day-line e (at-most e 14989859 .0 (w .0)))) (day-first e (dateOf e)))
 
-    lands : (z : ℤ) → landed z ≡ is r → getD (textOfDate r) 0 0 ≡ 68
+    lands : (z : ℤ) → landed z ≡ is r → NoRefusal (textOfDate r)
     lands (pos e) h = at e h
-    lands (negsuc e) h = let g : _≡_ {A = Answer Date} (refused 8) (is r) = h in absurd (let o : _≡_ {A = ℕ} 0 1 = cc in omega arith)
+    lands (negsuc e) h = absurd (given-not (refused 8) r 8 h refl)
 
-    from : (a : Answer ℕ) → andThen a (λ d. landed (pos d +ℤ n)) ≡ is r → getD (textOfDate r) 0 0 ≡ 68
+    from : (a : Answer ℕ) → andThen a (λ d. landed (pos d +ℤ n)) ≡ is r → NoRefusal (textOfDate r)
     from (is d) h = lands (pos d +ℤ n) h
-    from (refused j) h = let g : _≡_ {A = Answer Date} (refused j) (is r) = h in absurd (let o : _≡_ {A = ℕ} 0 1 = cc in omega arith)
-    from (refused-with j i) h = let g : _≡_ {A = Answer Date} (refused-with j i) (is r) = h in absurd (let o : _≡_ {A = ℕ} 0 1 = cc in omega arith)
+    from (refused j) h = absurd (given-not (refused j) r j h refl)
+    from (refused-with j i) h = absurd (never-is r j i (sym h))
 
 -- no answer but a search's can be refused with a total
 date-never-with : (y k : ℕ) (l : Bool) (m : ℕ) → NeverWith (dayOfDate y k l m)
 unfolding dayOfDate dayOfNamed dayInMonth
 date-never-with y k l m =
     never-guard (within 1 41040 y) 1 _
-    (never-guard (within 1 12 k) 2 _ (never-guard (within 1 30 m) 3 _ (never-two (isThere y k l) 4 (leb m (monthLength (monthAsked y k l))) 5 (monthStart (monthAsked y k l) + (m - 1)))))
+    (never-guard (within 1 12 k) 2 _
+    (never-guard (within 1 30 m) 3 _
+    (never-two (isThere y k l) 4 (leb m (monthLength (monthAsked y k l))) 5 (monthStart (monthAsked y k l) + (m - 1)))))
 
 landed-never-with : (z : ℤ) → NeverWith (landed z)
 landed-never-with (pos d) = never-one (leb d 14989859) 8 (dateOf d)
@@ -218,25 +225,45 @@ moved-never-with : (y k : ℕ) (l : Bool) (m : ℕ) (n : ℤ) → NeverWith (mov
 unfolding moved
 moved-never-with y k l m n = never-then (dayOfDate y k l m) _ (date-never-with y k l m) (λ d. landed-never-with (pos d +ℤ n))
 
+-- what the texts, their first bytes and the answers they tell are computed with, for the `unfolding` line below
+texts : ℕ
+unfolding placeText yearText monthText quarterText termText conjunctionText nextText pairText dayText dateText moveText searchText
+texts = 0
+
+firsts : ℕ
+unfolding placeLine yearLine monthLineOf quarterLine termLine conjunctionLine nextLine pairLine dayLine dayLineOf foundLine followed
+firsts = 0
+
+answered : ℕ
+unfolding solsticeYearAt yearFactsAt monthFactsAt quarterAt termAt conjunctionAt nextAt pairAt dateAt
+answered = 0
+
 pub refusals-told : Paper.Refusals-told
-unfolding placeText placeLine yearText yearLine monthText monthLineOf quarterText quarterLine termText termLine conjunctionText conjunctionLine nextText nextLine dayText dayLine dayLineOf dateText moveText foundLine searchText solsticeYearAt yearFactsAt monthFactsAt quarterAt termAt conjunctionAt nextAt dateAt followed
+unfolding texts firsts answered
 refusals-told =
     record {
-      place = λ y. tells-refusal placeLine 80 (λ e. omega (arith, e)) (solsticeYearAt y) (λ x e. refl) (never-one (within 1 41040 y) 1 (solsticeYear y));
-      year = λ y. tells-refusal (yearLine y) 89 (λ e. omega (arith, e)) (yearFactsAt y) (λ x e. refl) (never-one (within 1 41040 y) 1 (yearFacts y));
-      month = λ n. tells-refusal (monthLineOf n) 77 (λ e. omega (arith, e)) (monthFactsAt n) (λ x e. refl) (never-one (leb n 507599) 7 (monthFacts n));
-      quarter = λ n q. tells-refusal quarterLine 81 (λ e. omega (arith, e)) (quarterAt n q) (λ x e. refl) (never-two (leb n 507599) 7 (leb q 3) 15 (quarterOf n q));
-      term = λ y k. tells-refusal termLine 84 (λ e. omega (arith, e)) (termAt y k) (λ x e. refl) (never-two (within 1 41040 y) 1 (leb k 23) 15 (termDay (yearTerm y k)));
-      conjunction = λ p k. tells-refusal conjunctionLine 67 (λ e. omega (arith, e)) (conjunctionAt p k) (λ x e. refl) (never-two (within 1 5 p) 19 (leb (conjunctionDay (numbersOf p) k) 14989859) 6 (conjunctionOf (numbersOf p) k));
+      place = λ y. tells-refusal placeLine (solsticeYearAt y) (λ x e. refl) (never-one (within 1 41040 y) 1 (solsticeYear y));
+      year = λ y. tells-refusal (yearLine y) (yearFactsAt y) (λ x e. refl) (never-one (within 1 41040 y) 1 (yearFacts y));
+      month = λ n. tells-refusal (monthLineOf n) (monthFactsAt n) (λ x e. refl) (never-one (leb n 507599) 7 (monthFacts n));
+      quarter = λ n q.
+          tells-refusal quarterLine (quarterAt n q) (λ x e. refl) (never-two (leb n 507599) 7 (leb q 3) 15 (quarterOf n q));
+      term = λ y k.
+          tells-refusal termLine (termAt y k) (λ x e. refl)
+          (never-two (within 1 41040 y) 1 (leb k 23) 15 (termDay (yearTerm y k)));
+      conjunction = λ p k.
+          tells-refusal conjunctionLine (conjunctionAt p k) (λ x e. refl)
+          (never-two (within 1 5 p) 19 (leb (conjunctionDay (numbersOf p) k) 14989859) 6 (conjunctionOf (numbersOf p) k));
       next = λ p d.
-          tells-refusal nextLine 78 (λ e. omega (arith, e)) (nextAt p d) (λ x e. refl)
+          tells-refusal nextLine (nextAt p d) (λ x e. refl)
           (never-guard (within 1 5 p) 19 _
-          (never-two (leb d 14989859) 6 (leb (conjunctionDay (numbersOf p) (nextCount (numbersOf p) d)) 14989859) 20 (nextOf (numbersOf p) (nextCount (numbersOf p) d))));
-      day = λ d. tells-refusal (dayLineOf d) 68 (λ e. omega (arith, e)) (dateAt d) (λ x e. refl) (never-one (leb d 14989859) 6 (dateOf d));
-      date = λ y k l m. tells-refusal dayLine 68 (λ e. omega (arith, e)) (dayOfDate y k l m) (λ x e. refl) (date-never-with y k l m);
-      move = λ y k l m n. tells-refusal textOfDate 68 (λ e. omega (arith, e)) (moved y k l m n) (moved-line y k l m n) (moved-never-with y k l m n);
+          (never-two (leb d 14989859) 6 (leb (conjunctionDay (numbersOf p) (nextCount (numbersOf p) d)) 14989859) 20
+          (nextOf (numbersOf p) (nextCount (numbersOf p) d))));
+      pair = λ p. tells-refusal pairLine (pairAt p) (λ x e. refl) (never-one (within 1 5 p) 19 (pairOf (numbersOf p)));
+      day = λ d. tells-refusal (dayLineOf d) (dateAt d) (λ x e. refl) (never-one (leb d 14989859) 6 (dateOf d));
+      date = λ y k l m. tells-refusal dayLine (dayOfDate y k l m) (λ x e. refl) (date-never-with y k l m);
+      move = λ y k l m n. tells-refusal textOfDate (moved y k l m n) (moved-line y k l m n) (moved-never-with y k l m n);
       search = λ r first last.
-          tells-refusal (λ n. foundLine n ++ each dayLine (fitting r first (windowDays first last))) 70 (λ e. omega (arith, e)) (searchAt r first last places)
+          tells-refusal (λ n. foundLine n ++ each dayLine (fitting r first (windowDays first last))) (searchAt r first last places)
           (λ x e. refl) (searched-never-with r first last);
     }
 

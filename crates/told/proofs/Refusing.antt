@@ -5,7 +5,9 @@ use mathlib.Core.Path.{_≡_, refl, ap, sym, _∙_}
 use mathlib.Core.Logic.{_↔_}
 use mathlib.Core.Bool.{Bool, true, false}
 use mathlib.Core.List.{List, [], _∷_, _++_, append-assoc}
+use lib.Dec.{eqb}
 use lib.ListN.{getD, drop}
+use borrow.Author.Tests.{eqb-false}
 use Rattle.rule.specs.Reasons.{Answer, is, refused, refused-with, guard, andThen}
 use Rattle.fields.specs.Fields.{decimal, followed}
 use Rattle.fields.proofs.Paper.{first-tells}
@@ -41,9 +43,12 @@ module _ {A : Type 0} where
   never-two t k s j x = never-guard t k (guard s j (is x)) (never-one s j x)
 
 -- a line that starts with another byte than `R` is no refusal
-not-refusal : (text : List ℕ) (b k : ℕ) → getD text 0 0 ≡ b → (b ≡ 82 → ⊥) → text ≡ refusedText k → ⊥
+abbrev pub NoRefusal : List ℕ → Type 0
+NoRefusal text = eqb (getD text 0 0) 82 ≡ false
+
+not-refusal : (text : List ℕ) (k : ℕ) → NoRefusal text → text ≡ refusedText k → ⊥
 unfolding refusedText followed
-not-refusal text b k f l e = l (sym f ∙ ap (λ (s : List ℕ). getD s 0 0) e)
+not-refusal text k h e = eqb-false (getD text 0 0) 82 h (ap (λ (s : List ℕ). getD s 0 0) e)
 
 pub never-then : {A B : Type 0} (a : Answer A) (f : A → Answer B) → NeverWith a → ((x : A) → NeverWith (f x)) → NeverWith (andThen a f)
 never-then (is x) f h g = g x
@@ -51,11 +56,8 @@ never-then (refused k) f h g = never-refused k
 never-then (refused-with k n) f h g = λ j i e. h k n refl
 
 -- an answer's text is the refusal of number k exactly where the answer is
-pub tells-refusal : {A : Type 0} (f : A → List ℕ) (b : ℕ) → (b ≡ 82 → ⊥) → (a : Answer A) → ((x : A) → a ≡ is x → getD (f x) 0 0 ≡ b) →
-    NeverWith a → (k : ℕ) → (told f a ≡ refusedText k) ↔ (a ≡ refused k)
-tells-refusal f b l (is x) h n k = (
-  λ e. absurd (not-refusal (f x) b k (h x refl) l e),
-  λ e. ap (told f) e,
-)
-tells-refusal f b l (refused j) h n k = (λ e. ap refused (refused-once j k e), λ e. ap (told f) e)
-tells-refusal f b l (refused-with j i) h n k = (λ e. absurd (n j i refl), λ e. ap (told f) e)
+pub tells-refusal : {A : Type 0} (f : A → List ℕ) (a : Answer A) → ((x : A) → a ≡ is x → NoRefusal (f x)) → NeverWith a →
+    (k : ℕ) → (told f a ≡ refusedText k) ↔ (a ≡ refused k)
+tells-refusal f (is x) h n k = (λ e. absurd (not-refusal (f x) k (h x refl) e), λ e. ap (told f) e)
+tells-refusal f (refused j) h n k = (λ e. ap refused (refused-once j k e), λ e. ap (told f) e)
+tells-refusal f (refused-with j i) h n k = (λ e. absurd (n j i refl), λ e. ap (told f) e)

@@ -20,7 +20,8 @@ use Rattle.planets.specs.declared.Phase.{Phase}
 use Rattle.planets.specs.declared.Phase.the-variants.{Morning, Evening, Neither}
 use Rattle.planets.specs.declared.Conjunction.{Conjunction}
 use Rattle.planets.specs.declared.Next.{Next}
-use Rattle.planets.specs.Planets.{conjunctionAt, nextAt}
+use Rattle.planets.specs.declared.Pair.{Pair}
+use Rattle.planets.specs.Planets.{conjunctionAt, nextAt, pairAt}
 use Rattle.reading.specs.declared.Reading.{Reading}
 use Rattle.reading.specs.Readings.{windowDays, fitting}
 use Rattle.reading.specs.Search.{searchAt}
@@ -113,6 +114,13 @@ nextLine c = lined (word "NEXT" ∷ decimal (c .k) ∷ fieldsOfConjunction (c .c
 
 unfoldable pub nextText : ℕ → ℕ → List ℕ
 nextText p d = told nextLine (nextAt p d)
+
+-- `PAIR planet`: `PAIR years conjunctions`
+unfoldable pub pairLine : Pair → List ℕ
+pairLine r = lined (word "PAIR" ∷ decimal (r .years) ∷ decimal (r .conjunctions) ∷ [])
+
+unfoldable pub pairText : ℕ → List ℕ
+pairText p = told pairLine (pairAt p)
 
 -- `DAY day`: `DAY day year number mark day-of-month day-name month-length year-name`
 unfoldable pub dayLineOf : ℕ → Date → List ℕ

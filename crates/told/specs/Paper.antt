@@ -34,7 +34,7 @@ use Rattle.dates.specs.Dates.{dateAt, dayOfDate}
 use Rattle.dates.specs.Paper.{IsDayOf}
 use Rattle.moves.specs.Moves.{moved}
 use Rattle.facts.specs.Facts.{solsticeYearAt, yearFactsAt, monthFactsAt, quarterAt, termAt}
-use Rattle.planets.specs.Planets.{numbersOf, divisor, conjunctionDay, conjunctionParts, conjunctionAt, nextAt}
+use Rattle.planets.specs.Planets.{Planet, numbersOf, divisor, conjunctionDay, conjunctionParts, conjunctionAt, nextAt, pairAt}
 use Rattle.planets.specs.Paper.{LeastFrom}
 use Rattle.reading.specs.declared.Reading.{Reading}
 use Rattle.reading.specs.Readings.{windowDays, fitting}
@@ -53,6 +53,7 @@ use Rattle.told.specs.Answers.{
   termText,
   conjunctionText,
   nextText,
+  pairText,
   dayText,
   dayLine,
   dateText,
@@ -148,6 +149,12 @@ Next-line-literally =
     (p d k : ℕ) (last : List ℕ) → Letter p k last → DayInRange d → LeastFrom (numbersOf p) d k → DayInRange (conjunctionDay (numbersOf p) k) →
     nextText p d ≡ word "NEXT " ++ (decimal k ++ (32 ∷ conjunctionWith p k last))
 
+-- "`PAIR years conjunctions`", the numbers that 004 gives of a planet (planets, Reduction: what its two long counts are reduced to)
+abbrev pub Pair-line-literally : Type 0
+Pair-line-literally =
+    (p : ℕ) → Planet p →
+    pairText p ≡ (word "PAIR " ++ (decimal (numbersOf p .years) ++ (32 ∷ decimal (numbersOf p .conjunctions)))) ++ (10 ∷ [])
+
 -- "`DAY day year number mark day-of-month day-name month-length year-name`"
 abbrev pub Day-line-literally : Type 0
 Day-line-literally =
@@ -202,6 +209,7 @@ pub record Refusals-told : Type 0 where
   pub term : (y k : ℕ) → TellsRefusals (termText y k) (termAt y k)
   pub conjunction : (p k : ℕ) → TellsRefusals (conjunctionText p k) (conjunctionAt p k)
   pub next : (p d : ℕ) → TellsRefusals (nextText p d) (nextAt p d)
+  pub pair : (p : ℕ) → TellsRefusals (pairText p) (pairAt p)
   pub day : (d : ℕ) → TellsRefusals (dayText d) (dateAt d)
   pub date : (y k : ℕ) (l : Bool) (m : ℕ) → TellsRefusals (dateText y k l m) (dayOfDate y k l m)
   pub move : (y k : ℕ) (l : Bool) (m : ℕ) (n : ℤ) → TellsRefusals (moveText y k l m n) (moved y k l m n)

@@ -6,35 +6,21 @@ use borrow.Author.Needs.{needs}
 use Rattle.answers.proofs.put_bu_fields.Statement.{statement}
 use Rattle.answers.proofs.put_bu_fields.Tie as tie
 
-slice-aggregate-put-bytes : tie.Need-slice-aggregate-put-bytes
-slice-aggregate-put-bytes c = search needs
-
-put-bytes-requires : tie.Need-put-bytes-requires
-put-bytes-requires c κs = search needs
-
-cast-put-next : tie.Need-cast-put-next
-cast-put-next c = search needs
-
-put-next-requires : tie.Need-put-next-requires
-put-next-requires c κs = search needs
-
-cast-put-next-2 : tie.Need-cast-put-next-2
-cast-put-next-2 c = search needs
-
-put-next-requires-2 : tie.Need-put-next-requires-2
-put-next-requires-2 c κs = search needs
-
-cast-put-next-3 : tie.Need-cast-put-next-3
-cast-put-next-3 c = search needs
-
-put-next-requires-3 : tie.Need-put-next-requires-3
-put-next-requires-3 c κs = search needs
-
-cast-put-next-4 : tie.Need-cast-put-next-4
-cast-put-next-4 c = search needs
-
-put-next-requires-4 : tie.Need-put-next-requires-4
-put-next-requires-4 c κs =
+pub put-bu-fields-spec : {M : Type 1} → statement M
+unfolding followed
+put-bu-fields-spec =
+    tie.close
+    (tie.spec
+    (λ c. search needs)
+    (λ c κs. search needs)
+    (λ c. search needs)
+    (λ c κs. search needs)
+    (λ c. search needs)
+    (λ c κs. search needs)
+    (λ c. search needs)
+    (λ c κs. search needs)
+    (λ c. search needs)
+    (λ c κs.
     let p4 = c .before .before .before .before in
     let p3 = p4 .before .before .before .before .before in
     let p2 = p3 .before .before .before .before .before in
@@ -49,34 +35,12 @@ put-next-requires-4 c κs =
       p3 .put-next2 .ensures .few,
       put-kept (p4 .put-next3 .ensures),
       p4 .put-next3 .ensures .few,
-    )
-
-same-length : tie.Need-same-length
-same-length c = search needs
-
-returns : tie.Need-returns
-unfolding followed
-returns c =
+    ))
+    (λ c. search needs)
+    (λ c.
     let p5 = c .before .before in
     let p4 = p5 .before .before .before .before .before in
     let p3 = p4 .before .before .before .before .before in
     let p2 = p3 .before .before .before .before .before in
     let p1 = p2 .before .before .before .before .before in
-    then (p1 .put-bytes .ensures) (then (p2 .put-next .ensures) (then (p3 .put-next2 .ensures) (then (p4 .put-next3 .ensures) (p5 .put-next4 .ensures))))
-
-pub put-bu-fields-spec : {M : Type 1} → statement M
-put-bu-fields-spec =
-    tie.close
-    (tie.spec
-    slice-aggregate-put-bytes
-    put-bytes-requires
-    cast-put-next
-    put-next-requires
-    cast-put-next-2
-    put-next-requires-2
-    cast-put-next-3
-    put-next-requires-3
-    cast-put-next-4
-    put-next-requires-4
-    same-length
-    returns)
+    then (p1 .put-bytes .ensures) (then (p2 .put-next .ensures) (then (p3 .put-next2 .ensures) (then (p4 .put-next3 .ensures) (p5 .put-next4 .ensures))))))

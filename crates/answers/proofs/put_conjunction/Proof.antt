@@ -6,36 +6,18 @@ use borrow.Author.Needs.{needs}
 use Rattle.answers.proofs.put_conjunction.Statement.{statement}
 use Rattle.answers.proofs.put_conjunction.Tie as tie
 
-slice-aggregate-put-bytes : tie.Need-slice-aggregate-put-bytes
-slice-aggregate-put-bytes c = search needs
-
-put-bytes-requires : tie.Need-put-bytes-requires
-put-bytes-requires c κs = search needs
-
-put-conjunction-fields-requires : tie.Need-put-conjunction-fields-requires
-put-conjunction-fields-requires c κs = search needs
-
-put-byte-requires : tie.Need-put-byte-requires
-put-byte-requires c κs = search needs
-
-same-length : tie.Need-same-length
-same-length c = search needs
-
-returns : tie.Need-returns
-unfolding conjunctionLine followed
-returns c =
-    let p3 = c .before .before in
-    let p2 = p3 .before .before .before .before in
-    let p1 = p2 .before .before .before .before in
-    then (p1 .put-bytes .ensures) (then (p2 .put-conjunction-fields .ensures) (p3 .put-byte .ensures))
-
 pub put-conjunction-spec : {M : Type 1} → statement M
+unfolding conjunctionLine followed
 put-conjunction-spec =
     tie.close
     (tie.spec
-    slice-aggregate-put-bytes
-    put-bytes-requires
-    put-conjunction-fields-requires
-    put-byte-requires
-    same-length
-    returns)
+    (λ c. search needs)
+    (λ c κs. search needs)
+    (λ c κs. search needs)
+    (λ c κs. search needs)
+    (λ c. search needs)
+    (λ c.
+    let p3 = c .before .before in
+    let p2 = p3 .before .before .before .before in
+    let p1 = p2 .before .before .before .before in
+    then (p1 .put-bytes .ensures) (then (p2 .put-conjunction-fields .ensures) (p3 .put-byte .ensures))))

@@ -10,33 +10,20 @@ use borrow.Author.Needs.{needs}
 use Rattle.answers.proofs.put_month_line.Statement.{statement}
 use Rattle.answers.proofs.put_month_line.Tie as tie
 
-slice-aggregate-put-bytes : tie.Need-slice-aggregate-put-bytes
-slice-aggregate-put-bytes c = search needs
-
-put-bytes-requires : tie.Need-put-bytes-requires
-put-bytes-requires c κs = search needs
-
-put-month-fields-requires : tie.Need-put-month-fields-requires
-put-month-fields-requires c κs = search needs
-
-put-next-requires : tie.Need-put-next-requires
-put-next-requires c κs = search needs
-
-cast-put-next : tie.Need-cast-put-next
-cast-put-next c = search needs
-
-put-next-requires-2 : tie.Need-put-next-requires-2
-put-next-requires-2 c κs = search needs
-
-put-byte-requires : tie.Need-put-byte-requires
-put-byte-requires c κs = search needs
-
-same-length : tie.Need-same-length
-same-length c = search needs
-
-returns : tie.Need-returns
+pub put-month-line-spec : {M : Type 1} → statement M
 unfolding monthLineOf followed
-returns c =
+put-month-line-spec =
+    tie.close
+    (tie.spec
+    (λ c. search needs)
+    (λ c κs. search needs)
+    (λ c κs. search needs)
+    (λ c κs. search needs)
+    (λ c. search needs)
+    (λ c κs. search needs)
+    (λ c κs. search needs)
+    (λ c. search needs)
+    (λ c.
     let p5 = c .before .before in
     let p4 = p5 .before .before .before .before in
     let p3 = p4 .before .before .before .before .before in
@@ -46,20 +33,7 @@ returns c =
     let f = s .args .f in
     then (p1 .put-bytes .ensures)
     (then
-    (more-fields (fieldsOfMonth (s .args .n) f) (decimal (f .«first_day») ∷ decimal (f .«small_remainder») ∷ []) (omega arith) (omega arith) (p2 .put-month-fields .ensures)
+    (more-fields (fieldsOfMonth (s .args .n) f) (decimal (f .«first_day») ∷ decimal (f .«small_remainder») ∷ []) (omega arith) (omega arith)
+    (p2 .put-month-fields .ensures)
     (then (p3 .put-next .ensures) (p4 .put-next2 .ensures)))
-    (p5 .put-byte .ensures))
-
-pub put-month-line-spec : {M : Type 1} → statement M
-put-month-line-spec =
-    tie.close
-    (tie.spec
-    slice-aggregate-put-bytes
-    put-bytes-requires
-    put-month-fields-requires
-    put-next-requires
-    cast-put-next
-    put-next-requires-2
-    put-byte-requires
-    same-length
-    returns)
+    (p5 .put-byte .ensures))))

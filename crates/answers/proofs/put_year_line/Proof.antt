@@ -10,36 +10,21 @@ use borrow.Author.Needs.{needs}
 use Rattle.answers.proofs.put_year_line.Statement.{statement}
 use Rattle.answers.proofs.put_year_line.Tie as tie
 
-put-year-fields-requires : tie.Need-put-year-fields-requires
-put-year-fields-requires c κs = search needs
-
-slice-aggregate-put-bytes : tie.Need-slice-aggregate-put-bytes
-slice-aggregate-put-bytes c = search needs
-
-put-bytes-requires : tie.Need-put-bytes-requires
-put-bytes-requires c κs = search needs
-
-put-next-requires : tie.Need-put-next-requires
-put-next-requires c κs = search needs
-
-slice-aggregate-put-bytes-2 : tie.Need-slice-aggregate-put-bytes-2
-slice-aggregate-put-bytes-2 c = search needs
-
-put-bytes-requires-2 : tie.Need-put-bytes-requires-2
-put-bytes-requires-2 c κs = search needs
-
-put-leap-requires : tie.Need-put-leap-requires
-put-leap-requires c κs = search needs
-
-put-byte-requires : tie.Need-put-byte-requires
-put-byte-requires c κs = search needs
-
-same-length : tie.Need-same-length
-same-length c = search needs
-
-returns : tie.Need-returns
+pub put-year-line-spec : {M : Type 1} → statement M
 unfolding yearLine followed
-returns c =
+put-year-line-spec =
+    tie.close
+    (tie.spec
+    (λ c κs. search needs)
+    (λ c. search needs)
+    (λ c κs. search needs)
+    (λ c κs. search needs)
+    (λ c. search needs)
+    (λ c κs. search needs)
+    (λ c κs. search needs)
+    (λ c κs. search needs)
+    (λ c. search needs)
+    (λ c.
     let p6 = c .before .before in
     let p5 = p6 .before .before .before .before in
     let p4 = p5 .before .before .before .before in
@@ -49,21 +34,8 @@ returns c =
     let s = p1 .before .before .before in
     let f = s .args .f in
     then
-    (more-fields (fieldsOfYear (s .args .year) f) (word "FIRST" ∷ decimal (f .«first_month») ∷ word "LEAP" ∷ fieldsOfLeap (f .«leap_month»)) (omega arith) (omega arith) (p1 .put-year-fields .ensures)
+    (more-fields (fieldsOfYear (s .args .year) f)
+    (word "FIRST" ∷ decimal (f .«first_month») ∷ word "LEAP" ∷ fieldsOfLeap (f .«leap_month»)) (omega arith) (omega arith)
+    (p1 .put-year-fields .ensures)
     (then (p2 .put-bytes .ensures) (then (p3 .put-next .ensures) (then (p4 .put-bytes2 .ensures) (p5 .put-leap .ensures)))))
-    (p6 .put-byte .ensures)
-
-pub put-year-line-spec : {M : Type 1} → statement M
-put-year-line-spec =
-    tie.close
-    (tie.spec
-    put-year-fields-requires
-    slice-aggregate-put-bytes
-    put-bytes-requires
-    put-next-requires
-    slice-aggregate-put-bytes-2
-    put-bytes-requires-2
-    put-leap-requires
-    put-byte-requires
-    same-length
-    returns)
+    (p6 .put-byte .ensures)))

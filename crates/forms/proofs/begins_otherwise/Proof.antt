@@ -15,4 +15,4 @@ begins-otherwise-spec =
     (λ c. search needs)
     (λ c. search needs)
     (λ c. search needs)
-    (λ c. first-letters (c .before .before .before .before .before .before .args .row .now) (c .before .before .before .before .before .before .args .line .now) (c .before .before .before .before .before .if1 .left) (c .before .before .before .before .if2 .left)))
+    (λ c. first-letters (c .before .before .before .before .before .before .args .form .now) (c .before .before .before .before .before .before .args .line .now) (c .before .before .before .before .before .if1 .left) (c .before .before .before .before .if2 .left)))

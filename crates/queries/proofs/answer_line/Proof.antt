@@ -1,3 +1,4 @@
+-- `queries::answer_line` meets its contract: a line that is too long, and any other. Assumes nothing.
 use native.Mathlib.Omega.{arith}
 use mathlib.Core.Path.{ap, _∙_}
 use Rattle.fields.proofs.Putting.{put-as, wide}
@@ -18,4 +19,6 @@ answer-line-spec =
     (λ c κs. search needs)
     (λ c. search needs)
     (λ c. search needs)
-    (λ c. put-as (ap answered (c .before .before .before .before .before .before .before .read-query .ensures) ∙ short-enough (c .before .before .before .before .before .before .before .before .before .before .before .before .args .line .now) (c .before .before .before .before .before .before .before .before .if1 .left)) (c .before .before .before .before .answer .ensures)))
+    (λ c.
+    let s = c .before .before .before .before .before .before .before .before .before .before .before .before .args .line .now in
+    put-as (ap (answered s) (c .before .before .before .before .before .before .before .read-query .ensures) ∙ short-enough s (c .before .before .before .before .before .before .before .before .if1 .left)) (c .before .before .before .before .answer .ensures)))

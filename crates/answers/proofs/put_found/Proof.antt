@@ -1,0 +1,23 @@
+-- `answers::put_found` meets its contract. Assumes nothing.
+use Rattle.fields.specs.Fields.{followed}
+use Rattle.fields.proofs.Putting.{then}
+use Rattle.told.specs.Answers.{foundLine}
+use borrow.Author.Needs.{needs}
+use Rattle.answers.proofs.put_found.Statement.{statement}
+use Rattle.answers.proofs.put_found.Tie as tie
+
+pub put-found-spec : {M : Type 1} → statement M
+unfolding foundLine followed
+put-found-spec =
+    tie.close
+    (tie.spec
+    (λ c. search needs)
+    (λ c κs. search needs)
+    (λ c κs. search needs)
+    (λ c κs. search needs)
+    (λ c. search needs)
+    (λ c.
+    let p3 = c .before .before in
+    let p2 = p3 .before .before .before .before in
+    let p1 = p2 .before .before .before .before in
+    then (p1 .put-bytes .ensures) (then (p2 .put-next .ensures) (p3 .put-byte .ensures))))
