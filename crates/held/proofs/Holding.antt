@@ -3,13 +3,13 @@ use Prim.Native.Nat.{ℕ, _+_, _≤_, _<_, min}
 use native.Mathlib.Numerals.{add-one}
 use native.Mathlib.Omega.{arith}
 use mathlib.Core.Path.{_≡_, refl, ap, sym, _∙_}
+use mathlib.Core.Bool.{Bool}
 use mathlib.Core.List.{List, [], _∷_, _++_}
 use lib.ListN.{length, getD, take, set, length-append, length-take}
 use lib.Seq.{sets, take-all, take-suc-set, take-append-le}
 use borrow.Author.Tests.{eq-eqb, ne-eqb}
 use Rattle.fields.proofs.Putting.{front-next}
-use Rattle.queries.specs.Queries.{answerTo}
-use Rattle.held.specs.Held.{lineAfter, lineAfterAll, saidAt, saidAtEnd, Holds, Becomes, Answers}
+use Rattle.held.specs.Held.{lineAfter, lineAfterAll, said, saidAt, saidAtEnd, Holds, Becomes, Answers}
 
 -- as many bytes are held as there are of the line, 201 at most
 pub how-many : (room : List ℕ) (n : ℕ) (l : List ℕ) → length room ≡ 201 → n ≤ 201 → Holds room n l → n ≡ min 201 (length l)
@@ -46,18 +46,18 @@ module _ (b : ℕ) where
   unfolding lineAfter
   line-ended room room′ n r h e = record { few = omega arith; holds = λ l g. rw (eq-eqb b 10 e, h) }
 
-  pub line-answered : {room out out′ : List ℕ} {n : ℕ} → b ≡ 10 → Answers answerTo room n out out′ → Answers (λ l. saidAt l b) room n out out′
+  pub line-answered : (e : Bool) {room out out′ : List ℕ} {n : ℕ} → b ≡ 10 → Answers (said e) room n out out′ → Answers (λ l. saidAt e l b) room n out out′
   unfolding saidAt
-  line-answered e a = record { said = λ l g. rw (eq-eqb b 10 e) (a .said l g) }
+  line-answered e h a = record { said = λ l g. rw (eq-eqb b 10 h) (a .said l g) }
 
   -- any other byte
   pub line-longer : {room room′ : List ℕ} {n r : ℕ} → (b ≡ 10 → ⊥) → Becomes (λ l. l ++ (b ∷ [])) room n room′ r → Becomes (λ l. lineAfter l b) room n room′ r
   unfolding lineAfter
   line-longer e a = record { few = a .few; holds = λ l g. rw (ne-eqb b 10 e) (a .holds l g) }
 
-  pub none-answered : (room out : List ℕ) (n : ℕ) → (b ≡ 10 → ⊥) → Answers (λ l. saidAt l b) room n out out
+  pub none-answered : (e : Bool) (room out : List ℕ) (n : ℕ) → (b ≡ 10 → ⊥) → Answers (λ l. saidAt e l b) room n out out
   unfolding saidAt
-  none-answered room out n e = record { said = λ l g. rw (ne-eqb b 10 e) }
+  none-answered e room out n h = record { said = λ l g. rw (ne-eqb b 10 h) }
 
 -- the bytes of an input, one after the other
 pub lines-append : (l s t : List ℕ) → lineAfterAll l (s ++ t) ≡ lineAfterAll (lineAfterAll l s) t
@@ -84,19 +84,19 @@ module _ (s room : List ℕ) (n : ℕ) where
       record { few = a .few; holds = λ l g. a .holds l g ∙ ap (λ (t : List ℕ). take 201 (lineAfterAll l t)) (take-all i s h) }
 
 -- the end of the input
-module _ (room out : List ℕ) (n : ℕ) (h : length room ≡ 201) (k : n ≤ 201) where
-  none-held : n ≤ 0 → (l : List ℕ) → Holds room n l → out ≡ sets out 0 (saidAtEnd l)
+module _ (x : Bool) (room out : List ℕ) (n : ℕ) (h : length room ≡ 201) (k : n ≤ 201) where
+  none-held : n ≤ 0 → (l : List ℕ) → Holds room n l → out ≡ sets out 0 (saidAtEnd x l)
   unfolding saidAtEnd
   none-held e [] g = refl
   none-held e (b ∷ l) g = absurd (omega (arith, how-many room n (b ∷ l) h k g))
 
-  some-held : {out′ : List ℕ} → 0 < n → Answers answerTo room n out out′ → (l : List ℕ) → Holds room n l → out′ ≡ sets out 0 (saidAtEnd l)
+  some-held : {out′ : List ℕ} → 0 < n → Answers (said x) room n out out′ → (l : List ℕ) → Holds room n l → out′ ≡ sets out 0 (saidAtEnd x l)
   unfolding saidAtEnd
   some-held e a [] g = absurd (omega (arith, how-many room n [] h k g))
   some-held e a (b ∷ l) g = a .said (b ∷ l) g
 
-  pub no-line : n ≤ 0 → Answers saidAtEnd room n out out
+  pub no-line : n ≤ 0 → Answers (saidAtEnd x) room n out out
   no-line e = record { said = none-held e }
 
-  pub final-line : {out′ : List ℕ} → 0 < n → Answers answerTo room n out out′ → Answers saidAtEnd room n out out′
+  pub final-line : {out′ : List ℕ} → 0 < n → Answers (said x) room n out out′ → Answers (saidAtEnd x) room n out out′
   final-line e a = record { said = some-held e a }

@@ -3,11 +3,12 @@
 use Prim.Native.Nat.{ℕ, _≤_}
 use mathlib.Core.Path.{_≡_}
 use mathlib.Core.Logic.{_⊎_}
-use mathlib.Core.Bool.{cond}
+use mathlib.Core.Bool.{Bool, cond, _&&_}
 use mathlib.Core.List.{List, [], _∷_, _++_}
-use lib.Dec.{eqb}
-use lib.ListN.{take}
+use lib.Dec.{eqb, leb}
+use lib.ListN.{length, take}
 use lib.Seq.{sets}
+use Rattle.asked.specs.Asked.{isNote}
 use Rattle.queries.specs.Queries.{answerTo}
 
 -- "one query a line": a line so far, after a byte more of the input. A newline ends it, and the next line begins
@@ -19,19 +20,31 @@ unfoldable pub lineAfterAll : List ℕ → List ℕ → List ℕ
 lineAfterAll l [] = l
 lineAfterAll l (b ∷ s) = lineAfterAll (lineAfter l b) s
 
--- what is said at a byte: at a line's end its answer
-unfoldable pub saidAt : List ℕ → ℕ → List ℕ
-saidAt l b = cond (eqb b 10) (answerTo l) []
+-- "With echo, each line held (201 bytes at most) is printed before its answer"; a note is printed "once"
+unfoldable pub isPrinted : List ℕ → Bool
+isPrinted l = leb (length l) 200 && isNote l
 
--- at the input's end: "A final line without a newline counts", where there is one
-unfoldable pub saidAtEnd : List ℕ → List ℕ
-saidAtEnd [] = []
-saidAtEnd (b ∷ l) = answerTo (b ∷ l)
+unfoldable pub echoed : List ℕ → List ℕ
+echoed l = cond (isPrinted l) [] (take 201 l ++ (10 ∷ []))
 
--- to the rest of an input, behind a line so far
-unfoldable pub saidTo : List ℕ → List ℕ → List ℕ
-saidTo l [] = saidAtEnd l
-saidTo l (b ∷ s) = saidAt l b ++ saidTo (lineAfter l b) s
+-- what is said to a line: its answer, behind the line itself where there is echo
+unfoldable pub said : Bool → List ℕ → List ℕ
+said e l = cond e (echoed l) [] ++ answerTo l
+
+module _ (e : Bool) where
+  -- at a byte: at a line's end what is said to the line
+  unfoldable pub saidAt : List ℕ → ℕ → List ℕ
+  saidAt l b = cond (eqb b 10) (said e l) []
+
+  -- at the input's end: "A final line without a newline counts", where there is one
+  unfoldable pub saidAtEnd : List ℕ → List ℕ
+  saidAtEnd [] = []
+  saidAtEnd (b ∷ l) = said e (b ∷ l)
+
+  -- to the rest of an input, behind a line so far
+  unfoldable pub saidTo : List ℕ → List ℕ → List ℕ
+  saidTo l [] = saidAtEnd l
+  saidTo l (b ∷ s) = saidAt l b ++ saidTo (lineAfter l b) s
 
 -- the first n bytes of a room are those that are held of a line: its first 201
 abbrev pub Holds : (room : List ℕ) (n : ℕ) (l : List ℕ) → Type 0

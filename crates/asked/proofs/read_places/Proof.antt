@@ -24,19 +24,19 @@ read-places-spec =
     (λ c.
     let l = c .before .before .before .before .before .before .before .args .line .now in
     let none : (j : ℕ) → fieldAt (fieldsIn 32 l) (3 + j) ≡ [] =
-      λ j. nothing-at 3 j l _ (c .before .before .before .after-first3 .ensures ∙ ap afterFirst (c .before .before .before .before .after-first2 .ensures ∙ ap afterFirst (c .before .before .before .before .before .after-first .ensures))) (c .before .before .if1 .taken) in
+    λ j. nothing-at 3 j l _ (c .before .before .before .after-first3 .ensures ∙ ap afterFirst (c .before .before .before .before .after-first2 .ensures ∙ ap afterFirst (c .before .before .before .before .before .after-first .ensures))) (c .before .before .if1 .taken) in
     rw (
-        c .before .number .ensures,
-        c .number2 .ensures,
-        c .before .before .before .before .after-first2 .ensures,
-        c .before .before .before .before .before .after-first .ensures,
-        at-place 1 l,
-        at-place 2 l,
-        none 0,
-        none 1,
-        none 2,
-        none 4,
-        none 5
+      c .before .number .ensures,
+      c .number2 .ensures,
+      c .before .before .before .before .after-first2 .ensures,
+      c .before .before .before .before .before .after-first .ensures,
+      at-place 1 l,
+      at-place 2 l,
+      none 0,
+      none 1,
+      none 2,
+      none 4,
+      none 5,
     ) refl)
     (λ c κs. search needs)
     (λ c κs. search needs)
@@ -53,27 +53,27 @@ read-places-spec =
     (λ c.
     let l = c .before .before .before .before .before .before .before .before .before .before .before .before .before .before .before .before .before .args .line .now in
     rw (
-        c .before .before .before .before .before .before .number3 .ensures,
-        c .before .before .before .before .before .number4 .ensures,
-        c .before .before .before .before .leap .ensures,
-        c .before .before .before .number5 .ensures,
-        toZ-ofZ w64 (c .before .before .signed .result) (record { sfits = c .before .before .signed .ok }),
-        c .before .before .signed .ensures,
-        c .before .number6 .ensures,
-        c .number7 .ensures,
-        c .before .before .before .before .before .before .before .after-first8 .ensures,
-        c .before .before .before .before .before .before .before .before .after-first7 .ensures,
-        c .before .before .before .before .before .before .before .before .before .after-first6 .ensures,
-        c .before .before .before .before .before .before .before .before .before .before .after-first5 .ensures,
-        c .before .before .before .before .before .before .before .before .before .before .before .after-first4 .ensures,
-        c .before .before .before .before .before .before .before .before .before .before .before .before .before .after-first3 .ensures,
-        c .before .before .before .before .before .before .before .before .before .before .before .before .before .before .after-first2 .ensures,
-        c .before .before .before .before .before .before .before .before .before .before .before .before .before .before .before .after-first .ensures,
-        at-place 1 l,
-        at-place 2 l,
-        at-place 3 l,
-        at-place 4 l,
-        at-place 5 l,
-        at-place 7 l,
-        at-place 8 l
+      c .before .before .before .before .before .before .number3 .ensures,
+      c .before .before .before .before .before .number4 .ensures,
+      c .before .before .before .before .leap .ensures,
+      c .before .before .before .number5 .ensures,
+      toZ-ofZ w64 (c .before .before .signed .result) (record { sfits = c .before .before .signed .ok }),
+      c .before .before .signed .ensures,
+      c .before .number6 .ensures,
+      c .number7 .ensures,
+      c .before .before .before .before .before .before .before .after-first8 .ensures,
+      c .before .before .before .before .before .before .before .before .after-first7 .ensures,
+      c .before .before .before .before .before .before .before .before .before .after-first6 .ensures,
+      c .before .before .before .before .before .before .before .before .before .before .after-first5 .ensures,
+      c .before .before .before .before .before .before .before .before .before .before .before .after-first4 .ensures,
+      c .before .before .before .before .before .before .before .before .before .before .before .before .before .after-first3 .ensures,
+      c .before .before .before .before .before .before .before .before .before .before .before .before .before .before .after-first2 .ensures,
+      c .before .before .before .before .before .before .before .before .before .before .before .before .before .before .before .after-first .ensures,
+      at-place 1 l,
+      at-place 2 l,
+      at-place 3 l,
+      at-place 4 l,
+      at-place 5 l,
+      at-place 7 l,
+      at-place 8 l,
     ) refl))

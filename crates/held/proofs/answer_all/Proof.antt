@@ -8,11 +8,11 @@ use Rattle.held.proofs.answer_all.Statement.{statement}
 use Rattle.held.proofs.answer_all.Tie as tie
 
 abbrev Inv-loop : tie.InvT-loop
-Inv-loop bytes₀ line₀ days₀ out₀ held₀ turns₀ bytes line days out held turns =
+Inv-loop echo bytes₀ line₀ days₀ out₀ held₀ turns₀ bytes line days out held turns =
     (held ≤ 201) × (length bytes ≡ length bytes₀) × (length line ≡ length line₀) × (length days ≡ length days₀) × (length out ≡ length out₀)
 
 abbrev μ-loop : tie.MeasureT-loop
-μ-loop bytes₀ line₀ days₀ out₀ held₀ turns₀ bytes line days out held turns = turns
+μ-loop echo bytes₀ line₀ days₀ out₀ held₀ turns₀ bytes line days out held turns = turns
 
 loop-holds : tie.Need-loop-holds Inv-loop μ-loop
 loop-holds c = (omega arith, refl, refl, refl, refl)

@@ -17,12 +17,12 @@ same-length-2 c = search needs
 returns : tie.Need-returns
 returns c =
     let a = c .before .before .before .before .before .before .before .before .before .before .before in
-    final-line _ _ _ (a .pre .1) (a .pre .0) (omega arith) (c .before .before .before .before .answer-held .ensures)
+    final-line _ _ _ _ (a .pre .1) (a .pre .0) (omega arith) (c .before .before .before .before .answer-held .ensures)
 
 returns-2 : tie.Need-returns-2
 returns-2 c =
     let a = c .before .before .before .before in
-    no-line _ _ _ (a .pre .1) (a .pre .0) (omega arith)
+    no-line _ _ _ _ (a .pre .1) (a .pre .0) (omega arith)
 
 pub end-input-spec : {M : Type 1} → statement M
 end-input-spec =

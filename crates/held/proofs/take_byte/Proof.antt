@@ -22,7 +22,7 @@ returns : tie.Need-returns
 returns c =
     let a = c .before .before .before .before .before .before .before .before .before .before .before .before in
     let e : a .args .b ≡ 10 = omega arith in
-    (line-ended _ _ _ _ _ (omega arith) e, line-answered _ e (c .before .before .before .before .answer-held .ensures))
+    (line-ended _ _ _ _ _ (omega arith) e, line-answered _ _ e (c .before .before .before .before .answer-held .ensures))
 
 hold-requires : tie.Need-hold-requires
 hold-requires c κs = search needs
@@ -33,7 +33,7 @@ same-length-4 c = search needs
 returns-2 : tie.Need-returns-2
 returns-2 c =
     let e = c .before .before .before .before .if1 .left in
-    (line-longer _ e (c .before .before .hold .ensures), none-answered _ _ _ _ e)
+    (line-longer _ e (c .before .before .hold .ensures), none-answered _ _ _ _ _ e)
 
 pub take-byte-spec : {M : Type 1} → statement M
 take-byte-spec =

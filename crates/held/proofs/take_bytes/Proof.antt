@@ -11,11 +11,11 @@ use Rattle.held.proofs.take_bytes.Statement.{statement}
 use Rattle.held.proofs.take_bytes.Tie as tie
 
 abbrev Inv-loop : tie.InvT-loop
-Inv-loop bytes line₀ held days₀ out₀ now-held₀ i₀ line days out now-held i =
+Inv-loop echo bytes line₀ held days₀ out₀ now-held₀ i₀ line days out now-held i =
     Becomes (λ l. lineAfterAll l (take i bytes)) line₀ held line now-held × (length line ≡ length line₀) × (length days ≡ length days₀) × (length out ≡ length out₀)
 
 abbrev μ-loop : tie.MeasureT-loop
-μ-loop bytes line₀ held days₀ out₀ now-held₀ i₀ line days out now-held i = length bytes - i
+μ-loop echo bytes line₀ held days₀ out₀ now-held₀ i₀ line days out now-held i = length bytes - i
 
 loop-holds : tie.Need-loop-holds Inv-loop μ-loop
 loop-holds c =

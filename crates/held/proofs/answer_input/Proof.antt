@@ -1,7 +1,7 @@
--- `desk::main` meets its contract: the lent lists are as long as they are asked to be. In a file, since a search for it is slow. Assumes nothing.
+-- `held::answer_input` meets its contract: the lent lists are as long as they are asked to be. In a file, since a search for it is slow. Assumes nothing.
 use borrow.Author.Needs.{needs}
-use Rattle.desk.proofs.main.Statement.{statement}
-use Rattle.desk.proofs.main.Tie as tie
+use Rattle.held.proofs.answer_input.Statement.{statement}
+use Rattle.held.proofs.answer_input.Tie as tie
 
 room-requires : tie.Need-room-requires
 room-requires c κs = search needs
@@ -30,8 +30,8 @@ answer-all-requires c κs = search needs
 returns : tie.Need-returns
 returns c = search needs
 
-pub main-spec : {M : Type 1} → statement M
-main-spec =
+pub answer-input-spec : {M : Type 1} → statement M
+answer-input-spec =
     tie.close
     (tie.spec
     room-requires
