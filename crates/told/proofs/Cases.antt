@@ -191,10 +191,10 @@ pub none-left : nextText 1 14989826 ≡ inLines (word "REFUSED 20 no conjunction
 unfolding nextText nextLine nextAt nextCount nextOf conjunctions refusing
 none-left = refl
 
--- the pairs that 004 gives: Jupiter's (P01, P02), and Mercury's, which has more conjunctions than years (P90, P91)
-pub jupiter-pair : pairText 1 ≡ inLines (word "PAIR 4725 4327" ∷ [])
+-- the pairs that 004 gives: that of Mars (P22, P23), and that of Mercury, which has more conjunctions than years (P90, P91)
+pub mars-pair : pairText 2 ≡ inLines (word "PAIR 1876 879" ∷ [])
 unfolding pairText pairLine pairAt numbersOf printing
-jupiter-pair = refl
+mars-pair = refl
 
 pub mercury-pair : pairText 5 ≡ inLines (word "PAIR 1889 11908" ∷ [])
 unfolding pairText pairLine pairAt numbersOf printing
