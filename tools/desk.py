@@ -1,6 +1,6 @@
 #!/usr/bin/env python3
-"""Worked queries for the program `desk`, and what it must write: by regular expressions and by the calendar of tools/expected.py,
-which walks the months from the origin. It shares nothing with the library.
+"""Worked queries for the program `desk`, and what it must write: the answers of tools/walked.py, which walks the months from the
+origin and shares nothing with the library.
 
 The first lines are worked by hand from the issue's and the paper's own figures, edges and wrong lines; the rest are drawn by a
 generator with a fixed seed, sound and damaged, enough to pass the 65,536 bytes that the program reads at a time.
@@ -15,119 +15,7 @@ import sys
 
 sys.dont_write_bytecode = True
 
-from expected import DAYS, MONTHS, ROOT, WORDS, YEARS, Desk, conjunction, hold, last_count, mark, name, next_conjunction
-
-N = rb"(0|[1-9][0-9]*)"
-M = rb"([-L])"
-S = rb"(0|-?[1-9][0-9]*)"
-F = rb"(0|[1-9][0-9]*|\?)"
-G = rb"([-L?])"
-FORMS = {
-    "PLACE": [N],
-    "YEAR": [N],
-    "MONTH": [N],
-    "QUARTER": [N, N],
-    "TERM": [N, N],
-    "CONJUNCTION": [N, N],
-    "NEXT": [N, N],
-    "DAY": [N],
-    "DATE": [N, N, M, N],
-    "MOVE": [N, N, M, N, S],
-    "SEARCH": [F, F, G, F, F, F, N, N],
-}
-FORMS = {word: re.compile(b" ".join([word.encode(), *fields])) for word, fields in FORMS.items()}
-MARKS = {b"-": 1, b"L": 2, b"?": None}
-
-
-PHASES = {"morning": "M", "evening": "E", "-": "-"}
-
-
-def planet_line(word, answer):
-    """A planet's answer by expected.py: its fields, the phase by its letter, or the reason's number."""
-    if isinstance(answer, int):
-        return refused(answer)
-    return [" ".join([word, *map(str, answer[:-1]), PHASES[answer[-1]]])]
-
-
-def refused(k):
-    return [f"REFUSED {k} {WORDS[k]}"]
-
-
-class Answers(Desk):
-    def day(self, d):
-        if not 0 <= d < DAYS:
-            return refused(6)
-        y, k, l, m, length, dn, yn = self.date_fields(d)
-        return [f"DAY {d} {y} {k} {mark(l)} {m} {dn} {length} {yn}"]
-
-    def date(self, y, k, l, m, n=0):
-        found = self.find(y, k, l, m)
-        if found < 0:
-            return refused(-found)
-        return self.day(found + n) if 0 <= found + n < DAYS else refused(8)
-
-    def place(self, y):
-        if not 1 <= y <= YEARS:
-            return refused(1)
-        return [self.year_lines(y)[0].replace(f" {y}:", "")]
-
-    def year_of(self, y):
-        if not 1 <= y <= YEARS:
-            return refused(1)
-        months = self.c.months_of[y]
-        leaps = [f"{self.c.number[n]} {n}" for n in months if self.c.leap[n]]
-        return [f"YEAR {y} NAME {name(y - 1, 17)} MONTHS {len(months)} FIRST {months[0]} LEAP {(leaps + ['- -'])[0]}"]
-
-    def month(self, n):
-        if not 0 <= n < MONTHS:
-            return refused(7)
-        first = self.c.starts[n]
-        eclipse = "E" if 23 * (n + 1) % 135 < 23 else "-"
-        return [f"MONTH {n} {self.c.number[n]} {mark(self.c.leap[n])} {name(first, 1)} {self.c.length(n)} {eclipse} {first} {27759 * n - 940 * first}"]
-
-    def quarter(self, n, q):
-        if not 0 <= n < MONTHS:
-            return refused(7)
-        return refused(15) if q > 3 else ["QUARTER %d %d" % divmod(27759 * (4 * n + q), 3760)]
-
-    def term(self, y, k):
-        if not 1 <= y <= YEARS:
-            return refused(1)
-        return refused(15) if k > 23 else [f"TERM {487 * (24 * (y - 1) + k) // 32}"]
-
-    def conjunction(self, planet, k):
-        return planet_line("CONJUNCTION", conjunction(planet, k))
-
-    def next(self, planet, day):
-        return planet_line("NEXT", next_conjunction(planet, day))
-
-    def search(self, reading, first, last):
-        if not (first < DAYS and last < DAYS):
-            return refused(6)
-        if last < first or last - first + 1 > 27759:
-            return refused(13)
-        if any(f is not None and not 1 <= f <= most for f, most in zip(reading, (60, 12, 2, 30, 60, 60))):
-            return refused(14)
-        days = [d for d in range(first, last + 1) if all(f is None or f == v for f, v in zip(reading, self.six(d)))]
-        return [f"FOUND {len(days)}"] + [line for d in days for line in self.day(d)]
-
-    def answer(self, line):
-        """The lines that answer a line, which is bytes without its newline."""
-        for word, form in FORMS.items():
-            found = form.fullmatch(line)
-            if found and len(line) <= 200:
-                return self.asked(word, found.groups())
-        return ["UNREADABLE"]
-
-    def asked(self, word, fields):
-        if word == "SEARCH":
-            reading = [MARKS[f] if i == 2 else None if f == b"?" else int(f) for i, f in enumerate(fields[:6])]
-            return self.search(reading, int(fields[6]), int(fields[7]))
-        numbers = [f == b"L" if f in (b"-", b"L") else int(f) for f in fields]
-        calls = {"PLACE": self.place, "YEAR": self.year_of, "MONTH": self.month, "QUARTER": self.quarter, "TERM": self.term,
-                 "CONJUNCTION": self.conjunction, "NEXT": self.next, "DAY": self.day, "DATE": self.date, "MOVE": self.date}
-        return calls[word](*numbers)
-
+from walked import DAYS, FORMS, MONTHS, ROOT, YEARS, Desk, hold, last_count, lines_in, mark
 
 WORKED = """PLACE 11
 PLACE 9366
@@ -335,14 +223,14 @@ def long_lines():
             b"SEARCH" + b" ?" * 97, b"x" * 200, b"x" * 201, b"YEAR 11" + b" " * 500, b"\xff\x00" * 400]
 
 
-def drawn(answers, draw):
+def drawn(desk, draw):
     """A query, its fields near the true ones or near the edges."""
     def near(most):
         return draw.choice((draw.randint(0, most), draw.randint(0, most), draw.randint(0, 3), draw.randint(most - 1, most + 2), draw.randint(0, 2 ** 40)))
 
-    word = draw.choice(list(FORMS))
+    word = draw.choice([word for word in FORMS if word != "PAIR"])
     day = draw.randrange(DAYS)
-    y, k, l, m, _, dn, yn = answers.date_fields(day)
+    y, k, l, m, _, dn, yn = desk.date_fields(day)
     date = f"{y} {k} {mark(l)} {m}" if draw.random() < 0.8 else f"{near(YEARS)} {draw.randint(0, 13)} {draw.choice('-L')} {draw.randint(0, 31)}"
     if word in ("PLACE", "YEAR"):
         return f"{word} {near(YEARS)}"
@@ -362,7 +250,7 @@ def drawn(answers, draw):
     if word == "MOVE":
         return f"MOVE {date} {draw.choice((1, -1)) * draw.choice((draw.randint(1, 400), draw.randint(1, 2 ** 24), draw.randint(1, 2 ** 70)))}"
     first = max(0, day - draw.randint(0, 400))
-    six = answers.six(day)
+    six = desk.six(day)
     fields = ["?" if draw.random() < 0.4 else "-L"[v - 1] if i == 2 else str(v if draw.random() < 0.95 else v + draw.randint(0, 40)) for i, v in enumerate(six)]
     return "SEARCH " + " ".join(fields) + f" {first} {first + draw.randint(-1, 800)}"
 
@@ -372,32 +260,27 @@ def damaged(line, draw):
     return draw.choice((line[:at] + line[at + 1:], line[:at] + draw.choice(" -?L0xY\r") + line[at:], line.replace(" ", "  ", 1), line + " ", line[:at] + line[at:].lower()))
 
 
-def queries(answers):
+def queries(desk):
     draw = random.Random(20261115)
     lines = [line.encode() for line in WORKED.splitlines() + WRONG] + long_lines()
     while sum(len(line) + 1 for line in lines) < 80000:
-        line = drawn(answers, draw)
+        line = drawn(desk, draw)
         if len(lines) % 5 == 0:
             line = damaged(line, draw)
-        if len(answers.answer(line.encode())) <= 30:
+        if len(desk.told(line.encode())) <= 30:
             lines.append(line.encode())
     return lines
 
 
-def text(answers, lines):
-    return "".join(line + "\n" for query in lines for line in answers.answer(query))
-
-
 def main():
-    answers = Answers()
+    desk = Desk()
     if "--answer" in sys.argv[1:]:
-        data = sys.stdin.buffer.read()
-        lines = data.split(b"\n")
-        sys.stdout.write(text(answers, lines[:-1] if lines[-1] == b"" else lines))
+        for line in lines_in(sys.stdin.buffer.read()):
+            sys.stdout.buffer.write(desk.answer(line))
         return 0
-    lines = queries(answers)
+    lines = queries(desk)
     folder = ROOT / "crates" / "desk"
-    return hold({folder / "stdin": b"\n".join(lines), folder / "stdout": text(answers, lines).encode()})
+    return hold({folder / "stdin": b"\n".join(lines), folder / "stdout": b"".join(map(desk.answer, lines))})
 
 
 if __name__ == "__main__":

@@ -2,7 +2,7 @@
 """The rows of 004's figures that the calls answer: the input of the program `eras`, and what it must write.
 
 The rows stand in tools/eras.tsv, unchanged from the collection of 004's figures that they were chosen from. What the rule gives
-is computed here from the walked calendar of expected.py, and is held against the collection's own column `rule` at every item.
+is computed here from the walked calendar of walked.py, and is held against the collection's own column `rule` at every item.
 
 In, and asked of the calls: year-name, year-place, year-place-bu, bu-head, bu-year-name, year-start, leap-month, month-start,
 bu-month, month-number, month-step, eclipse-month, quarter, quarter-day-of-month, solstice, term, term12, midterm-month, reading,
@@ -39,7 +39,7 @@ import pathlib
 import sys
 
 sys.dont_write_bytecode = True
-from expected import PLANETS, ROOT, Desk, common_divisor, hold, kth, name
+from walked import PLANETS, ROOT, Desk, common_divisor, hold, kth, name
 
 ROWS = ROOT / "tools" / "eras.tsv"
 COLUMNS = "id kind inputs printed rule lines agrees class literal quote note".split()
@@ -261,7 +261,7 @@ class Rule:
         return list(kth(p, k)[:3])
 
     def planet_parity(self, p, k):
-        return [YES_NO[kth(p, k)[3] == "evening"]]
+        return [YES_NO[kth(p, k)[3] == "E"]]
 
     def planet_in_month(self, p, k, n):
         day, parts = kth(p, k)[:2]
@@ -293,7 +293,7 @@ class Rule:
         return [1461 * 4 * PLANETS[p][0]]
 
     def planet_mornings(self, p):
-        return [sum(kth(p, k)[3] == "morning" for k in range(PLANETS[p][0]))]
+        return [sum(kth(p, k)[3] == "M" for k in range(PLANETS[p][0]))]
 
 
 def rows_in(path):
