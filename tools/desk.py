@@ -1,13 +1,16 @@
 #!/usr/bin/env python3
-"""Worked queries for the program `desk`, and what it must write: the answers of tools/walked.py, which walks the months from the
-origin and shares nothing with the library.
+"""The lines of the programs `desk` and `echo`, and what each must write: the answers of tools/walked.py, which walks the months
+from the origin and shares nothing with the library.
 
-The first lines are worked by hand from the issue's and the paper's own figures, edges and wrong lines; the rest are drawn by a
-generator with a fixed seed, sound and damaged, enough to pass the 65,536 bytes that the program reads at a time.
+The desk's first lines are worked by hand from the issue's and the paper's own figures, edges and wrong lines; then come lines drawn
+by a generator with a fixed seed, sound and damaged, enough to pass the 65,536 bytes that the program reads at a time. After these
+stand the notes and the pairs, by hand and drawn by a second generator, so that no line before them changes. The last line has no
+newline. The lines of `echo` are a short page that tries what it does with notes, queries and lines of any length.
 
-usage: tools/desk.py            write crates/desk/stdin and crates/desk/stdout
+usage: tools/desk.py            write stdin and stdout of crates/desk and crates/echo
        tools/desk.py --check    say whether what stands is what it computes (exit status 1 if not)
-       tools/desk.py --answer   answer the lines of standard input
+       tools/desk.py --answer   answer the lines of standard input as the desk does
+       tools/desk.py --echo     the same as echo does
 """
 import random
 import re
@@ -17,6 +20,7 @@ sys.dont_write_bytecode = True
 
 from walked import DAYS, FORMS, MONTHS, ROOT, YEARS, Desk, hold, last_count, lines_in, mark
 
+OLD_WORDS = [word for word in FORMS if word != "PAIR"]
 WORKED = """PLACE 11
 PLACE 9366
 PLACE 1
@@ -223,12 +227,16 @@ def long_lines():
             b"SEARCH" + b" ?" * 97, b"x" * 200, b"x" * 201, b"YEAR 11" + b" " * 500, b"\xff\x00" * 400]
 
 
-def drawn(desk, draw):
-    """A query, its fields near the true ones or near the edges."""
+def drawn(desk, draw, words):
+    """A query of one of these words, or a note, its fields near the true ones or near the edges."""
     def near(most):
         return draw.choice((draw.randint(0, most), draw.randint(0, most), draw.randint(0, 3), draw.randint(most - 1, most + 2), draw.randint(0, 2 ** 40)))
 
-    word = draw.choice([word for word in FORMS if word != "PAIR"])
+    word = draw.choice(words)
+    if word == "#":
+        return "#" + "".join(draw.choice(" #abcXYZ0123-?") for _ in range(draw.choice((0, 1, 7, 40, 197, 198, 199, 200, 201, 300))))
+    if word == "PAIR":
+        return f"PAIR {draw.choice((1, 2, 3, 4, 5, near(5)))}"
     day = draw.randrange(DAYS)
     y, k, l, m, _, dn, yn = desk.date_fields(day)
     date = f"{y} {k} {mark(l)} {m}" if draw.random() < 0.8 else f"{near(YEARS)} {draw.randint(0, 13)} {draw.choice('-L')} {draw.randint(0, 31)}"
@@ -264,7 +272,7 @@ def queries(desk):
     draw = random.Random(20261115)
     lines = [line.encode() for line in WORKED.splitlines() + WRONG] + long_lines()
     while sum(len(line) + 1 for line in lines) < 80000:
-        line = drawn(desk, draw)
+        line = drawn(desk, draw, OLD_WORDS)
         if len(lines) % 5 == 0:
             line = damaged(line, draw)
         if len(desk.told(line.encode())) <= 30:
@@ -272,15 +280,102 @@ def queries(desk):
     return lines
 
 
+# The notes and the pairs: the lines that came after those above, which keep their bytes and their order.
+
+NOTES = [
+    "#", "# a note", "#YEAR 11", " # not a note", "##", "# 木周率四千三百二十七, a note of more bytes than letters", "#\t\r", "YEAR 11 # not a note",
+    "YEAR 11#", "# UNREADABLE", "# REFUSED 1 year outside 1 to 41,040", "?#", "", "# after an empty line",
+]
+PAIRS = [f"PAIR {p}" for p in (1, 2, 3, 4, 5, 0, 6, 10, 257, 261, 2**32 - 1, 2**32, 2**32 + 1, 2**64, 2**64 + 5, 10**40 + 3)]
+WRONG_PAIRS = [
+    "PAIR", "PAIR ", "PAIR 1 2", "PAIR 01", "PAIR 00", "PAIR -1", "PAIR -", "PAIR L", "PAIR ?", "PAIR 1 ", "PAIR  1", " PAIR 1", "PAIR\t1",
+    "PAIR 1\r", "PAIR 1#", "PAIRS 1", "PAI 1", "pair 1", "Pair 1", "PAIR 4725 4327", "PAIR1",
+]
+
+
+def long_notes():
+    """At most 200 bytes, which is a note, and more; a letter of three bytes may end at the 200th, or be cut there."""
+    return [b"#" + b"n" * 199, b"#" + b"n" * 200, b"#" + b" " * 500, b"#" * 200, b"#" * 201, b"# " + "木".encode() * 66,
+            b"# n" + "木".encode() * 66, b"#" + b"\xff\x00" * 99, b"#\xff\xfe\x00", b"PAIR " + b"9" * 195, b"PAIR " + b"9" * 196, b"PAIR 1" + b" " * 300]
+
+
+def added(desk):
+    draw = random.Random(20261116)
+    lines = [line.encode() for line in NOTES + PAIRS + WRONG_PAIRS] + long_notes()
+    words = [*FORMS, "PAIR", "PAIR", "#", "#", "#"]
+    for turn in range(300):
+        line = drawn(desk, draw, words)
+        while len(desk.told(line.encode())) > 30:
+            line = drawn(desk, draw, words)
+        lines.append((damaged(line, draw) if turn % 5 == 0 else line).encode())
+    return lines + [b"# the last line has no newline", b"PAIR 3"]
+
+
+# The page of `echo`.
+
+ECHO = """# What echo does: a note is printed once; any other line is printed, up to 201 bytes of it, and then its answer.
+#
+##
+# Each kind of query, answered
+PLACE 9366
+YEAR 11
+YEAR 12
+MONTH 134
+QUARTER 115830 2
+TERM 9366 0
+CONJUNCTION 4 11826
+NEXT 4 3453334
+PAIR 4
+DAY 3420558
+DATE 11 9 L 29
+MOVE 1 11 - 1 27759
+SEARCH 27 9 ? 1 ? ? 3600 4000
+SEARCH 27 9 ? 30 ? ? 3600 3700
+# and refused
+PLACE 0
+YEAR 41041
+MONTH 507600
+QUARTER 0 4
+TERM 1 24
+CONJUNCTION 1 37584
+NEXT 1 14989826
+PAIR 6
+DAY 14989860
+DATE 11 9 L 30
+MOVE 1 11 - 1 -1
+SEARCH 61 ? ? ? ? ? 0 5
+# No queries: a word of the answers, a space before the mark of a note, letters for a number, an empty line, a space, a return
+UNREADABLE
+ # not a note
+YEAR eleven
+
+ 
+YEAR 11\r
+# A note in 004's letters: 木周率四千三百二十七
+木周率四千三百二十七
+# Lines of 200, 201, 202 and 500 bytes: the first is a number that is refused, the others are cut in what is printed
+"""
+
+
+def echo_lines():
+    lines = [line.encode() for line in ECHO.split("\n")[:-1]]
+    lines += [b"YEAR " + b"9" * (size - 5) for size in (200, 201, 202, 500)]
+    lines += [b"# The same with a note's mark: 200 bytes are a note, more are not"]
+    lines += [(b"#" + bytes(range(97, 123)) * 20)[:size] for size in (200, 201, 202, 500)]
+    return lines + [b"\xff\x00\xff", b"# The last line has no newline", b"DAY 0"]
+
+
 def main():
     desk = Desk()
-    if "--answer" in sys.argv[1:]:
-        for line in lines_in(sys.stdin.buffer.read()):
-            sys.stdout.buffer.write(desk.answer(line))
-        return 0
-    lines = queries(desk)
-    folder = ROOT / "crates" / "desk"
-    return hold({folder / "stdin": b"\n".join(lines), folder / "stdout": b"".join(map(desk.answer, lines))})
+    for word, call in (("--answer", desk.answer), ("--echo", desk.echo)):
+        if word in sys.argv[1:]:
+            sys.stdout.buffer.write(b"".join(map(call, lines_in(sys.stdin.buffer.read()))))
+            return 0
+    files = {}
+    for program, lines, call in (("desk", queries(desk) + added(desk), desk.answer), ("echo", echo_lines(), desk.echo)):
+        files[ROOT / "crates" / program / "stdin"] = b"\n".join(lines)
+        files[ROOT / "crates" / program / "stdout"] = b"".join(map(call, lines))
+    return hold(files)
 
 
 if __name__ == "__main__":
