@@ -230,16 +230,20 @@ def long_lines():
 def drawn(desk, draw, words):
     """A query of one of these words, or a note, its fields near the true ones or near the edges."""
     def near(most):
-        return draw.choice((draw.randint(0, most), draw.randint(0, most), draw.randint(0, 3), draw.randint(most - 1, most + 2), draw.randint(0, 2 ** 40)))
+        return draw.choice((draw.randint(0, most), draw.randint(0, most), draw.randint(0, 3), draw.randint(most - 1, most + 2),
+                            draw.randint(0, 2 ** 40)))
 
     word = draw.choice(words)
     if word == "#":
-        return "#" + "".join(draw.choice(" #abcXYZ0123-?") for _ in range(draw.choice((0, 1, 7, 40, 197, 198, 199, 200, 201, 300))))
+        size = draw.choice((0, 1, 7, 40, 197, 198, 199, 200, 201, 300))
+        return "#" + "".join(draw.choice(" #abcXYZ0123-?") for _ in range(size))
     if word == "PAIR":
         return f"PAIR {draw.choice((1, 2, 3, 4, 5, near(5)))}"
     day = draw.randrange(DAYS)
     y, k, l, m, _, dn, yn = desk.date_fields(day)
-    date = f"{y} {k} {mark(l)} {m}" if draw.random() < 0.8 else f"{near(YEARS)} {draw.randint(0, 13)} {draw.choice('-L')} {draw.randint(0, 31)}"
+    date = f"{y} {k} {mark(l)} {m}"
+    if draw.random() >= 0.8:
+        date = f"{near(YEARS)} {draw.randint(0, 13)} {draw.choice('-L')} {draw.randint(0, 31)}"
     if word in ("PLACE", "YEAR"):
         return f"{word} {near(YEARS)}"
     if word == "MONTH":
@@ -256,16 +260,19 @@ def drawn(desk, draw, words):
     if word == "DATE":
         return f"DATE {date}"
     if word == "MOVE":
-        return f"MOVE {date} {draw.choice((1, -1)) * draw.choice((draw.randint(1, 400), draw.randint(1, 2 ** 24), draw.randint(1, 2 ** 70)))}"
+        sign = draw.choice((1, -1))
+        return f"MOVE {date} {sign * draw.choice((draw.randint(1, 400), draw.randint(1, 2 ** 24), draw.randint(1, 2 ** 70)))}"
     first = max(0, day - draw.randint(0, 400))
     six = desk.six(day)
-    fields = ["?" if draw.random() < 0.4 else "-L"[v - 1] if i == 2 else str(v if draw.random() < 0.95 else v + draw.randint(0, 40)) for i, v in enumerate(six)]
+    fields = ["?" if draw.random() < 0.4 else "-L"[v - 1] if i == 2 else str(v if draw.random() < 0.95 else v + draw.randint(0, 40))
+              for i, v in enumerate(six)]
     return "SEARCH " + " ".join(fields) + f" {first} {first + draw.randint(-1, 800)}"
 
 
 def damaged(line, draw):
     at = draw.randrange(len(line))
-    return draw.choice((line[:at] + line[at + 1:], line[:at] + draw.choice(" -?L0xY\r") + line[at:], line.replace(" ", "  ", 1), line + " ", line[:at] + line[at:].lower()))
+    return draw.choice((line[:at] + line[at + 1:], line[:at] + draw.choice(" -?L0xY\r") + line[at:], line.replace(" ", "  ", 1),
+                        line + " ", line[:at] + line[at:].lower()))
 
 
 def queries(desk):
@@ -283,20 +290,21 @@ def queries(desk):
 # The notes and the pairs: the lines that came after those above, which keep their bytes and their order.
 
 NOTES = [
-    "#", "# a note", "#YEAR 11", " # not a note", "##", "# 木周率四千三百二十七, a note of more bytes than letters", "#\t\r", "YEAR 11 # not a note",
-    "YEAR 11#", "# UNREADABLE", "# REFUSED 1 year outside 1 to 41,040", "?#", "", "# after an empty line",
+    "#", "# a note", "#YEAR 11", " # not a note", "##", "# 木周率四千三百二十七, a note of more bytes than letters", "#\t\r",
+    "YEAR 11 # not a note", "YEAR 11#", "# UNREADABLE", "# REFUSED 1 year outside 1 to 41,040", "?#", "", "# after an empty line",
 ]
 PAIRS = [f"PAIR {p}" for p in (1, 2, 3, 4, 5, 0, 6, 10, 257, 261, 2**32 - 1, 2**32, 2**32 + 1, 2**64, 2**64 + 5, 10**40 + 3)]
 WRONG_PAIRS = [
-    "PAIR", "PAIR ", "PAIR 1 2", "PAIR 01", "PAIR 00", "PAIR -1", "PAIR -", "PAIR L", "PAIR ?", "PAIR 1 ", "PAIR  1", " PAIR 1", "PAIR\t1",
-    "PAIR 1\r", "PAIR 1#", "PAIRS 1", "PAI 1", "pair 1", "Pair 1", "PAIR 4725 4327", "PAIR1",
+    "PAIR", "PAIR ", "PAIR 1 2", "PAIR 01", "PAIR 00", "PAIR -1", "PAIR -", "PAIR L", "PAIR ?", "PAIR 1 ", "PAIR  1", " PAIR 1",
+    "PAIR\t1", "PAIR 1\r", "PAIR 1#", "PAIRS 1", "PAI 1", "pair 1", "Pair 1", "PAIR 4725 4327", "PAIR1",
 ]
 
 
 def long_notes():
     """At most 200 bytes, which is a note, and more; a letter of three bytes may end at the 200th, or be cut there."""
     return [b"#" + b"n" * 199, b"#" + b"n" * 200, b"#" + b" " * 500, b"#" * 200, b"#" * 201, b"# " + "木".encode() * 66,
-            b"# n" + "木".encode() * 66, b"#" + b"\xff\x00" * 99, b"#\xff\xfe\x00", b"PAIR " + b"9" * 195, b"PAIR " + b"9" * 196, b"PAIR 1" + b" " * 300]
+            b"# n" + "木".encode() * 66, b"#" + b"\xff\x00" * 99, b"#\xff\xfe\x00", b"PAIR " + b"9" * 195, b"PAIR " + b"9" * 196,
+            b"PAIR 1" + b" " * 300]
 
 
 def added(desk):
