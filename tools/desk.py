@@ -1,13 +1,16 @@
 #!/usr/bin/env python3
-"""Worked queries for the program `desk`, and what it must write: by regular expressions and by the calendar of tools/expected.py,
-which walks the months from the origin. It shares nothing with the library.
+"""The lines of the programs `desk` and `echo`, and what each must write: the answers of tools/walked.py, which walks the months
+from the origin and shares nothing with the library.
 
-The first lines are worked by hand from the issue's and the paper's own figures, edges and wrong lines; the rest are drawn by a
-generator with a fixed seed, sound and damaged, enough to pass the 65,536 bytes that the program reads at a time.
+The desk's first lines are worked by hand from the issue's and the paper's own figures, edges and wrong lines; then come lines drawn
+by a generator with a fixed seed, sound and damaged, enough to pass the 65,536 bytes that the program reads at a time. After these
+stand the notes and the pairs, by hand and drawn by a second generator, so that no line before them changes. The last line has no
+newline. The lines of `echo` are a short page that tries what it does with notes, queries and lines of any length.
 
-usage: tools/desk.py            write crates/desk/stdin and crates/desk/stdout
+usage: tools/desk.py            write stdin and stdout of crates/desk and crates/echo
        tools/desk.py --check    say whether what stands is what it computes (exit status 1 if not)
-       tools/desk.py --answer   answer the lines of standard input
+       tools/desk.py --answer   answer the lines of standard input as the desk does
+       tools/desk.py --echo     the same as echo does
 """
 import random
 import re
@@ -15,120 +18,9 @@ import sys
 
 sys.dont_write_bytecode = True
 
-from expected import DAYS, MONTHS, ROOT, WORDS, YEARS, Desk, conjunction, hold, last_count, mark, name, next_conjunction
+from walked import DAYS, FORMS, MONTHS, ROOT, YEARS, Desk, hold, last_count, lines_in, mark
 
-N = rb"(0|[1-9][0-9]*)"
-M = rb"([-L])"
-S = rb"(0|-?[1-9][0-9]*)"
-F = rb"(0|[1-9][0-9]*|\?)"
-G = rb"([-L?])"
-FORMS = {
-    "PLACE": [N],
-    "YEAR": [N],
-    "MONTH": [N],
-    "QUARTER": [N, N],
-    "TERM": [N, N],
-    "CONJUNCTION": [N, N],
-    "NEXT": [N, N],
-    "DAY": [N],
-    "DATE": [N, N, M, N],
-    "MOVE": [N, N, M, N, S],
-    "SEARCH": [F, F, G, F, F, F, N, N],
-}
-FORMS = {word: re.compile(b" ".join([word.encode(), *fields])) for word, fields in FORMS.items()}
-MARKS = {b"-": 1, b"L": 2, b"?": None}
-
-
-PHASES = {"morning": "M", "evening": "E", "-": "-"}
-
-
-def planet_line(word, answer):
-    """A planet's answer by expected.py: its fields, the phase by its letter, or the reason's number."""
-    if isinstance(answer, int):
-        return refused(answer)
-    return [" ".join([word, *map(str, answer[:-1]), PHASES[answer[-1]]])]
-
-
-def refused(k):
-    return [f"REFUSED {k} {WORDS[k]}"]
-
-
-class Answers(Desk):
-    def day(self, d):
-        if not 0 <= d < DAYS:
-            return refused(6)
-        y, k, l, m, length, dn, yn = self.date_fields(d)
-        return [f"DAY {d} {y} {k} {mark(l)} {m} {dn} {length} {yn}"]
-
-    def date(self, y, k, l, m, n=0):
-        found = self.find(y, k, l, m)
-        if found < 0:
-            return refused(-found)
-        return self.day(found + n) if 0 <= found + n < DAYS else refused(8)
-
-    def place(self, y):
-        if not 1 <= y <= YEARS:
-            return refused(1)
-        return [self.year_lines(y)[0].replace(f" {y}:", "")]
-
-    def year_of(self, y):
-        if not 1 <= y <= YEARS:
-            return refused(1)
-        months = self.c.months_of[y]
-        leaps = [f"{self.c.number[n]} {n}" for n in months if self.c.leap[n]]
-        return [f"YEAR {y} NAME {name(y - 1, 17)} MONTHS {len(months)} FIRST {months[0]} LEAP {(leaps + ['- -'])[0]}"]
-
-    def month(self, n):
-        if not 0 <= n < MONTHS:
-            return refused(7)
-        first = self.c.starts[n]
-        eclipse = "E" if 23 * (n + 1) % 135 < 23 else "-"
-        return [f"MONTH {n} {self.c.number[n]} {mark(self.c.leap[n])} {name(first, 1)} {self.c.length(n)} {eclipse} {first} {27759 * n - 940 * first}"]
-
-    def quarter(self, n, q):
-        if not 0 <= n < MONTHS:
-            return refused(7)
-        return refused(15) if q > 3 else ["QUARTER %d %d" % divmod(27759 * (4 * n + q), 3760)]
-
-    def term(self, y, k):
-        if not 1 <= y <= YEARS:
-            return refused(1)
-        return refused(15) if k > 23 else [f"TERM {487 * (24 * (y - 1) + k) // 32}"]
-
-    def conjunction(self, planet, k):
-        return planet_line("CONJUNCTION", conjunction(planet, k))
-
-    def next(self, planet, day):
-        return planet_line("NEXT", next_conjunction(planet, day))
-
-    def search(self, reading, first, last):
-        if not (first < DAYS and last < DAYS):
-            return refused(6)
-        if last < first or last - first + 1 > 27759:
-            return refused(13)
-        if any(f is not None and not 1 <= f <= most for f, most in zip(reading, (60, 12, 2, 30, 60, 60))):
-            return refused(14)
-        days = [d for d in range(first, last + 1) if all(f is None or f == v for f, v in zip(reading, self.six(d)))]
-        return [f"FOUND {len(days)}"] + [line for d in days for line in self.day(d)]
-
-    def answer(self, line):
-        """The lines that answer a line, which is bytes without its newline."""
-        for word, form in FORMS.items():
-            found = form.fullmatch(line)
-            if found and len(line) <= 200:
-                return self.asked(word, found.groups())
-        return ["UNREADABLE"]
-
-    def asked(self, word, fields):
-        if word == "SEARCH":
-            reading = [MARKS[f] if i == 2 else None if f == b"?" else int(f) for i, f in enumerate(fields[:6])]
-            return self.search(reading, int(fields[6]), int(fields[7]))
-        numbers = [f == b"L" if f in (b"-", b"L") else int(f) for f in fields]
-        calls = {"PLACE": self.place, "YEAR": self.year_of, "MONTH": self.month, "QUARTER": self.quarter, "TERM": self.term,
-                 "CONJUNCTION": self.conjunction, "NEXT": self.next, "DAY": self.day, "DATE": self.date, "MOVE": self.date}
-        return calls[word](*numbers)
-
-
+OLD_WORDS = [word for word in FORMS if word != "PAIR"]
 WORKED = """PLACE 11
 PLACE 9366
 PLACE 1
@@ -335,15 +227,23 @@ def long_lines():
             b"SEARCH" + b" ?" * 97, b"x" * 200, b"x" * 201, b"YEAR 11" + b" " * 500, b"\xff\x00" * 400]
 
 
-def drawn(answers, draw):
-    """A query, its fields near the true ones or near the edges."""
+def drawn(desk, draw, words):
+    """A query of one of these words, or a note, its fields near the true ones or near the edges."""
     def near(most):
-        return draw.choice((draw.randint(0, most), draw.randint(0, most), draw.randint(0, 3), draw.randint(most - 1, most + 2), draw.randint(0, 2 ** 40)))
+        return draw.choice((draw.randint(0, most), draw.randint(0, most), draw.randint(0, 3), draw.randint(most - 1, most + 2),
+                            draw.randint(0, 2 ** 40)))
 
-    word = draw.choice(list(FORMS))
+    word = draw.choice(words)
+    if word == "#":
+        size = draw.choice((0, 1, 7, 40, 197, 198, 199, 200, 201, 300))
+        return "#" + "".join(draw.choice(" #abcXYZ0123-?") for _ in range(size))
+    if word == "PAIR":
+        return f"PAIR {draw.choice((1, 2, 3, 4, 5, near(5)))}"
     day = draw.randrange(DAYS)
-    y, k, l, m, _, dn, yn = answers.date_fields(day)
-    date = f"{y} {k} {mark(l)} {m}" if draw.random() < 0.8 else f"{near(YEARS)} {draw.randint(0, 13)} {draw.choice('-L')} {draw.randint(0, 31)}"
+    y, k, l, m, _, dn, yn = desk.date_fields(day)
+    date = f"{y} {k} {mark(l)} {m}"
+    if draw.random() >= 0.8:
+        date = f"{near(YEARS)} {draw.randint(0, 13)} {draw.choice('-L')} {draw.randint(0, 31)}"
     if word in ("PLACE", "YEAR"):
         return f"{word} {near(YEARS)}"
     if word == "MONTH":
@@ -360,44 +260,130 @@ def drawn(answers, draw):
     if word == "DATE":
         return f"DATE {date}"
     if word == "MOVE":
-        return f"MOVE {date} {draw.choice((1, -1)) * draw.choice((draw.randint(1, 400), draw.randint(1, 2 ** 24), draw.randint(1, 2 ** 70)))}"
+        sign = draw.choice((1, -1))
+        return f"MOVE {date} {sign * draw.choice((draw.randint(1, 400), draw.randint(1, 2 ** 24), draw.randint(1, 2 ** 70)))}"
     first = max(0, day - draw.randint(0, 400))
-    six = answers.six(day)
-    fields = ["?" if draw.random() < 0.4 else "-L"[v - 1] if i == 2 else str(v if draw.random() < 0.95 else v + draw.randint(0, 40)) for i, v in enumerate(six)]
+    six = desk.six(day)
+    fields = ["?" if draw.random() < 0.4 else "-L"[v - 1] if i == 2 else str(v if draw.random() < 0.95 else v + draw.randint(0, 40))
+              for i, v in enumerate(six)]
     return "SEARCH " + " ".join(fields) + f" {first} {first + draw.randint(-1, 800)}"
 
 
 def damaged(line, draw):
     at = draw.randrange(len(line))
-    return draw.choice((line[:at] + line[at + 1:], line[:at] + draw.choice(" -?L0xY\r") + line[at:], line.replace(" ", "  ", 1), line + " ", line[:at] + line[at:].lower()))
+    return draw.choice((line[:at] + line[at + 1:], line[:at] + draw.choice(" -?L0xY\r") + line[at:], line.replace(" ", "  ", 1),
+                        line + " ", line[:at] + line[at:].lower()))
 
 
-def queries(answers):
+def queries(desk):
     draw = random.Random(20261115)
     lines = [line.encode() for line in WORKED.splitlines() + WRONG] + long_lines()
     while sum(len(line) + 1 for line in lines) < 80000:
-        line = drawn(answers, draw)
+        line = drawn(desk, draw, OLD_WORDS)
         if len(lines) % 5 == 0:
             line = damaged(line, draw)
-        if len(answers.answer(line.encode())) <= 30:
+        if len(desk.told(line.encode())) <= 30:
             lines.append(line.encode())
     return lines
 
 
-def text(answers, lines):
-    return "".join(line + "\n" for query in lines for line in answers.answer(query))
+# The notes and the pairs: the lines that came after those above, which keep their bytes and their order.
+
+NOTES = [
+    "#", "# a note", "#YEAR 11", " # not a note", "##", "# 木周率四千三百二十七, a note of more bytes than letters", "#\t\r",
+    "YEAR 11 # not a note", "YEAR 11#", "# UNREADABLE", "# REFUSED 1 year outside 1 to 41,040", "?#", "", "# after an empty line",
+]
+PAIRS = [f"PAIR {p}" for p in (1, 2, 3, 4, 5, 0, 6, 10, 257, 261, 2**32 - 1, 2**32, 2**32 + 1, 2**64, 2**64 + 5, 10**40 + 3)]
+WRONG_PAIRS = [
+    "PAIR", "PAIR ", "PAIR 1 2", "PAIR 01", "PAIR 00", "PAIR -1", "PAIR -", "PAIR L", "PAIR ?", "PAIR 1 ", "PAIR  1", " PAIR 1",
+    "PAIR\t1", "PAIR 1\r", "PAIR 1#", "PAIRS 1", "PAI 1", "pair 1", "Pair 1", "PAIR 4725 4327", "PAIR1",
+]
+
+
+def long_notes():
+    """At most 200 bytes, which is a note, and more; a letter of three bytes may end at the 200th, or be cut there."""
+    return [b"#" + b"n" * 199, b"#" + b"n" * 200, b"#" + b" " * 500, b"#" * 200, b"#" * 201, b"# " + "木".encode() * 66,
+            b"# n" + "木".encode() * 66, b"#" + b"\xff\x00" * 99, b"#\xff\xfe\x00", b"PAIR " + b"9" * 195, b"PAIR " + b"9" * 196,
+            b"PAIR 1" + b" " * 300]
+
+
+def added(desk):
+    draw = random.Random(20261116)
+    lines = [line.encode() for line in NOTES + PAIRS + WRONG_PAIRS] + long_notes()
+    words = [*FORMS, "PAIR", "PAIR", "#", "#", "#"]
+    for turn in range(300):
+        line = drawn(desk, draw, words)
+        while len(desk.told(line.encode())) > 30:
+            line = drawn(desk, draw, words)
+        lines.append((damaged(line, draw) if turn % 5 == 0 else line).encode())
+    return lines + [b"# the last line has no newline", b"PAIR 3"]
+
+
+# The page of `echo`.
+
+ECHO = """# What echo does: a note is printed once; any other line is printed, up to 201 bytes of it, and then its answer.
+#
+##
+# Each kind of query, answered
+PLACE 9366
+YEAR 11
+YEAR 12
+MONTH 134
+QUARTER 115830 2
+TERM 9366 0
+CONJUNCTION 4 11826
+NEXT 4 3453334
+PAIR 4
+DAY 3420558
+DATE 11 9 L 29
+MOVE 1 11 - 1 27759
+SEARCH 27 9 ? 1 ? ? 3600 4000
+SEARCH 27 9 ? 30 ? ? 3600 3700
+# and refused
+PLACE 0
+YEAR 41041
+MONTH 507600
+QUARTER 0 4
+TERM 1 24
+CONJUNCTION 1 37584
+NEXT 1 14989826
+PAIR 6
+DAY 14989860
+DATE 11 9 L 30
+MOVE 1 11 - 1 -1
+SEARCH 61 ? ? ? ? ? 0 5
+# No queries: a word of the answers, a space before the mark of a note, letters for a number, an empty line, a space, a return
+UNREADABLE
+ # not a note
+YEAR eleven
+
+ 
+YEAR 11\r
+# A note in 004's letters: 木周率四千三百二十七
+木周率四千三百二十七
+# Lines of 200, 201, 202 and 500 bytes: the first is a number that is refused, the others are cut in what is printed
+"""
+
+
+def echo_lines():
+    lines = [line.encode() for line in ECHO.split("\n")[:-1]]
+    lines += [b"YEAR " + b"9" * (size - 5) for size in (200, 201, 202, 500)]
+    lines += [b"# The same with a note's mark: 200 bytes are a note, more are not"]
+    lines += [(b"#" + bytes(range(97, 123)) * 20)[:size] for size in (200, 201, 202, 500)]
+    return lines + [b"\xff\x00\xff", b"# The last line has no newline", b"DAY 0"]
 
 
 def main():
-    answers = Answers()
-    if "--answer" in sys.argv[1:]:
-        data = sys.stdin.buffer.read()
-        lines = data.split(b"\n")
-        sys.stdout.write(text(answers, lines[:-1] if lines[-1] == b"" else lines))
-        return 0
-    lines = queries(answers)
-    folder = ROOT / "crates" / "desk"
-    return hold({folder / "stdin": b"\n".join(lines), folder / "stdout": text(answers, lines).encode()})
+    desk = Desk()
+    for word, call in (("--answer", desk.answer), ("--echo", desk.echo)):
+        if word in sys.argv[1:]:
+            sys.stdout.buffer.write(b"".join(map(call, lines_in(sys.stdin.buffer.read()))))
+            return 0
+    files = {}
+    for program, lines, call in (("desk", queries(desk) + added(desk), desk.answer), ("echo", echo_lines(), desk.echo)):
+        files[ROOT / "crates" / program / "stdin"] = b"\n".join(lines)
+        files[ROOT / "crates" / program / "stdout"] = b"".join(map(call, lines))
+    return hold(files)
 
 
 if __name__ == "__main__":

@@ -1,31 +1,23 @@
 #!/usr/bin/env python3
-"""The rows of 004's figures that the calls answer: the input of the program `eras`, and what it must write.
+"""The rows of 004's figures that the base answers: the page of the program `eras`, and what it must write.
 
-The rows stand in tools/eras.tsv, unchanged from the collection of 004's figures that they were chosen from. What the rule gives
-is computed here from the walked calendar of expected.py, and is held against the collection's own column `rule` at every item.
+The rows stand in tools/eras.tsv, unchanged from the collection of 004's figures that they were chosen from. On the page each row is a
+note: its name, 004's lines, kind and inputs, what 004 prints, and its words where there is room. After it stand the queries that
+answer it. The expected answer has 004's own figures in their places (tools/pages.py); what 004 does not print is computed by
+tools/walked.py. Where a figure is a misprint the note says so, with what the rule gives, and the expected answer has the rule's. What
+the rule gives is held against the collection's own column `rule` at every item.
 
-In, and asked of the calls: year-name, year-place, year-place-bu, bu-head, bu-year-name, year-start, leap-month, month-start,
-bu-month, month-number, month-step, eclipse-month, quarter, quarter-day-of-month, solstice, term, term12, midterm-month, reading,
-eclipse-count, big-pair, identity (two: the second way to a first day, the second way to an eclipse); and of the planets planet,
-planet-parity, planet-in-month, planet-count, planet-gcd, the constants 周率, 日率 and 日度法, and the rows of the kinds arith and
-const that speak of conjunctions: one conjunction's parts and the two long counts, a planet's conjunctions in its years, its
-morning conjunctions in them (see ASKED: the program has a kind of its own for each).
+In, and asked at the desk: see Asked, which has the queries of each kind, and the place of each item in the answers. In, and not to be
+read off an answer of the desk: see BESIDE; the program `beside` asks these of the calls, and their notes say so. A row of the kinds
+planet-const, arith, const, identity and the like that has a question in it gets a kind of its own: see NAMED.
 Out, by kind: see OUT, with the reason of each. Out, by class: CONVENTION (another way of counting, eclipses from other epochs).
 
-Of the planets' figures planet, planet-parity and planet-divisor (日度法) are asked of `kth_conjunction`, planet-in-month of it and
-of the month's first day, planet-gcd of `common_divisor`, planet-conjunctions (周率) and planet-years (日率) of `reduced_pair`.
-planet-parts, planet-long-days and planet-long-circle are made of what `kth_conjunction` answers for k = 1: its day times the
-divisor and its parts; four times that; 1,461 times the divisor. planet-mornings counts the morning ones among the first so many
-as the pair has conjunctions, from k = 0 on.
-planet-count (積合 and 合餘, by the end of year Y): `next_conjunction` from the day of the next year's solstice, which is the year's
-end, has a count k; if its moment is after the end, in parts of the divisor, the last conjunction by then is that of k - 1. No call
-gives the 合餘, Y × 周率 - k × 日率; since a year is 1,461 quarters of a day, 1 of it is 1,461 parts of the divisor, so that the program
-makes it of the parts from the moment of the last conjunction to the end of the year. That end is 1,461 × Y quarters of a day by
-01's year, and the program asks `term` whether its whole part is the solstice's day. Here both come by 004's own way, one division
-of Y × 周率 by 日率.
+planet-count (積合 and 合餘, by the end of year Y): the year ends with the next year's solstice. The first conjunction from that day on
+is one more than the last by then. No query gives the 合餘, Y × 周率 - k × 日率; since a year is 1,461 quarters of a day, 1 of it is 1,461
+parts of the divisor, so that 004's figure says when the last conjunction was, and stands in the answer as its day and parts.
 
 Of a solstice and a term only the day and its name are compared, of term12 only the day: the remainder of a term is not in the
-base, it waits for request W2. So a row whose misprint stands in the remainder alone (T24) agrees, and its line says so.
+base, it waits for request W2. So a row whose misprint stands in the remainder alone (T24) agrees, and its note says so.
 term12 rounds to whole twelfths: where 31 of 32 parts become 12 twelfths its day is one more than the rule's whole day. That is
 no misprint and not the rule's day either; such a row (T52) gets the class ROUNDED here.
 A mark `-` of a month is `ordinary` where the month's number is stated, and else not stated: here `leap=no` and `leap=-`.
@@ -39,7 +31,9 @@ import pathlib
 import sys
 
 sys.dont_write_bytecode = True
-from expected import PLANETS, ROOT, Desk, common_divisor, hold, kth, name
+
+from pages import Page, fields
+from walked import LONGEST, PLANETS, ROOT, hold, kth
 
 ROWS = ROOT / "tools" / "eras.tsv"
 COLUMNS = "id kind inputs printed rule lines agrees class literal quote note".split()
@@ -61,7 +55,7 @@ OUT = {
 }
 OUT_CLASSES = {"CONVENTION"}
 
-# The items of each kind that is asked, in the collection's order; one in brackets is not answered by a call.
+# The items of each kind that is asked, in the collection's order; one in brackets is not in the base, and is not asked.
 IN = {
     "year-name": "name",
     "year-place": "ji bu year-in-bu",
@@ -100,10 +94,21 @@ IN = {
     "planet-mornings": "conjunctions",
 }
 
+# The kinds that count over many, ask for all, or are sums of an answer's figures: no answer of the desk has them.
+BESIDE = """eclipse-count big-pair first-day-identity next-eclipse-identity
+planet-gcd planet-parts planet-long-days planet-long-circle planet-mornings""".split()
+
 # The classes of rows that differ, in the order of the total.
 CLASSES = ["MISPRINT(numeral)", "MISPRINT(scan gap/interleave)", "SOURCE-DATE", "ROUNDED"]
-HEADING = "FIGURES OF 004 BY ITS LINES (L), AND WHAT THE CALLS ANSWER; - IS NOT STATED IN 004"
-
+HEADING = [
+    "FIGURES OF 004: the row's name, 004's lines (L), kind and inputs, what 004 prints, and its words where there is room.",
+    "- is not stated in 004; what stands in brackets is not in the base, and is not asked.",
+    "Where a figure is not the answer's own: elapsed years are one less than the year in the bu;",
+    "the days of bu-month and planet-in-month are counted from the first day of the first month that is asked;",
+    "the days of month-step are less whole sixties, one less than the name;",
+    "the conjunctions of planet-count are one less than the next k, and 1 of its remainder is 1,461 parts of the divisor,",
+    "from the last conjunction to the end of the year.",
+]
 
 
 def sums(p):
@@ -118,7 +123,7 @@ def sums(p):
 
 
 # Questions that the collection puts in a sentence, a sum or a word: kind and inputs of the row.
-ASKED = {
+NAMED = {
     "5 months": ("month-step", "months=5"),
     "civil 9368..9460": ("eclipse-count", "first-civil=9368 last-civil=9460"),
     "remainder r of a month: previous and this both big": ("big-pair", "months=941"),
@@ -141,159 +146,145 @@ NAMES = {STEMS[i % 10] + BRANCHES[i % 12]: i + 1 for i in range(60)}
 YES_NO = {True: "yes", False: "no"}
 
 
-class Rule:
-    """What the rule gives for a question, all items of its kind, from the walked calendar."""
+# Where an item stands: by the place of its query, the fields of its answer and what is made of the figure there.
 
-    def __init__(self):
-        self.desk = Desk()
-        self.c = self.desk.c
 
-    def first_year(self, ji, bu):
-        return 1520 * (ji - 1) + 76 * (bu - 1) + 1
+def at(query, field, made=str):
+    return query, {field: made}
 
-    def first_month(self, year):
-        return self.c.months_of[year][0]
 
-    def head_name(self, year):
-        """The name of the first day of the year."""
-        return name(self.c.starts[self.first_month(year)], 1)
+def plus(k):
+    return lambda figure: str(int(figure) + k)
 
-    def small_remainder(self, n):
-        return 27759 * n - 940 * self.c.starts[n]
 
-    def is_eclipse(self, n):
-        return 23 * (n + 1) % 135 < 23
+def either(yes, no):
+    return {"yes": yes, "no": no}.__getitem__
+
+
+class Asked:
+    """The queries of each kind, and where each of its items stands in their answers."""
+
+    def __init__(self, page):
+        self.page = page
+        self.c = page.desk.c
+
+    def told(self, query, field):
+        return int(fields(self.page.answer(query)[0])[field])
+
+    def bu(self, ji, bu):
+        """The first year of a bu of the first yuan, and its place."""
+        year = 1520 * (ji - 1) + 76 * (bu - 1) + 1
+        place = self.page.desk.place(year)[0]
+        assert [fields(place)[field] for field in ("ji", "bu", "year-in-bu")] == [str(ji), str(bu), "1"]
+        return year
 
     def year_name(self, year):
-        return [name(year - 1, 17)]
+        return [f"YEAR {year}"], [at(0, "name")]
 
     def year_place(self, year):
-        rest = (year - 1) % 4560
-        return [rest // 1520 + 1, rest % 1520 // 76 + 1, rest % 76 + 1]
+        return [f"PLACE {year}"], [at(0, "ji"), at(0, "bu"), at(0, "year-in-bu")]
 
     def year_place_bu(self, year):
-        elapsed = (year - 1) % 76
-        return [self.head_name(year - elapsed), elapsed]
+        return [f"PLACE {year}"], [at(0, "head-name"), at(0, "year-in-bu", plus(1))]
 
     def bu_head(self, bu):
-        return [self.head_name(self.first_year(1, bu))]
+        return [f"PLACE {self.bu(1, bu)}"], [at(0, "head-name")]
 
     def bu_year_name(self, ji, bu):
-        return self.year_name(self.first_year(ji, bu))
+        year = self.bu(ji, bu)
+        return [f"PLACE {year}", f"YEAR {year}"], [at(1, "name")]
 
     def year_start(self, year):
-        return [self.first_month(year), 235 * (year - 1) % 19]
+        return [f"PLACE {year}"], [at(0, "first-month"), at(0, "leap-remainder")]
 
     def leap_month(self, year):
-        (n,) = [n for n in self.c.months_of[year] if self.c.leap[n]]
-        return [self.c.number[n], n]
+        return [f"YEAR {year}"], [at(0, "leap-number"), at(0, "leap-month")]
 
     def month_start(self, n):
-        return [self.c.starts[n], self.small_remainder(n), name(self.c.starts[n], 1)]
+        return [f"MONTH {n}"], [at(0, "first-day"), at(0, "small-remainder"), at(0, "first-name")]
 
     def bu_month(self, bu, months):
-        head = self.first_month(self.first_year(1, bu))
-        return [self.c.starts[head + months] - self.c.starts[head], self.small_remainder(head + months)]
+        """The days from the bu's head: to be added to its first day."""
+        year = self.bu(1, bu)
+        head = self.told(f"PLACE {year}", "first-month")
+        days = plus(self.told(f"MONTH {head}", "first-day"))
+        queries = [f"PLACE {year}", f"MONTH {head}", f"MONTH {head + months}"]
+        return queries, [at(2, "first-day", days), at(2, "small-remainder")]
 
     def month_number(self, n):
-        return [self.c.number[n], YES_NO[self.c.leap[n]]]
+        return [f"MONTH {n}"], [at(0, "number"), at(0, "mark", either("L", "-"))]
 
     def month_step(self, months):
-        return [self.c.starts[months] % 60, self.small_remainder(months)]
+        """Days less whole sixties: so many names after the first, which is 1."""
+        return [f"MONTH {months}"], [at(0, "first-name", plus(1)), at(0, "small-remainder")]
 
     def eclipse_month(self, n):
-        return [YES_NO[self.is_eclipse(n)]] + self.month_number(n)
+        return [f"MONTH {n}"], [at(0, "eclipse", either("E", "-")), at(0, "number"), at(0, "mark", either("L", "-"))]
 
     def quarter(self, n, q):
-        day, parts = divmod(27759 * (4 * n + q), 3760)
-        return [day, parts, name(day, 1)]
+        query = f"QUARTER {n} {q}"
+        return [query, f"DAY {self.told(query, 'day')}"], [at(0, "day"), at(0, "parts"), at(1, "day-name")]
 
     def quarter_day_of_month(self, n, q):
-        day = self.quarter(n, q)[0]
+        query = f"QUARTER {n} {q}"
+        day = self.told(query, "day")
         assert self.c.month_of(day) == n
-        return [day - self.c.starts[n] + 1]
+        return [query, f"DAY {day}"], [at(1, "day-of-month")]
 
     def term(self, year, k):
-        day, parts = divmod(487 * (24 * (year - 1) + k), 32)
-        return [day, parts, name(day, 1)]
+        query = f"TERM {year} {k}"
+        return [query, f"DAY {self.told(query, 'day')}"], [at(0, "day"), None, at(1, "day-name")]
 
     def solstice(self, year):
         return self.term(year, 0)
 
     def term12(self, year, k):
-        day, parts = self.term(year, k)[:2]
-        return [day, (12 * parts + 16) // 32]
+        queries, (day, *_) = self.term(year, k)
+        return queries, [day, None]
 
     def midterm_month(self, k):
-        n = self.c.month_of(self.term(1, k)[0])
-        assert not self.c.leap[n]
-        return [self.c.number[n]]
+        return self.term(1, k)[0], [at(1, "number")]
 
     def reading(self, year, number, leap, day_name):
-        days = [d for n in self.c.months_of[year] if (self.c.number[n], self.c.leap[n]) == (number, leap) for d in range(self.c.starts[n], self.c.starts[n + 1])]
-        return [YES_NO[day_name in [name(d, 1) for d in days]]]
-
-    def eclipse_count(self, first, last):
-        months = range(self.c.by_name[(first, 1, False)], self.c.by_name[(last + 1, 1, False)])
-        return [sum(map(self.is_eclipse, months))]
-
-    def big_pair(self, months):
-        seconds = [self.small_remainder(n) for n in range(1, months) if self.c.length(n - 1) == self.c.length(n) == 30]
-        return [min(seconds), max(seconds)]
-
-    def first_day_identity(self, years):
-        """Against the first day and small remainder, in parts of 940."""
-        first = {y: self.first_month(y) for y in range(1, years + 1)}
-        parts = {y: 940 * self.c.starts[n] + self.small_remainder(n) for y, n in first.items()}
-        return [YES_NO[all(343335 * (y - 1) - 1461 * (235 * (y - 1) % 19) == parts[y] for y in first)]]
-
-    def next_eclipse_identity(self, months):
-        """From month 1 on: from month 0 it names the month before the origin. Where nothing is left over at once, the month before."""
-
-        def holds(n):
-            steps, rest = divmod(112 * n % 135, 23)
-            named = n + steps - (rest == 0)
-            return self.is_eclipse(named) and not any(self.is_eclipse(m) for m in range(n, named))
-
-        return [YES_NO[all(holds(n) for n in range(1, months + 1))]]
+        """In the 384 days from the year's first, which the longest year has: a month has one day of a name at most."""
+        year_name = self.told(f"YEAR {year}", "name")
+        first = self.c.starts[self.c.months_of[year][0]]
+        query = f"SEARCH {year_name} {number} {'L' if leap else '-'} ? {day_name} ? {first} {first + 383}"
+        return [query], [at(0, "total", either("1", "0"))]
 
     def planet(self, p, k):
-        return list(kth(p, k)[:3])
+        return [f"CONJUNCTION {p} {k}"], [at(0, "day"), at(0, "parts"), at(0, "divisor")]
 
     def planet_parity(self, p, k):
-        return [YES_NO[kth(p, k)[3] == "evening"]]
+        return [f"CONJUNCTION {p} {k}"], [at(0, "phase", either("E", "M"))]
 
     def planet_in_month(self, p, k, n):
-        day, parts = kth(p, k)[:2]
-        assert self.c.month_of(day) == n
-        return [day - self.c.starts[n], parts]
+        """The days after the month's first: to be added to it."""
+        assert self.c.month_of(kth(p, k)[0]) == n
+        return [f"MONTH {n}", f"CONJUNCTION {p} {k}"], [at(1, "day", plus(self.c.starts[n])), at(1, "parts")]
 
     def planet_count(self, p, years):
-        return list(divmod(years * PLANETS[p][0], PLANETS[p][1]))
-
-    def planet_gcd(self, a, b):
-        return [common_divisor(a, b)]
+        """The next year's solstice is the end; the first conjunction from its day on is after it; the last one before."""
+        conjunctions = PLANETS[p][0]
+        end, divisor = 1461 * conjunctions * years, 4 * conjunctions
+        solstice = self.told(f"TERM {years + 1} 0", "day")
+        k = self.told(f"NEXT {p} {solstice}", "k")
+        day, parts = kth(p, k)[:2]
+        assert solstice == end // divisor and day * divisor + parts > end
+        last = {
+            "day": lambda rest: str((end - 1461 * int(rest)) // divisor),
+            "parts": lambda rest: str((end - 1461 * int(rest)) % divisor),
+        }
+        return [f"TERM {years + 1} 0", f"NEXT {p} {solstice}", f"CONJUNCTION {p} {k - 1}"], [at(1, "k", plus(1)), (2, last)]
 
     def planet_conjunctions(self, p):
-        return [PLANETS[p][0]]
+        return [f"PAIR {p}"], [at(0, "conjunctions")]
 
     def planet_years(self, p):
-        return [PLANETS[p][1]]
+        return [f"PAIR {p}"], [at(0, "years")]
 
     def planet_divisor(self, p):
-        return [4 * PLANETS[p][0]]
-
-    def planet_parts(self, p):
-        return [1461 * PLANETS[p][1]]
-
-    def planet_long_days(self, p):
-        return [4 * 1461 * PLANETS[p][1]]
-
-    def planet_long_circle(self, p):
-        return [1461 * 4 * PLANETS[p][0]]
-
-    def planet_mornings(self, p):
-        return [sum(kth(p, k)[3] == "morning" for k in range(PLANETS[p][0]))]
+        return [f"CONJUNCTION {p} 1"], [at(0, "divisor")]
 
 
 def rows_in(path):
@@ -304,7 +295,7 @@ def rows_in(path):
 
 def asked_as(row):
     """The program's kind, and inputs."""
-    return ASKED.get(row["inputs"], (row["kind"], row["inputs"]))
+    return NAMED.get(row["inputs"], (row["kind"], row["inputs"]))
 
 
 def is_used(row):
@@ -340,46 +331,84 @@ def items(row, column):
     return ["-" if (row["id"], l) in NOT_PRINTED else s for l, s in zip(labels, said, strict=True)]
 
 
-def carried(day_and_twelfths):
-    """A day and twelfths with twelve twelfths made a day, as 004 prints them."""
-    day, twelfths = day_and_twelfths
-    return [day + twelfths // 12, twelfths % 12]
-
-
-def checked(row, given):
-    """Holds the collection's own columns against what the rule gives."""
-    stated = carried(given) if row["kind"] == "term12" else given
+def stated(row):
+    """The items' labels, what 004 prints and what the collection says that the rule gives; it differs where the row says so."""
     printed, ruled = items(row, "printed"), items(row, "rule")
-    assert all(s == "-" or s == str(g) for s, g in zip(ruled, stated, strict=True)), (row, given)
-    assert [s == "-" for s in printed] == [s == "-" for s in ruled], row
+    assert [p == "-" for p in printed] == [r == "-" for r in ruled], row
     assert (printed == ruled) == (row["agrees"] == "yes") == (row["class"] == ""), row
-    return printed, "ROUNDED" if stated != given else row["class"]
+    return IN[asked_as(row)[0]].split(), printed, ruled
+
+
+def held_terms(kind, numbers, ruled):
+    """Of a term the items that are not asked, held against the rule; of term12 the rule's day, with whether it was rounded up."""
+    year, k = (*numbers, 0)[:2]
+    day, parts = divmod(487 * (24 * (year - 1) + k), 32)
+    if kind != "term12":
+        assert ruled[1] in ("-", str(parts)), (kind, numbers)
+        return ruled, False
+    twelfths = (12 * parts + 16) // 32
+    rounded = [str(day + twelfths // 12), str(twelfths % 12)]
+    assert ruled == rounded, (kind, numbers)
+    return [str(day), ruled[1]], day != int(rounded[0])
 
 
 class Run:
-    """The program's input and output, row by row. A row is `ID KIND INPUTS LINES: ITEMS; CLASS`, its line the row and what is found."""
+    """The page, row by row, and what was found of each row."""
 
     def __init__(self):
-        self.rule = Rule()
-        self.input, self.output, self.found = [], [HEADING], []
+        self.page = Page()
+        self.asked = Asked(self.page)
+        self.found = {"desk": collections.Counter(), "beside": collections.Counter()}
+        for line in HEADING:
+            self.page.note(line)
 
     def row(self, row):
         kind, inputs, numbers = question(row)
-        given = getattr(self.rule, kind.replace("-", "_"))(*numbers)
-        printed, word = checked(row, given)
-        asked = [(l, p, str(g)) for l, p, g in zip(IN[kind].split(), printed, given) if l[0] != "["]
-        agrees = all(p in ("-", g) for _, p, g in asked)
-        text = f"{row['id']} {kind} {inputs} L{row['lines']}: " + " ".join(f"{l}={p}" for l, p, _ in asked)
+        labels, printed, ruled = stated(row)
+        word = row["class"]
+        if kind in ("solstice", "term", "term12"):
+            ruled, rounded = held_terms(kind, numbers, ruled)
+            word = "ROUNDED" if rounded else word
+        differs = [f"{l}={r}" for l, p, r in zip(labels, printed, ruled) if p != r and l[0] != "["]
+        assert word or not differs, row
+        shown = [f"[{l[1:-1]}={p}]" if l[0] == "[" else f"{l}={p}" for l, p in zip(labels, printed)]
+        text = f"{row['id']} L{row['lines']} {kind} {inputs}: " + " ".join(shown)
         if word:
-            text += f"; {word}" + (" in what is not asked" if agrees else "")
-        self.input.append(text)
-        self.output.append(text + (": AGREES" if agrees else ": THE RULE GIVES " + " ".join(f"{l}={g}" for l, _, g in asked)))
-        self.found.append("AGREE" if agrees else word)
+            text += f"; {word}: the rule gives {' '.join(differs)}" if differs else f"; {word} in what is not asked"
+        if kind in BESIDE:
+            text += "; asked by the program `beside`"
+        self.note(text, row["quote"])
+        if kind not in BESIDE:
+            self.ask(kind, numbers, list(zip(labels, printed, ruled)))
+        self.found["beside" if kind in BESIDE else "desk"][word if differs else "AGREE"] += 1
 
-    def total(self):
-        count = collections.Counter(self.found)
-        assert set(count) <= {"AGREE", *CLASSES}, count
-        return [f"ROWS {len(self.found)}"] + [f" {c} {count[c]}" for c in ["AGREE"] + CLASSES] + [" OF NO CLASS 0"]
+    def note(self, text, quote):
+        whole = f"{text}; {quote}"
+        self.page.note(whole if len(f"# {whole}".encode()) <= LONGEST else text)
+
+    def ask(self, kind, numbers, said):
+        """The queries, with the figures that 004 prints, but for those that the rule gives otherwise."""
+        queries, places = getattr(self.asked, kind.replace("-", "_"))(*numbers)
+        answers = [fields(self.page.answer(query)[0]) for query in queries]
+        figures = [{} for _ in queries]
+        for (label, printed, ruled), place in zip(said, places, strict=True):
+            assert (place is None) == (label[0] == "["), (kind, label)
+            if place is None or ruled == "-":
+                continue
+            at_query, made = place
+            given = {field: make(ruled) for field, make in made.items()}
+            assert given.items() <= answers[at_query].items(), (kind, numbers, given, answers)
+            if printed == ruled:
+                figures[at_query] |= {field: make(printed) for field, make in made.items()}
+        for query, of_query in zip(queries, figures):
+            self.page.ask(query, of_query)
+
+    def totals(self):
+        everywhere = self.found["desk"] + self.found["beside"]
+        assert set(everywhere) <= {"AGREE", *CLASSES}, everywhere
+        for where, count in (("ROWS", everywhere), ("AT THE DESK", self.found["desk"]), ("BESIDE", self.found["beside"])):
+            each = ", ".join(f"{word} {count[word]}" for word in ("AGREE", *CLASSES))
+            self.page.note(f"{where} {count.total()}: {each}")
 
 
 def main():
@@ -390,8 +419,8 @@ def main():
     for row in rows_in(ROWS):
         assert is_used(row)
         run.row(row)
-    texts = {"stdin": run.input, "stdout": run.output + run.total()}
-    return hold({ROOT / "crates" / "eras" / file: "".join(line + "\n" for line in lines).encode() for file, lines in texts.items()})
+    run.totals()
+    return hold(run.page.files("eras"))
 
 
 if __name__ == "__main__":

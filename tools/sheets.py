@@ -2,7 +2,7 @@
 """The sheets of the program `sheets`, and what it must write for them, by a computation of its own.
 
 The sheets are made here, byte by byte, and stand in crates/sheets/data/, their names in crates/sheets/args. What must be
-written is computed from them by the walked calendar, the plain reader and the plain lines of tools/expected.py, which share
+written is computed from them by the walked calendar, the plain reader and the plain lines of tools/walked.py, which share
 nothing with the library.
 
 usage: tools/sheets.py            write the sheets, their names and the expected output
@@ -10,7 +10,9 @@ usage: tools/sheets.py            write the sheets, their names and the expected
 """
 import sys
 
-from expected import DAYS, MONTHS, ROOT, YEARS, Desk, day_or_refusal, hold, month_fields, read_sheet, year_block
+sys.dont_write_bytecode = True
+
+from walked import DAYS, MONTHS, ROOT, YEARS, Desk, hold, listed_day, month_fields, read_sheet, year_block
 
 
 def two(n):
@@ -103,7 +105,7 @@ def listing(desk, data):
         return f"REFUSED {read}\n"
     lines = [line for y in read[0] for line in year_block(desk, y)]
     lines += ["MONTH " + month_fields(desk, n) for n in read[1]]
-    lines += [day_or_refusal(desk, d) for d in read[2]]
+    lines += [listed_day(desk, d) for d in read[2]]
     return "".join(line + "\n" for line in lines)
 
 

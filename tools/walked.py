@@ -1,0 +1,444 @@
+"""The calendar walked month by month, and every answer of the desk: what the other tools compute with. A module, not a program.
+
+It shares nothing with the library. The calendar is walked from the origin, mid-terms are looked for among all even terms on each
+month's days, numbers are given out by the paper's two sentences, and every date is found by looking it up. A planet's next
+conjunction is searched for among its counts. A query line is read by regular expressions. In order:
+
+- the ranges and the words of the reasons,
+- the walked calendar, the big pairs, names and marks,
+- the planets,
+- the sheet, read and written byte by byte,
+- the desk: a line's answer, its echo, and the listing's lines,
+- `hold`, which writes a tool's files or says whether they stand.
+"""
+import bisect
+import math
+import pathlib
+import re
+import sys
+
+sys.dont_write_bytecode = True
+
+ROOT = pathlib.Path(__file__).resolve().parent.parent
+YEARS, MONTHS, DAYS = 41040, 507600, 14989860
+
+WORDS = {
+    1: "year outside 1 to 41,040",
+    2: "month number outside 1 to 12",
+    3: "day of month outside 1 to 30",
+    4: "leap month asked and that year has none of that number",
+    5: "day 30 of a 29-day month",
+    6: "day count outside the range",
+    7: "month count outside the range",
+    8: "a move ends outside the range",
+    9: "sheet ends before a count or an item is whole",
+    10: "a count above 1,000",
+    11: "bytes after the last section",
+    12: "a lent list or buffer too short for the whole answer",
+    13: "window's last day before its first, or more than 27,759 days",
+    14: "a known field of a reading outside its range",
+    15: "term above 23 or quarter above 3",
+    19: "planet outside 1 to 5",
+    20: "no conjunction falls from the given day to the end of the range",
+}
+
+
+def refused(k):
+    return f"REFUSED {k} {WORDS[k]}"
+
+
+# The calendar.
+
+
+class Calendar:
+    """Every month of the range: first day, number, leap mark, year; by walking, not by formula."""
+
+    def __init__(self):
+        self.starts = [27759 * n // 940 for n in range(MONTHS + 1)]
+        mid_days = {}
+        for t in range(0, 24 * YEARS + 48, 2):
+            mid_days[487 * t // 32] = t % 24
+        self.number, self.leap, self.year = [], [], []
+        year, previous = 0, None
+        for n in range(MONTHS):
+            held = [mid_days[d] for d in range(self.starts[n], self.starts[n + 1]) if d in mid_days]
+            assert len(held) <= 1
+            if held and held[0] == 0:
+                year += 1
+            if held:
+                previous = [11, 12, 1, 2, 3, 4, 5, 6, 7, 8, 9, 10][held[0] // 2]
+            self.number.append(previous)
+            self.leap.append(not held)
+            self.year.append(year)
+        self.by_name = {}
+        self.months_of = {}
+        for n in range(MONTHS):
+            key = (self.year[n], self.number[n], self.leap[n])
+            assert key not in self.by_name
+            self.by_name[key] = n
+            self.months_of.setdefault(self.year[n], []).append(n)
+
+    def length(self, n):
+        return self.starts[n + 1] - self.starts[n]
+
+    def small_remainder(self, n):
+        return 27759 * n - 940 * self.starts[n]
+
+    def month_of(self, day):
+        """The month that a day of the range is in."""
+        return bisect.bisect_right(self.starts, day) - 1
+
+
+def pair_starts():
+    """The months with which a big pair starts, as the clerk walks them, 29 days and 499 parts a month, to 940 after the range.
+
+    It stops where a sentence of request W12 does not hold of them."""
+    months, rest, rests, big = MONTHS + 940, 0, [], []
+    for _ in range(months + 2):
+        rests.append(rest)
+        rest += 499
+        big.append(rest >= 940)
+        rest -= 940 * big[-1]
+    starts = [n for n in range(months) if big[n] and big[n + 1]]
+    assert all(big[n] or big[n + 1] for n in range(months))
+    assert not any(big[n] and big[n + 1] and big[n + 2] for n in range(months))
+    assert starts == [n for n in range(months) if rests[n] >= 882]
+    assert {after - before for before, after in zip(starts, starts[1:])} == {15, 17}
+    in_940 = {bisect.bisect_left(starts, n + 940) - bisect.bisect_left(starts, n) for n in range(MONTHS)}
+    assert in_940 == {58}
+    return starts
+
+
+def name(count, first):
+    """The name of a count, day 0 having 1 and year 1 having 17: round sixty."""
+    return (first - 1 + count) % 60 + 1
+
+
+def mark(leap):
+    return "L" if leap else "-"
+
+
+def is_eclipse(n):
+    """Whether a month is an eclipse month."""
+    return 23 * (n + 1) % 135 < 23
+
+
+# The planets. "004 gives conjunctions per years": planet, conjunctions, years.
+
+PLANETS = {1: (4327, 4725), 2: (879, 1876), 3: (9096, 9415), 4: (5830, 4661), 5: (11908, 1889)}
+
+
+def phase(p, k):
+    """Of Venus and Mercury: an odd count is a morning conjunction, M, an even one an evening one, E."""
+    if p < 4:
+        return "-"
+    return "M" if k % 2 == 1 else "E"
+
+
+def kth(p, k):
+    """Day, parts, divisor and phase of a planet's k-th conjunction, in range or not."""
+    conjunctions, years = PLANETS[p]
+    return *divmod(k * years * 1461, 4 * conjunctions), 4 * conjunctions, phase(p, k)
+
+
+def conjunction(p, k):
+    """The same, or the reason's number."""
+    if p not in PLANETS:
+        return 19
+    return kth(p, k) if kth(p, k)[0] < DAYS else 6
+
+
+def next_conjunction(p, day):
+    """The count and the conjunction that comes first on or after the day, looked for among the counts, or the reason's number."""
+    if p not in PLANETS:
+        return 19
+    if not day < DAYS:
+        return 6
+    k = bisect.bisect_left(range(DAYS), day, key=lambda j: kth(p, j)[0])
+    assert kth(p, k)[0] >= day and (k == 0 or kth(p, k - 1)[0] < day)
+    return (k, *kth(p, k)) if kth(p, k)[0] < DAYS else 20
+
+
+def pair(p):
+    """Years and conjunctions, or the reason's number."""
+    return PLANETS[p][::-1] if p in PLANETS else 19
+
+
+def last_count(p):
+    """The count of a planet's last conjunction in range."""
+    return bisect.bisect_left(range(DAYS), DAYS, key=lambda k: kth(p, k)[0]) - 1
+
+
+def common_divisor(a, b):
+    """The largest number that divides both, looked for among all that divide the second."""
+    low = [d for d in range(1, math.isqrt(b) + 1) if b % d == 0]
+    return max(d for d in low + [b // d for d in low] if a % d == 0)
+
+
+# The sheet. Of each section: an item's bytes, its least and greatest, the reason of one outside.
+
+SECTIONS = ((2, 1, YEARS, 1), (4, 0, MONTHS - 1, 7), (4, 0, DAYS - 1, 6))
+
+
+def take_number(data, at, width):
+    """The number of so many bytes at a place, least byte first; None where they are not all there."""
+    if at + width > len(data):
+        return None
+    return sum(data[at + i] << (8 * i) for i in range(width))
+
+
+def read_sheet(data, rooms):
+    """The three lists, or the reason's number: in byte order, then 11, then 12."""
+    at, lists = 0, []
+    for width, least, most, reason in SECTIONS:
+        count = take_number(data, at, 2)
+        if count is None:
+            return 9
+        if count > 1000:
+            return 10
+        at += 2
+        items = []
+        for _ in range(count):
+            item = take_number(data, at, width)
+            if item is None:
+                return 9
+            if not least <= item <= most:
+                return reason
+            items.append(item)
+            at += width
+        lists.append(items)
+    if at < len(data):
+        return 11
+    if any(len(items) > room for items, room in zip(lists, rooms)):
+        return 12
+    return lists
+
+
+def write_sheet(lists, room):
+    """The bytes, or the reason's number."""
+    out = b""
+    for items, (width, least, most, reason) in zip(lists, SECTIONS):
+        if len(items) > 1000:
+            return 10
+        for item in items:
+            if not least <= item <= most:
+                return reason
+        out += len(items).to_bytes(2, "little") + b"".join(item.to_bytes(width, "little") for item in items)
+    return 12 if len(out) > room else out
+
+
+# The desk: what its lines look like. A number, a mark, a signed number; a field and a mark of a reading.
+
+N = rb"(0|[1-9][0-9]*)"
+M = rb"([-L])"
+S = rb"(0|-?[1-9][0-9]*)"
+F = rb"(0|[1-9][0-9]*|\?)"
+G = rb"([-L?])"
+FORMS = {
+    "PLACE": [N],
+    "YEAR": [N],
+    "MONTH": [N],
+    "QUARTER": [N, N],
+    "TERM": [N, N],
+    "CONJUNCTION": [N, N],
+    "NEXT": [N, N],
+    "PAIR": [N],
+    "DAY": [N],
+    "DATE": [N, N, M, N],
+    "MOVE": [N, N, M, N, S],
+    "SEARCH": [F, F, G, F, F, F, N, N],
+}
+FORMS = {word: re.compile(b" ".join([word.encode(), *fields])) for word, fields in FORMS.items()}
+MARKS = {b"-": 1, b"L": 2, b"?": None}
+LONGEST = 200
+
+
+def is_note(line):
+    return line.startswith(b"#") and len(line) <= LONGEST
+
+
+def lines_in(data):
+    """The lines of an input, each without its newline; a final line without a newline counts."""
+    lines = data.split(b"\n")
+    return lines[:-1] if lines[-1] == b"" else lines
+
+
+def planet_line(word, answer):
+    """A planet's answer: its fields, or its refusal."""
+    return refused(answer) if isinstance(answer, int) else " ".join([word, *map(str, answer)])
+
+
+class Desk:
+    """The desk over the walked calendar. Each query has a method, which gives the lines of its answer."""
+
+    def __init__(self):
+        self.c = Calendar()
+
+    # What a day is, and what a date is.
+
+    def date_fields(self, day):
+        """Year, number, whether leap, day of month, month length, day name, year name."""
+        n = self.c.month_of(day)
+        y = self.c.year[n]
+        day_of_month = day - self.c.starts[n] + 1
+        return (y, self.c.number[n], self.c.leap[n], day_of_month, self.c.length(n), name(day, 1), name(y - 1, 17))
+
+    def six(self, day):
+        """A day's six values, in the paper's order."""
+        n = self.c.month_of(day)
+        y, k, l, m, _, dn, yn = self.date_fields(day)
+        return (yn, k, 2 if l else 1, m, dn, name(self.c.starts[n], 1))
+
+    def find(self, y, k, l, m):
+        """The day, or the reason's number as a negative."""
+        if not 1 <= y <= YEARS:
+            return -1
+        if not 1 <= k <= 12:
+            return -2
+        if not 1 <= m <= 30:
+            return -3
+        if (y, k, l) not in self.c.by_name:
+            assert l
+            return -4
+        n = self.c.by_name[(y, k, l)]
+        if m > self.c.length(n):
+            return -5
+        return self.c.starts[n] + m - 1
+
+    def fitting(self, reading, first, last):
+        """The days of a window that fit a reading of six values, None being unread."""
+        return [d for d in range(first, last + 1) if all(f is None or f == v for f, v in zip(reading, self.six(d)))]
+
+    # The queries.
+
+    def place(self, y):
+        if not 1 <= y <= YEARS:
+            return [refused(1)]
+        elapsed = y - 1
+        in_yuan = elapsed % 4560
+        ji, rest = in_yuan // 1520 + 1, in_yuan % 1520
+        bu, year_in_bu = rest // 76 + 1, rest % 76 + 1
+        head_year = y - (year_in_bu - 1)
+        head = name(self.c.starts[self.c.months_of[head_year][0]], 1)
+        months = self.c.months_of[y]
+        return [f"PLACE {ji} {bu} {year_in_bu} {head} {months[0]} {235 * elapsed % 19} {len(months)}"]
+
+    def year(self, y):
+        if not 1 <= y <= YEARS:
+            return [refused(1)]
+        months = self.c.months_of[y]
+        leap = ([f"{self.c.number[n]} {n}" for n in months if self.c.leap[n]] + ["- -"])[0]
+        return [f"YEAR {y} NAME {name(y - 1, 17)} MONTHS {len(months)} FIRST {months[0]} LEAP {leap}"]
+
+    def month(self, n):
+        if not 0 <= n < MONTHS:
+            return [refused(7)]
+        return [f"MONTH {month_fields(self, n)} {self.c.starts[n]} {self.c.small_remainder(n)}"]
+
+    def quarter(self, n, q):
+        if not 0 <= n < MONTHS:
+            return [refused(7)]
+        return [refused(15) if q > 3 else "QUARTER %d %d" % divmod(27759 * (4 * n + q), 3760)]
+
+    def term(self, y, k):
+        if not 1 <= y <= YEARS:
+            return [refused(1)]
+        return [refused(15) if k > 23 else f"TERM {487 * (24 * (y - 1) + k) // 32}"]
+
+    def conjunction(self, p, k):
+        return [planet_line("CONJUNCTION", conjunction(p, k))]
+
+    def next(self, p, day):
+        return [planet_line("NEXT", next_conjunction(p, day))]
+
+    def pair(self, p):
+        return [planet_line("PAIR", pair(p))]
+
+    def day(self, d):
+        if not 0 <= d < DAYS:
+            return [refused(6)]
+        y, k, l, m, length, dn, yn = self.date_fields(d)
+        return [f"DAY {d} {y} {k} {mark(l)} {m} {dn} {length} {yn}"]
+
+    def date(self, y, k, l, m, n=0):
+        """A date, or a date moved by n days."""
+        found = self.find(y, k, l, m)
+        if found < 0:
+            return [refused(-found)]
+        return self.day(found + n) if 0 <= found + n < DAYS else [refused(8)]
+
+    def search(self, reading, first, last):
+        if not (first < DAYS and last < DAYS):
+            return [refused(6)]
+        if last < first or last - first + 1 > 27759:
+            return [refused(13)]
+        if any(f is not None and not 1 <= f <= most for f, most in zip(reading, (60, 12, 2, 30, 60, 60))):
+            return [refused(14)]
+        days = self.fitting(reading, first, last)
+        return [f"FOUND {len(days)}"] + [line for d in days for line in self.day(d)]
+
+    # A line, which is bytes without its newline.
+
+    def told(self, line):
+        """The lines that answer a line that is no note."""
+        for word, form in FORMS.items():
+            found = form.fullmatch(line)
+            if found and len(line) <= LONGEST:
+                return self.asked(word, found.groups())
+        return ["UNREADABLE"]
+
+    def asked(self, word, fields):
+        if word == "SEARCH":
+            reading = [MARKS[f] if i == 2 else None if f == b"?" else int(f) for i, f in enumerate(fields[:6])]
+            return self.search(reading, int(fields[6]), int(fields[7]))
+        values = [f == b"L" if f in (b"-", b"L") else int(f) for f in fields]
+        return getattr(self, {"MOVE": "date"}.get(word, word.lower()))(*values)
+
+    def answer(self, line):
+        """What the desk prints for a line."""
+        if is_note(line):
+            return line + b"\n"
+        return "".join(told + "\n" for told in self.told(line)).encode()
+
+    def echo(self, line):
+        """What echo prints for a line: a note once, any other line, up to 201 bytes of it, and its answer."""
+        return self.answer(line) if is_note(line) else line[:LONGEST + 1] + b"\n" + self.answer(line)
+
+
+# The listing's lines.
+
+
+def month_fields(desk, n):
+    """The six fields of a month's line."""
+    c = desk.c
+    eclipse = "E" if is_eclipse(n) else "-"
+    return f"{n} {c.number[n]} {mark(c.leap[n])} {name(c.starts[n], 1)} {c.length(n)} {eclipse}"
+
+
+def year_block(desk, y):
+    """A year's header and its months' lines."""
+    months = desk.c.months_of[y]
+    return [f"YEAR {y} NAME {name(y - 1, 17)} MONTHS {len(months)}"] + [month_fields(desk, n) for n in months]
+
+
+def listed_day(desk, day):
+    """A day's line in a listing."""
+    y, k, l, m, _, dn, _ = desk.date_fields(day)
+    return f"DAY {day} {y} {k} {mark(l)} {m} {dn}"
+
+
+# The files of a tool.
+
+
+def hold(files):
+    """Write the files, or with --check say of each program whether its files stand as computed. The exit status."""
+    if "--check" not in sys.argv[1:]:
+        for path, data in files.items():
+            path.parent.mkdir(exist_ok=True)
+            path.write_bytes(data)
+        return 0
+    wrong = {path for path, data in files.items() if not (path.exists() and path.read_bytes() == data)}
+    for program in dict.fromkeys(path.relative_to(ROOT).parts[1] for path in files):
+        strange = sorted(str(path.relative_to(ROOT)) for path in wrong if path.relative_to(ROOT).parts[1] == program)
+        print(f"{program}: {'as computed' if not strange else 'NOT as computed: ' + ', '.join(strange)}")
+    return 1 if wrong else 0
