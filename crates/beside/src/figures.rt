@@ -126,8 +126,7 @@ fn how_many(t: Test, from: u32, until: u32) -> u32 {
 }
 
 fn count(t: Test, from: u32, until: u32) {
-    show::text(b" FROM");
-    show::next(from as u64);
+    show::field(b" FROM", from as u64);
     show::line(b" BEFORE", until as u64);
     show::line(b"COUNT", how_many(t, from, until) as u64);
 }
@@ -152,8 +151,7 @@ fn long_counts(parts: u64, divisor: u32) {
     }
     let days = 4 * parts;
     let circle = 1461 * (divisor as u64);
-    show::text(b"SUMS");
-    show::next(parts);
+    show::field(b"SUMS", parts);
     show::next(days);
     show::next(circle);
     show::line(b" DIVISOR", planets::common_divisor(days, circle));

@@ -10,8 +10,7 @@ use dates::Dated;
 use planets::ConjunctionTold;
 
 fn moved(year: u32, number: u32, leap: bool, day_of_month: u32, days: i64) {
-    show::text(b"MOVE");
-    show::next(year as u64);
+    show::field(b"MOVE", year as u64);
     show::next(number as u64);
     show::mark(leap);
     show::next(day_of_month as u64);
@@ -24,10 +23,8 @@ fn moved(year: u32, number: u32, leap: bool, day_of_month: u32, days: i64) {
 }
 
 fn conjunction(p: u32, k: u64) {
-    show::text(b"CONJUNCTION");
-    show::next(p as u64);
-    show::next(k);
-    show::text(b"\n");
+    show::field(b"CONJUNCTION", p as u64);
+    show::line(b"", k);
     match planets::kth_conjunction(p, k) {
         ConjunctionTold::Is(c) => show::conjunction(c),
         ConjunctionTold::Refused(why) => show::refused(why),

@@ -5,11 +5,9 @@ use sheet::SheetCounts;
 fn counts(told: SheetCounts) {
     match told {
         SheetCounts::Is(c) => {
-            show::text(b"COUNTS");
-            show::next(c.years as u64);
+            show::field(b"COUNTS", c.years as u64);
             show::next(c.months as u64);
-            show::next(c.days as u64);
-            show::text(b"\n");
+            show::line(b"", c.days as u64);
         }
         SheetCounts::Refused(why) => show::refused(why),
     }

@@ -16,10 +16,15 @@ pub fn next(n: u64) {
     io::print_decimal(1, n);
 }
 
-// A line of a word and a number.
-pub fn line(word: &[u8], n: u64) {
+// A word, and a number.
+pub fn field(word: &[u8], n: u64) {
     text(word);
     next(n);
+}
+
+// A line of a word and a number.
+pub fn line(word: &[u8], n: u64) {
+    field(word, n);
     text(b"\n");
 }
 
