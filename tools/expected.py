@@ -232,7 +232,7 @@ class Figures:
         return [*notes, f"PLANET-SUMS {p}", "SUMS {} {} {} DIVISOR {}".format(*given)]
 
     def all(self):
-        yield "# Figures of 004 that no one answer gives: the row, its lines, what 004 prints"
+        yield "# Figures of 004 that no one answer gives: row, lines and what 004 prints; COUNT is of how many numbers it holds"
         yield from [*self.eclipses(), *self.big_pairs(), *self.first_days(), *self.next_eclipses()]
         yield from [*self.mornings("P89", 4), *self.mornings("P109", 5)]
         yield from self.sums(1, "P04", "P05", "P06", "P07", "R18")

@@ -2,7 +2,6 @@
 use dates::DayTold;
 use facts::MonthTold;
 use facts::SolsticeYearTold;
-use planets::Conjunction;
 use planets::ConjunctionTold;
 use planets::Phase;
 
@@ -158,7 +157,9 @@ fn long_counts(parts: u64, divisor: u32) {
 }
 
 fn counts() {
-    show::text(b"# Figures of 004 that no one answer gives: the row, its lines, what 004 prints\n");
+    show::text(
+        b"# Figures of 004 that no one answer gives: row, lines and what 004 prints; COUNT is of how many numbers it holds\n",
+    );
     show::text(b"# H35 L535: 196\nECLIPSE-COUNT 9368 9460");
     count(Test::Eclipse(new_year(9368), new_year(9461)), 0, 507600);
     show::text(b"# Q18 L2519: 441 498\nBIG-PAIR 441 498");

@@ -22,8 +22,8 @@ fn end() {
     show::text(b"\n");
 }
 
-// A question of a word and two numbers.
-fn asked(word: &[u8], a: u32, b: u64) {
+// A line of a word and two numbers.
+fn two(word: &[u8], a: u32, b: u64) {
     show::field(word, a as u64);
     show::next(b);
     end();
@@ -158,16 +158,16 @@ fn eclipse(there: bool) {
 
 // A quarter of a month (0 new, 1 first, 2 full, 3 last): its day, and the rest in parts of 3,760.
 fn quarter(n: u32, q: u32) {
-    asked(b"QUARTER", n, q as u64);
+    two(b"QUARTER", n, q as u64);
     match facts::quarter(n, q) {
-        QuarterTold::Is(f) => asked(b"QUARTER", f.day, f.parts as u64),
+        QuarterTold::Is(f) => two(b"QUARTER", f.day, f.parts as u64),
         QuarterTold::Refused(why) => show::refused(why),
     }
 }
 
 // A term of a year (0 to 23, 0 the solstice): its day.
 fn term(year: u32, k: u32) {
-    asked(b"TERM", year, k as u64);
+    two(b"TERM", year, k as u64);
     match facts::term(year, k) {
         TermTold::Is(day) => show::line(b"TERM", day as u64),
         TermTold::Refused(why) => show::refused(why),
@@ -297,7 +297,7 @@ fn print_day(day: u32) {
 // A planet's conjunction by its count (planets 1 to 5: Jupiter, Mars, Saturn, Venus, Mercury; the count from 0): its day, its
 // remainder in parts, of how many they are, and whether it is a morning or an evening one.
 fn conjunction(planet: u32, k: u64) {
-    asked(b"CONJUNCTION", planet, k);
+    two(b"CONJUNCTION", planet, k);
     match planets::kth_conjunction(planet, k) {
         ConjunctionTold::Is(c) => {
             show::text(b"CONJUNCTION");
@@ -309,7 +309,7 @@ fn conjunction(planet: u32, k: u64) {
 
 // The first conjunction of a planet on or after a day: its count, and the conjunction.
 fn next_conjunction(planet: u32, day: u32) {
-    asked(b"NEXT", planet, day as u64);
+    two(b"NEXT", planet, day as u64);
     match planets::next_conjunction(planet, day) {
         NextTold::Is(next) => {
             let c = next.conjunction;
