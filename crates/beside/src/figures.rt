@@ -22,19 +22,16 @@ fn new_year(year: u32) -> u32 {
     }
 }
 
-fn is_eclipse(n: u32) -> bool {
-    let MonthTold::Is(f) = facts::month_facts(n) else {
-        return false;
-    };
-    f.eclipse
-}
-
 // An eclipse month that starts from a day on and before another.
 fn is_eclipse_between(n: u32, from: u32, until: u32) -> bool {
     let MonthTold::Is(f) = facts::month_facts(n) else {
         return false;
     };
     f.eclipse & (from <= f.first_day) & (f.first_day < until)
+}
+
+fn is_eclipse(n: u32) -> bool {
+    is_eclipse_between(n, 0, 14989860)
 }
 
 // Whether a month's small remainder is 441 to 498 where it and the month before are big, and else not.

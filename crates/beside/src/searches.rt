@@ -32,19 +32,13 @@ fn shown_mark(k: u32) {
 }
 
 fn reading(y: u32, n: u32, l: u32, m: u32, d: u32, f: u32) -> Reading {
-    let f1 = field(y);
-    let f2 = field(n);
-    let f3 = field(l);
-    let f4 = field(m);
-    let f5 = field(d);
-    let f6 = field(f);
     Reading {
-        year_name: f1,
-        month_number: f2,
-        leap_mark: f3,
-        day_of_month: f4,
-        day_name: f5,
-        first_name: f6,
+        year_name: field(y),
+        month_number: field(n),
+        leap_mark: field(l),
+        day_of_month: field(m),
+        day_name: field(d),
+        first_name: field(f),
     }
 }
 
