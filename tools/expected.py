@@ -177,21 +177,30 @@ class Figures:
         names = lines[0].split("\t")
         self.rows = {row["id"]: row for row in (dict(zip(names, line.split("\t"))) for line in lines[1:])}
 
-    def note(self, row, given):
-        """A row's note: its lines, and what 004 prints. It is what is given, or of a class."""
-        row = self.rows[row]
-        assert (row["printed"] == given) == (row["agrees"] == "yes") == (row["class"] == ""), row
-        return f"# {row['id']} L{row['lines']}: {row['printed']}" + (row["class"] and f", {row['class']}")
+    def note(self, name, asked, given):
+        """A row's note as on the page of `eras`: its lines, what is asked, what 004 prints; and what is given, where it is a misprint."""
+        row, labels = self.rows[name], [label for label, _ in given]
+        said = ["yes" if p == "holds" else p for p in row["printed"].split()]
+        text = f"# {name} L{row['lines']} {asked}: " + " ".join(f"{l}={p}" for l, p in zip(labels, said, strict=True))
+        differs = [f"{l}={g}" for (l, g), p in zip(given, said) if str(g) != p]
+        assert (not differs) == (row["agrees"] == "yes") == (row["class"] == ""), (row, given)
+        return text + (f"; {row['class']}: the rule gives {' '.join(differs)}" if differs else "")
 
-    def counted(self, row, question, passing, numbers, given=None):
-        """A count, and what it gives for the row: the count itself, or `given` where it passes for all the numbers."""
+    def counted(self, question, passing, numbers):
+        """The count, its question and its answer."""
         count = sum(map(passing, numbers))
-        assert given is None or count == len(numbers)
-        return [self.note(row, given or str(count)), f"{question} FROM {numbers[0]} BEFORE {numbers[-1] + 1}", f"COUNT {count}"]
+        return count, f"{question} FROM {numbers[0]} BEFORE {numbers[-1] + 1}", f"COUNT {count}"
+
+    def held(self, question, passing, numbers):
+        """The same of what must hold of every number."""
+        count, *lines = self.counted(question, passing, numbers)
+        assert count == len(numbers)
+        return lines
 
     def eclipses(self):
         first, end = (self.c.by_name[year, 1, False] for year in (9368, 9461))
-        return self.counted("H35", "ECLIPSE-COUNT 9368 9460", lambda n: first <= n < end and is_eclipse(n), range(MONTHS))
+        count, *lines = self.counted("ECLIPSE-COUNT 9368 9460", lambda n: first <= n < end and is_eclipse(n), range(MONTHS))
+        return [self.note("H35", "eclipse-count first-civil=9368 last-civil=9460", [("eclipse-months", count)]), *lines]
 
     def big_pairs(self):
         """The second of two big months: exactly where its small remainder is between the least and the most of these."""
@@ -200,16 +209,18 @@ class Figures:
             return self.c.length(n - 1) == self.c.length(n) == 30
 
         rests = [self.c.small_remainder(n) for n in range(1, 941) if is_second(n)]
-        bounds = f"{min(rests)} {max(rests)}"
-        holds = lambda n: is_second(n) == (min(rests) <= self.c.small_remainder(n) <= max(rests))
-        return self.counted("Q18", f"BIG-PAIR {bounds}", holds, range(1, 941), bounds)
+        least, most = min(rests), max(rests)
+        note = self.note("Q18", "big-pair months=941", [("least", least), ("most", most)])
+        holds = lambda n: is_second(n) == (least <= self.c.small_remainder(n) <= most)
+        return [note, *self.held(f"BIG-PAIR {least} {most}", holds, range(1, 941))]
 
     def first_days(self):
         def holds(y):
             n = self.c.months_of[y][0]
             return 343335 * (y - 1) - 1461 * (235 * (y - 1) % 19) == 940 * self.c.starts[n] + self.c.small_remainder(n)
 
-        return self.counted("N06", "FIRST-DAY-IDENTITY", holds, range(1, YEARS + 1), "holds")
+        note = self.note("N06", "first-day-identity years=41040", [("holds", "yes")])
+        return [note, *self.held("FIRST-DAY-IDENTITY", holds, range(1, YEARS + 1))]
 
     def next_eclipses(self):
         """From month 1 on: from month 0 it names the month before the origin."""
@@ -219,20 +230,30 @@ class Figures:
             named = n + steps - (rest == 0)
             return is_eclipse(named) and not any(is_eclipse(m) for m in range(n, named))
 
-        return self.counted("N38", "NEXT-ECLIPSE-IDENTITY", holds, range(1, 20001), "holds")
+        note = self.note("N38", "next-eclipse-identity months=20000", [("holds", "yes")])
+        return [note, *self.held("NEXT-ECLIPSE-IDENTITY", holds, range(1, 20001))]
 
-    def mornings(self, row, p):
-        return self.counted(row, f"PLANET-MORNINGS {p}", lambda k: kth(p, k)[3] == "M", range(PLANETS[p][0]))
+    def mornings(self, name, p):
+        count, *lines = self.counted(f"PLANET-MORNINGS {p}", lambda k: kth(p, k)[3] == "M", range(PLANETS[p][0]))
+        return [self.note(name, f"planet-mornings p={p}", [("conjunctions", count)]), *lines]
 
-    def sums(self, p, *rows):
+    def sums(self, p, *names):
         day, parts, divisor, _ = kth(p, 1)
         whole = day * divisor + parts
-        given = [whole, 4 * whole, 1461 * divisor, common_divisor(4 * whole, 1461 * divisor)]
-        notes = [self.note(row, str(g)) for row, g in zip(rows, [*given, whole])]
-        return [*notes, f"PLANET-SUMS {p}", "SUMS {} {} {} DIVISOR {}".format(*given)]
+        days, circle = 4 * whole, 1461 * divisor
+        common = common_divisor(days, circle)
+        asked = [
+            (f"planet-parts p={p}", ("parts", whole)),
+            (f"planet-long-days p={p}", ("parts", days)),
+            (f"planet-long-circle p={p}", ("parts", circle)),
+            (f"planet-gcd a={days} b={circle}", ("common-divisor", common)),
+            (f"planet-parts p={p}", ("parts", whole)),
+        ]
+        notes = [self.note(name, question, [given]) for name, (question, given) in zip(names, asked)]
+        return [*notes, f"PLANET-SUMS {p}", f"SUMS {whole} {days} {circle} DIVISOR {common}"]
 
     def all(self):
-        yield "# Figures of 004 that no one answer gives: row, lines and what 004 prints; COUNT is of how many numbers it holds"
+        yield "# Figures of 004 that no one answer gives, as on the page of eras; COUNT is of how many numbers it holds"
         yield from [*self.eclipses(), *self.big_pairs(), *self.first_days(), *self.next_eclipses()]
         yield from [*self.mornings("P89", 4), *self.mornings("P109", 5)]
         yield from self.sums(1, "P04", "P05", "P06", "P07", "R18")
