@@ -1,5 +1,8 @@
 #!/usr/bin/env python3
-"""What the programs `uses` and `printed` must write, by the walked calendar of tools/walked.py, which shares nothing with the library.
+"""What the programs `beside`, `uses` and `printed` must write, by the walked calendar of tools/walked.py, which shares nothing with the library.
+
+A question that the desk has is asked of the walked desk, with any numbers. What 004 prints stands in tools/eras.tsv; where a row
+agrees, what is computed here is held against it.
 
 usage: tools/expected.py            write the expected output of each program it knows
        tools/expected.py --check    say whether what stands is what it computes (exit status 1 if not)
@@ -8,195 +11,295 @@ import sys
 
 sys.dont_write_bytecode = True
 
-from walked import (DAYS, MONTHS, ROOT, YEARS, Desk, common_divisor, conjunction, hold, listed_day, mark, month_fields,
-                    next_conjunction, pair, read_sheet, refused, write_sheet, year_block)
-
-PHASES = {"M": "morning", "E": "evening"}
-
-
-def refusal(k):
-    return " " + refused(k)
+from walked import (DAYS, MONTHS, PLANETS, ROOT, YEARS, Desk, common_divisor, hold, is_eclipse, kth, listed_day, month_fields,
+                    read_sheet, refused, write_sheet, year_block)
 
 
 def spaced(numbers):
     return "".join(f" {n}" for n in numbers)
 
 
-def told(answer):
-    """An answer's fields, or its refusal."""
-    return refusal(answer) if isinstance(answer, int) else spaced(PHASES.get(x, x) for x in answer)
+def echoed(desk, questions):
+    """Questions that the desk has, each with its answer."""
+    return "".join(desk.echo(line.encode()).decode() for line in questions).splitlines()
 
 
-def search_line(desk, reading, first, last):
-    """A search into a list of four sevens; None is unread."""
-    listed = [7, 7, 7, 7]
-    answer = " " + desk.search(reading, first, last)[0]
-    if answer.startswith(" FOUND"):
-        fitting = desk.fitting(reading, first, last)
-        if len(fitting) > len(listed):
-            answer = refusal(12) + f", TOTAL {len(fitting)}"
-        else:
-            listed = fitting + listed[len(fitting):]
-    fields = " ".join("?" if f is None else str(f) for f in reading)
-    return f"SEARCH {fields} {first} {last}:{answer}; LIST " + " ".join(map(str, listed))
+def filled(items, sevens):
+    """Sevens, after what stands in front of them."""
+    return [*items, *[7] * (sevens - len(items))]
 
 
-def read_line(data):
-    answer, lists = read_sheet(data, (2, 2, 2)), [[7, 7], [7, 7], [7, 7]]
-    if isinstance(answer, int):
-        text = refusal(answer)
-    else:
-        text = " COUNTS" + spaced(len(items) for items in answer)
-        lists = [items + old[len(items):] for items, old in zip(answer, lists)]
-    return f"SHEET{spaced(data)}:{text}; LISTS" + ",".join(spaced(items) for items in lists)
+# Searches into a lent list. A row is written as the desk's query, a mark that is none as its number.
+
+WINDOWS = """14989860 14989860, 14989859 14989860, 14989859 14989859, 5 4, 5 5, 0 27758, 0 27759, 4294967295 0"""
+OUTSIDE = """0 ? ? ? ? ?, ? 0 ? ? ? ?, ? ? 0 ? ? ?, ? ? ? 0 ? ?, ? ? ? ? 0 ?, ? ? ? ? ? 0,
+    61 ? ? ? ? ?, ? 13 ? ? ? ?, ? ? 3 ? ? ?, ? ? ? 31 ? ?, ? ? ? ? 61 ?, ? ? ? ? ? 273, 60 12 L 30 60 60"""
+ORDER = """61 ? ? ? ? ? 14989860 0, 61 ? ? ? ? ? 5 4, 61 ? ? ? ? ? 0 9, ? ? ? ? ? ? 0 4, ? ? ? ? ? ? 0 3, ? ? ? 1 ? ? 0 27758"""
+KEPT = """27 9 L 1 ? 58 0 27758, ? 10 L 30 60 ? 14962101 14989859,
+    27 5 - 1 ? ? 3600 3900, 27 5 - 15 ? ? 3600 3900, 27 5 - 30 ? ? 3600 3900"""
 
 
-def write_line(years, months, days):
-    answer, buffer = write_sheet((years, months, days), 20), [7] * 20
-    if isinstance(answer, int):
-        text = refusal(answer)
-    else:
-        text = f" BYTES {len(answer)}"
-        buffer = list(answer) + buffer[len(answer):]
-    return f"WRITE{spaced(years)},{spaced(months)},{spaced(days)}:{text}; BUFFER{spaced(buffer)}"
+def rows(text, before="", after=""):
+    return [f"{before}{row.strip()}{after}" for row in text.split(",")]
 
 
-def sheets():
-    out = [read_line([0] * n) for n in (0, 1, 5, 6)]
-    out += [read_line(d) for d in ([1, 0, 11], [0, 0, 1, 0, 134, 0, 0], [0, 0, 0, 0, 1, 0, 0, 0, 0])]
-    out += [read_line([232, 3]), read_line([233, 3])]
-    out += [read_line([1, 0, *y.to_bytes(2, "little"), 0, 0, 0, 0]) for y in (0, 41040, 41041)]
-    out += [read_line([0, 0, 1, 0, *n.to_bytes(4, "little"), 0, 0]) for n in (507599, 507600)]
-    out += [read_line([0, 0, 0, 0, 1, 0, *d.to_bytes(4, "little")]) for d in (14989859, 14989860)]
-    out += [read_line([0] * 7), read_line([2, 0, 11, 0, 12, 0, 0, 0, 0, 0])]
-    three = [3, 0, 11, 0, 12, 0, 13, 0, 0, 0, 0, 0]
-    out += [read_line(three), read_line(three + [0]), read_line([3, 0, 11, 0, 0, 0, 13, 0, 0, 0, 0, 0, 0]), read_line([0, 0, 0, 0, 233, 3, 0])]
-    out += [write_line(*lists) for lists in (
-        ([11], [134], [3957]),
-        ([0], [], []),
-        ([41041], [507600], []),
-        ([41040], [507600], [14989860]),
-        ([41040], [507599], [14989860]),
-        ([41040], [507599], [14989859]),
-        (list(range(11, 18)), [], []),
-        (list(range(11, 19)), [], []),
-    )]
-    return out
+def found(desk, row, room):
+    """The answer of a search into a list of so many places, and what then stands at its front."""
+    values = [{"?": None, "-": 1, "L": 2}[f] if f in "?-L" else int(f) for f in row.split()]
+    answer = desk.search(values[:6], *values[6:])[:1]
+    if not answer[0].startswith("FOUND"):
+        return answer, []
+    days = desk.fitting(values[:6], *values[6:])
+    return ([refused(12), f"TOTAL {len(days)}"], []) if len(days) > room else (answer, days)
 
 
 def searches(desk):
-    unread = (None,) * 6
-
-    def only(place, value):
-        return tuple(value if i == place else None for i in range(6))
-
-    out = [search_line(desk, unread, f, l) for f, l in ((14989860, 14989860), (14989859, 14989860), (14989859, 14989859), (5, 4), (5, 5), (0, 27758), (0, 27759), (4294967295, 0))]
-    out += [search_line(desk, only(i, 0), 0, 3) for i in range(6)]
-    out += [search_line(desk, only(i, k), 0, 3) for i, k in enumerate((61, 13, 3, 31, 61, 273))]
-    out.append(search_line(desk, (60, 12, 2, 30, 60, 60), 0, 3))
-    out += [search_line(desk, only(0, 61), f, l) for f, l in ((14989860, 0), (5, 4), (0, 9))]
-    out += [search_line(desk, unread, 0, 4), search_line(desk, unread, 0, 3), search_line(desk, only(3, 1), 0, 27758)]
-    return out
-
-
-def searches_kept(desk):
-    out = [search_line(desk, (27, 9, 2, 1, None, 58), 0, 27758), search_line(desk, (None, 10, 2, 30, 60, None), 14962101, 14989859)]
-    return out + [search_line(desk, (27, 5, 1, m, None, None), 3600, 3900) for m in (1, 15, 30)]
+    groups = {
+        "# Searches into a list of four sevens: windows": rows(WINDOWS, before="? ? ? ? ? ? "),
+        "# Each field just outside its range, the marks 0 and 3 among them": rows(OUTSIDE, after=" 0 3"),
+        "# The order 6, 13, 14, 12; and 12 with its total, at the edge": rows(ORDER),
+        "# The first of a leap month, the last day, and days of the second of two big months": rows(KEPT),
+    }
+    for note, asked in groups.items():
+        yield note
+        for row in asked:
+            answer, days = found(desk, row, 4)
+            yield from [f"SEARCH {row} INTO 4", *answer, "LIST" + spaced(filled(days, 4))]
 
 
-def print_line(word, n, room, reason, lines):
-    """A text, none where it does not exist, into the first so many of thirty sevens."""
-    text = None if lines is None else "".join(line + "\n" for line in lines).encode()
-    buffer, answer = b"\7" * 30, f" BYTES {len(text)}" if text else refusal(reason)
-    if text and len(text) > room:
-        answer = refusal(12)
-    elif text:
-        buffer = text + buffer[len(text):]
-    return f"PRINT {word} {n} INTO {room}:{answer}; BUFFER{spaced(buffer)}"
+# Sheets.
+
+
+def lists_text(lists):
+    return ",".join(map(spaced, lists))
+
+
+def read(data, room=2):
+    """A sheet read into lists of so many sevens."""
+    answer = read_sheet(data, (room,) * 3)
+    good = isinstance(answer, list)
+    yield "SHEET" + spaced(data)
+    yield "COUNTS" + spaced(map(len, answer)) if good else refused(answer)
+    yield "LISTS" + lists_text(filled(items, room) for items in (answer if good else [[]] * 3))
+
+
+def put(answer, room):
+    """Bytes, or a reason's number, and a buffer of so many sevens."""
+    yield refused(answer) if isinstance(answer, int) else f"BYTES {len(answer)}"
+    yield "BUFFER" + spaced(filled(b"" if isinstance(answer, int) else answer, room))
+
+
+def write(*lists):
+    yield "WRITE" + lists_text(lists)
+    yield from put(write_sheet(lists, 20), 20)
+
+
+def little(n, width):
+    return list(n.to_bytes(width, "little"))
+
+
+def sheets():
+    three = [3, 0, 11, 0, 12, 0, 13, 0, 0, 0, 0, 0]
+    full = write_sheet(([YEARS] * 1000, [MONTHS - 1] * 1000, [DAYS - 1] * 1000), 10006)
+    back = read_sheet(full, (1000,) * 3)
+    asked = {
+        "# Sheets into lists of two sevens: cut short, and the paper's two of case 12": [
+            *([0] * n for n in (0, 1, 5, 6)), [1, 0, 11, 0, 0, 0, 0, 0], [1, 0, 11], [0, 0, 1, 0, 134, 0, 0], [0, 0, 0, 0, 1, 0, 0, 0, 0]],
+        "# A count and an item of each kind, just outside and just inside": [
+            *(little(n, 2) for n in (1000, 1001)),
+            *([1, 0, *little(y, 2), 0, 0, 0, 0] for y in (0, YEARS, YEARS + 1)),
+            *([0, 0, 1, 0, *little(n, 4), 0, 0] for n in (MONTHS - 1, MONTHS)),
+            *([0, 0, 0, 0, 1, 0, *little(d, 4)] for d in (DAYS - 1, DAYS))],
+        "# Bytes left over, lists too short, and the order: byte order, then 11, then 12": [
+            [0] * 7, [2, 0, 11, 0, 12, 0, 0, 0, 0, 0], three, [*three, 0], [3, 0, 11, 0, 0, 0, 13, 0, 0, 0, 0, 0, 0], [0, 0, 0, 0, 233, 3, 0]],
+    }
+    for note, sheets_of in asked.items():
+        yield note
+        for data in sheets_of:
+            yield from read(data)
+    yield "# Lists written into a buffer of twenty sevens"
+    last = ([YEARS], [MONTHS - 1], [DAYS - 1])
+    for lists in (([11], [134], [3957]), ([0], [], []), ([YEARS + 1], [MONTHS], []), ([YEARS], [MONTHS], [DAYS]), (*last[:2], [DAYS]), last,
+                  (range(11, 18), [], []), (range(11, 19), [], [])):
+        yield from write(*lists)
+    yield from ["# A full sheet, read back, and a year too many", "WRITE 1000 OF EACH", f"BYTES {len(full)}"]
+    yield from ["SHEET READ BACK", "COUNTS" + spaced(map(len, back)), "LAST" + lists_text(items[999:] for items in back)]
+    yield from ["WRITE 1001 YEARS", *put(write_sheet(([11] * 1001, [], []), 2), 2)]
+
+
+# Printed lines: a text, or the reason's number where it does not exist.
+
+
+def printed_text(desk, word, n):
+    lines, most, reason = {
+        "YEAR": (lambda: year_block(desk, n), YEARS + 1, 1),
+        "LINE": (lambda: [month_fields(desk, n)], MONTHS, 7),
+        "MONTH": (lambda: ["MONTH " + month_fields(desk, n)], MONTHS, 7),
+        "DAY": (lambda: [listed_day(desk, n)], DAYS, 6),
+    }[word]
+    return "".join(line + "\n" for line in lines()).encode() if (word == "YEAR") <= n < most else reason
 
 
 def printed_lines(desk):
-    def month(n, word):
-        return [word + month_fields(desk, n)] if 0 <= n < MONTHS else None
-
-    out = [print_line("YEAR", y, room, 1, year_block(desk, y) if 1 <= y <= YEARS else None) for y, room in ((0, 0), (41041, 30), (70000, 30), (11, 30))]
-    out += [print_line("LINE", n, room, 7, month(n, "")) for n, room in ((507600, 0), (507599, 0), (134, 15), (134, 16), (134, 30))]
-    out += [print_line("MONTH", n, room, 7, month(n, "MONTH ")) for n, room in ((507600, 0), (134, 21), (134, 22), (4294967295, 30))]
-    days = ((14989860, 0), (14989859, 29), (14989859, 30), (0, 30))
-    return out + [print_line("DAY", d, room, 6, [listed_day(desk, d)] if d < DAYS else None) for d, room in days]
-
-
-# The program `uses`: each call where it answers and where it is refused, a few figures of each answer.
-
-
-def date_text(desk, day):
-    y, k, l, m, length, dn, yn = desk.date_fields(day)
-    return f" {y} {k} {mark(l)} {m} {length} {dn} {yn}"
+    asked = {
+        "YEAR": ((0, 0), (YEARS + 1, 30), (70000, 30), (11, 30)),
+        "LINE": ((MONTHS, 0), (MONTHS - 1, 0), (134, 15), (134, 16), (134, 30)),
+        "MONTH": ((MONTHS, 0), (134, 21), (134, 22), (4294967295, 30)),
+        "DAY": ((DAYS, 0), (DAYS - 1, 29), (DAYS - 1, 30), (0, 30)),
+    }
+    yield "# Printed lines into a part of thirty sevens: what does not exist, then a buffer too short, just enough, and more"
+    for word, asked_of in asked.items():
+        for n, room in asked_of:
+            text = printed_text(desk, word, n)
+            yield f"PRINT {word} {n} INTO {room}"
+            yield from put(12 if isinstance(text, bytes) and len(text) > room else text, 30)
 
 
-def dated(desk, answer):
-    """A day's date as `show` prints it, or the refusal."""
-    return date_text(desk, int(answer.split()[1])) if answer.startswith("DAY") else " " + answer
+# Numbers beyond 32 bits.
 
 
-def figures(answer, places):
-    """Of the desk's line so many of its fields, or the refusal."""
-    fields = answer.split(" ")
-    return " " + answer if fields[0] == "REFUSED" else spaced(fields[i] for i in places)
+def large_numbers(desk):
+    least, most, greatest = -(2**63), 2**63 - 1, 2**64 - 1
+    out = [f"MOVE 1 13 - 1 {most}", f"MOVE 11 8 L 1 {least}", f"MOVE 1 11 - 1 {most}", f"MOVE 41040 10 L 30 {least}"]
+    out += [f"CONJUNCTION {p} {greatest}" for p in (0, 6, 261, 2**32 - 1, *PLANETS)]
+    first_of_65_bits = -(-(2**64) // (PLANETS[3][1] * 1461))
+    out += [f"CONJUNCTION {p} {k}" for p, k in ((1, 2**32), (3, first_of_65_bits - 1), (3, first_of_65_bits), (5, 2**63))]
+    return ["# The largest and least numbers of 64 bits, which the desk cuts down before it asks", *echoed(desk, out)]
 
 
-def block_or_refusal(desk, y):
-    return year_block(desk, y) if 1 <= y <= YEARS else ["no line:" + refusal(1)]
+# Figures of 004 that no one answer gives.
 
 
-def month_or_refusal(desk, word, n):
-    return word + month_fields(desk, n) if 0 <= n < MONTHS else "no line:" + refusal(7)
+class Figures:
+    def __init__(self, desk):
+        self.c = desk.c
+        lines = (ROOT / "tools" / "eras.tsv").read_text(encoding="utf8").splitlines()
+        names = lines[0].split("\t")
+        self.rows = {row["id"]: row for row in (dict(zip(names, line.split("\t"))) for line in lines[1:])}
+
+    def note(self, name, asked, given):
+        """A row's note as on the page of `eras`: its lines, what is asked, what 004 prints; and what is given, where it is a misprint."""
+        row, labels = self.rows[name], [label for label, _ in given]
+        said = ["yes" if p == "holds" else p for p in row["printed"].split()]
+        text = f"# {name} L{row['lines']} {asked}: " + " ".join(f"{l}={p}" for l, p in zip(labels, said, strict=True))
+        differs = [f"{l}={g}" for (l, g), p in zip(given, said) if str(g) != p]
+        assert (not differs) == (row["agrees"] == "yes") == (row["class"] == ""), (row, given)
+        return text + (f"; {row['class']}: the rule gives {' '.join(differs)}" if differs else "")
+
+    def counted(self, question, passing, numbers):
+        """The count, its question and its answer."""
+        count = sum(map(passing, numbers))
+        return count, f"{question} FROM {numbers[0]} BEFORE {numbers[-1] + 1}", f"COUNT {count}"
+
+    def held(self, question, passing, numbers):
+        """The same of what must hold of every number."""
+        count, *lines = self.counted(question, passing, numbers)
+        assert count == len(numbers)
+        return lines
+
+    def eclipses(self):
+        first, end = (self.c.by_name[year, 1, False] for year in (9368, 9461))
+        count, *lines = self.counted("ECLIPSE-COUNT 9368 9460", lambda n: first <= n < end and is_eclipse(n), range(MONTHS))
+        return [self.note("H35", "eclipse-count first-civil=9368 last-civil=9460", [("eclipse-months", count)]), *lines]
+
+    def big_pairs(self):
+        """The second of two big months: exactly where its small remainder is between the least and the most of these."""
+
+        def is_second(n):
+            return self.c.length(n - 1) == self.c.length(n) == 30
+
+        rests = [self.c.small_remainder(n) for n in range(1, 941) if is_second(n)]
+        least, most = min(rests), max(rests)
+        note = self.note("Q18", "big-pair months=941", [("least", least), ("most", most)])
+        holds = lambda n: is_second(n) == (least <= self.c.small_remainder(n) <= most)
+        return [note, *self.held(f"BIG-PAIR {least} {most}", holds, range(1, 941))]
+
+    def first_days(self):
+        def holds(y):
+            n = self.c.months_of[y][0]
+            return 343335 * (y - 1) - 1461 * (235 * (y - 1) % 19) == 940 * self.c.starts[n] + self.c.small_remainder(n)
+
+        note = self.note("N06", "first-day-identity years=41040", [("holds", "yes")])
+        return [note, *self.held("FIRST-DAY-IDENTITY", holds, range(1, YEARS + 1))]
+
+    def next_eclipses(self):
+        """From month 1 on: from month 0 it names the month before the origin."""
+
+        def holds(n):
+            steps, rest = divmod(112 * n % 135, 23)
+            named = n + steps - (rest == 0)
+            return is_eclipse(named) and not any(is_eclipse(m) for m in range(n, named))
+
+        note = self.note("N38", "next-eclipse-identity months=20000", [("holds", "yes")])
+        return [note, *self.held("NEXT-ECLIPSE-IDENTITY", holds, range(1, 20001))]
+
+    def mornings(self, name, p):
+        count, *lines = self.counted(f"PLANET-MORNINGS {p}", lambda k: kth(p, k)[3] == "M", range(PLANETS[p][0]))
+        return [self.note(name, f"planet-mornings p={p}", [("conjunctions", count)]), *lines]
+
+    def sums(self, p, *names):
+        day, parts, divisor, _ = kth(p, 1)
+        whole = day * divisor + parts
+        days, circle = 4 * whole, 1461 * divisor
+        common = common_divisor(days, circle)
+        asked = [
+            (f"planet-parts p={p}", ("parts", whole)),
+            (f"planet-long-days p={p}", ("parts", days)),
+            (f"planet-long-circle p={p}", ("parts", circle)),
+            (f"planet-gcd a={days} b={circle}", ("common-divisor", common)),
+            (f"planet-parts p={p}", ("parts", whole)),
+        ]
+        notes = [self.note(name, question, [given]) for name, (question, given) in zip(names, asked)]
+        return [*notes, f"PLANET-SUMS {p}", f"SUMS {whole} {days} {circle} DIVISOR {common}"]
+
+    def all(self):
+        yield "# Figures of 004 that no one answer gives, as on the page of eras; COUNT is of how many numbers it holds"
+        yield from [*self.eclipses(), *self.big_pairs(), *self.first_days(), *self.next_eclipses()]
+        yield from [*self.mornings("P89", 4), *self.mornings("P109", 5)]
+        yield from self.sums(1, "P04", "P05", "P06", "P07", "R18")
+        yield from self.sums(2, "P25", "P26", "P27", "P28")
+        yield from self.sums(3, "P46", "P47", "P48", "P49")
+        yield from self.sums(4, "P68", "P69", "P70", "P71")
+        yield from self.sums(5, "P93", "P94", "P95", "P96")
 
 
-def day_or_refusal(desk, day):
-    return listed_day(desk, day) if 0 <= day < DAYS else "no line:" + refusal(6)
+def beside(desk):
+    return [*searches(desk), *sheets(), *printed_lines(desk), *large_numbers(desk), *Figures(desk).all()]
 
 
-def uses_search(desk, first, last):
-    """The slip with the year name 27, the month number 9 and the day of month 1."""
-    reading = (27, 9, None, 1, None, None)
-    if last < first:
-        return f"search {first} {last}:" + refusal(13)
-    return f"search {first} {last}:" + spaced(desk.fitting(reading, first, last))
+# The program `uses`: each call where it answers and where it is refused.
+
+
+def uses_search(desk, row):
+    answer, days = found(desk, row, 4)
+    return [f"SEARCH {row} INTO 4", *answer] + (["LIST" + spaced(days)] if days else [])
 
 
 def uses_read(data):
-    answer = read_sheet(data, (10, 10, 10))
-    text = refusal(answer) if isinstance(answer, int) else spaced(len(items) for items in answer) + spaced(answer[1])
-    return f"sheet{spaced(data)}:{text}"
+    answer = read_sheet(data, (10,) * 3)
+    told = [refused(answer)] if isinstance(answer, int) else ["COUNTS" + spaced(map(len, answer)), "LIST" + spaced(answer[1])]
+    return ["SHEET" + spaced(data), *told]
 
 
 def uses_write(*lists):
     answer = write_sheet(lists, 20)
-    return "bytes:" + (refusal(answer) if isinstance(answer, int) else spaced(answer))
+    return ["WRITE" + lists_text(lists), *list(put(answer, 0))[:1 if isinstance(answer, int) else 2]]
+
+
+def uses_printed(desk, word, n):
+    text = printed_text(desk, word, n)
+    return [f"PRINT {word} {n}", *([refused(text)] if isinstance(text, int) else text.decode().splitlines())]
 
 
 def uses(desk):
-    out = [f"day {d}:" + dated(desk, *desk.day(d)) for d in (3420558, 14989860)]
-    for y, k, l, m in ((9366, 11, False, 1), (11, 8, True, 1)):
-        out.append(f"date {y} {k} {mark(l)} {m}:" + figures(*desk.date(y, k, l, m), (1,)))
-    out += [f"date 1 11 - 1 moved by {n}:" + dated(desk, *desk.date(1, 11, False, 1, n)) for n in (27759, -1)]
-    out += [f"place of year {y}:" + figures(*desk.place(y), (1, 2, 3, 4, 6)) for y in (9366, 0)]
-    out += [f"year {y}:" + figures(*desk.year(y), (3, 7, 5, 9, 10)) for y in (11, 41041)]
-    out += [f"month {n}:" + figures(*desk.month(n), (2, 3, 7, 8, 5, 4)) for n in (134, 507600)]
-    out += [f"quarter {n} {q}:" + figures(*desk.quarter(n, q), (1, 2)) for n, q in ((115830, 2), (115830, 4))]
-    out += [f"term {y} {k}:" + figures(*desk.term(y, k), (1,)) for y, k in ((9366, 0), (9366, 24))]
-    out += [uses_search(desk, 3600, 4000), uses_search(desk, 4000, 3600)]
-    out += [uses_read([0, 0, 1, 0, 134, 0, 0, 0, 0, 0]), uses_read([1, 0, 11])]
-    out += [uses_write([11], [134], [3957]), uses_write([0], [134], [3957])]
-    out += block_or_refusal(desk, 11) + block_or_refusal(desk, 0)
-    out += [month_or_refusal(desk, word, n) for word in ("", "MONTH ") for n in (134, 507600)]
-    out += [day_or_refusal(desk, d) for d in (0, 14989860)]
-    out += [f"conjunction {k} of planet {p}:" + told(conjunction(p, k)) for p, k in ((4, 11826), (6, 1))]
-    out += [f"next conjunction of planet {p} from day {d}:" + told(next_conjunction(p, d)) for p, d in ((4, 3453043), (1, 14989826))]
-    out += [f"pair of planet {p}:" + told(pair(p)) for p in (5, 0)]
-    out.append(f"common divisor 27612900 25286988: {common_divisor(27612900, 25286988)}")
-    return "\n".join(out) + "\n"
+    out = echoed(desk, """DAY 3420558,DAY 14989860,DATE 9366 11 - 1,DATE 11 8 L 1,MOVE 1 11 - 1 27759,MOVE 1 11 - 1 -1,PLACE 9366,PLACE 0,YEAR 11,YEAR 12,YEAR 41041,MONTH 134,MONTH 507600,QUARTER 115830 2,QUARTER 115830 4,TERM 9366 0,TERM 9366 24""".split(","))
+    out += uses_search(desk, "27 9 ? 1 ? ? 3600 4000") + uses_search(desk, "27 9 ? 1 ? ? 4000 3600")
+    out += uses_read([0, 0, 1, 0, 134, 0, 0, 0, 0, 0]) + uses_read([1, 0, 11])
+    out += uses_write([11], [134], [3957]) + uses_write([0], [134], [3957])
+    for word, n, outside in (("YEAR", 11, 0), ("LINE", 134, MONTHS), ("MONTH", 134, MONTHS), ("DAY", 0, DAYS)):
+        out += uses_printed(desk, word, n) + uses_printed(desk, word, outside)
+    out += echoed(desk, ("CONJUNCTION 4 11826", "CONJUNCTION 6 1", "NEXT 4 3453043", "NEXT 1 14989826", "PAIR 5", "PAIR 0"))
+    return out + ["DIVISOR 27612900 25286988", f"DIVISOR {common_divisor(27612900, 25286988)}"]
 
 
 # The program `printed`: the printed list of a bu.
@@ -214,12 +317,13 @@ def printed():
         for _ in range(days):
             day_name = day_name + 1 if day_name < 60 else 1
     assert day == 27759 and rest == 0
-    return "\n".join(out) + "\n"
+    return out
 
 
 def main():
-    texts = {"uses": uses(Desk()), "printed": printed()}
-    return hold({ROOT / "crates" / program / "stdout": text.encode() for program, text in texts.items()})
+    desk = Desk()
+    outputs = {"beside": beside(desk), "uses": uses(desk), "printed": printed()}
+    return hold({ROOT / "crates" / program / "stdout": "".join(line + "\n" for line in lines).encode() for program, lines in outputs.items()})
 
 
 if __name__ == "__main__":

@@ -170,7 +170,7 @@ note-twice : (room : List ℕ) → Answers (λ l. saidAt true l 10) (35 ∷ room
 unfolding saidAt
 note-twice room p =
     let e : _≡_ {A = List ℕ} (35 ∷ 10 ∷ 35 ∷ 10 ∷ []) (35 ∷ 10 ∷ 0 ∷ 0 ∷ []) =
-      p .said (35 ∷ []) refl ∙ ap (sets (0 ∷ 0 ∷ 0 ∷ 0 ∷ []) 0) (note-once [] (omega arith)) in
+    p .said (35 ∷ []) refl ∙ ap (sets (0 ∷ 0 ∷ 0 ∷ 0 ∷ []) 0) (note-once [] (omega arith)) in
     let o : _≡_ {A = ℕ} 35 0 = cc in
     omega arith
 
@@ -183,7 +183,7 @@ not-echoed : (room : List ℕ) → Answers (λ l. saidAt true l 10) (65 ∷ room
 unfolding saidAt
 not-echoed room p =
     let e : _≡_ {A = List ℕ} (85 ∷ []) (65 ∷ []) =
-      p .said (65 ∷ []) refl ∙ ap (sets (0 ∷ []) 0) (line-first (65 ∷ []) (λ i t j. other t j)) ∙ past-end 65 0 (10 ∷ answerTo (65 ∷ [])) in
+    p .said (65 ∷ []) refl ∙ ap (sets (0 ∷ []) 0) (line-first (65 ∷ []) (λ i t j. other t j)) ∙ past-end 65 0 (10 ∷ answerTo (65 ∷ [])) in
     let o : _≡_ {A = ℕ} 85 65 = cc in
     omega arith
   where

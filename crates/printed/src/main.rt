@@ -7,9 +7,9 @@ fn line(k: u16)
     requires { ⌜ k < 940 ⌝ }
 {
     let day = rule::printed_day(k) as u32;
-    show::number(k as u32);
-    show::next(day);
-    show::next(rule::day_name(day) as u32);
+    io::print_decimal(1, k as u64);
+    show::next(day as u64);
+    show::next(rule::day_name(day) as u64);
     show::text(b"\n");
 }
 

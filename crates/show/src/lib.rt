@@ -1,18 +1,8 @@
-// What the programs that run cases print with, on standard output: numbers, months, dates, and reasons in the paper's words.
+// What `beside` and `uses` print with, on standard output, in the desk's words and order.
 use dates::Date;
-use dates::Dated;
-use dates::DayTold;
-use facts::LeapMonth;
 use moves::Way;
 use planets::Conjunction;
-use planets::ConjunctionTold;
-use planets::Next;
-use planets::NextTold;
-use planets::Pair;
-use planets::PairTold;
 use planets::Phase;
-use reading::Field;
-use reading::Reading;
 use rule::Month;
 use rule::Reason;
 
@@ -20,37 +10,33 @@ pub fn text(s: &[u8]) {
     io::write_all(1, s);
 }
 
-pub fn number(n: u32) {
-    io::print_decimal(1, n as u64);
-}
-
 // A space, and a number.
-pub fn next(n: u32) {
+pub fn next(n: u64) {
     text(b" ");
-    number(n);
-}
-
-// A number that may be below nought.
-pub fn signed(n: i64) {
-    match moves::way_of(n) {
-        Way::On(k) => decimal(k),
-        Way::Back(k) => {
-            text(b"-");
-            if k < 9223372036854775808 {
-                decimal(k + 1);
-            }
-        }
-    }
-}
-
-fn decimal(n: u64) {
     io::print_decimal(1, n);
 }
 
-// A space, and a number of 64 bits.
-pub fn next_long(n: u64) {
-    text(b" ");
-    decimal(n);
+// A word, and a number.
+pub fn field(word: &[u8], n: u64) {
+    text(word);
+    next(n);
+}
+
+// A line of a word and a number.
+pub fn line(word: &[u8], n: u64) {
+    field(word, n);
+    text(b"\n");
+}
+
+// A space, and a number that may be below nought.
+pub fn signed(n: i64) {
+    match moves::way_of(n) {
+        Way::On(k) => next(k),
+        Way::Back(k) => {
+            text(b" -");
+            io::print_decimal(1, std::num::wrapping_add_u64(k, 1));
+        }
+    }
 }
 
 // `L` for leap, `-` for ordinary.
@@ -64,176 +50,96 @@ pub fn mark(leap: bool) {
 
 // A month: its number and its mark.
 pub fn month(m: Month) {
-    next(rule::number_of(m) as u32);
+    next(rule::number_of(m) as u64);
     mark(rule::leap_mark(m));
 }
 
-// A reason: its number and the paper's words for it.
-pub fn reason(r: Reason) {
-    text(b" REFUSED");
-    next(rule::reason_number(r) as u32);
-    text(b" ");
-    words(r);
-}
-
-fn words(r: Reason) {
+// A refusal: the reason's number and its words.
+pub fn refused(why: Reason) {
     let mut space = [0u8; 64];
-    let n = words::put_words(r, &mut space, 0);
-    text(&space[..n]);
+    let n = words::put_words(why, &mut space, 0);
+    text(b"REFUSED");
+    next(rule::reason_number(why) as u64);
+    text(b" ");
+    if n <= 64 {
+        text(&space[0..n]);
+    }
+    text(b"\n");
 }
 
-// A date: year, number, mark, day of month, month length, day name, year name.
+// What a `DAY` line has after the day.
 pub fn date(d: Date) {
     let m = d.month;
-    next(d.year as u32);
+    next(d.year as u64);
     month(m);
-    next(d.day_of_month as u32);
-    next(d.month_length as u32);
-    next(d.day_name as u32);
-    next(d.year_name as u32);
-}
-
-pub fn dated(r: Dated) {
-    match r {
-        Dated::Is(d) => date(d),
-        Dated::Refused(why) => reason(why),
-    }
+    next(d.day_of_month as u64);
+    next(d.day_name as u64);
+    next(d.month_length as u64);
+    next(d.year_name as u64);
     text(b"\n");
 }
 
-pub fn day_found(r: DayTold) {
-    match r {
-        DayTold::Is(day) => next(day),
-        DayTold::Refused(why) => reason(why),
-    }
-    text(b"\n");
-}
-
-// A year's leap month: its number and its count, or `-`.
-pub fn leap_month(l: LeapMonth) {
-    match l {
-        LeapMonth::Without => text(b" -"),
-        LeapMonth::With(k, n) => {
-            next(k as u32);
-            next(n);
-        }
-    }
-}
-
-// Whether a conjunction is a morning or an evening one, `-` where it is neither.
-fn phase(p: Phase) {
-    match p {
-        Phase::Morning => text(b" morning"),
-        Phase::Evening => text(b" evening"),
-        Phase::Neither => text(b" -"),
-    }
-}
-
-// A conjunction: day, parts, of how many they are, morning or evening.
+// What a conjunction's line ends with: day, parts, divisor, phase.
 pub fn conjunction(c: Conjunction) {
     let p = c.phase;
-    next(c.day);
-    next(c.parts);
-    next(c.divisor);
-    phase(p);
-}
-
-// A conjunction after its count.
-pub fn counted(c: Next) {
-    let of_count = c.conjunction;
-    next(c.k);
-    conjunction(of_count);
-}
-
-// A pair: years, and the conjunctions in them.
-pub fn pair(p: Pair) {
-    next_long(p.years);
-    next_long(p.conjunctions);
-}
-
-pub fn conjunction_told(r: ConjunctionTold) {
-    match r {
-        ConjunctionTold::Is(c) => conjunction(c),
-        ConjunctionTold::Refused(why) => reason(why),
-    }
-    text(b"\n");
-}
-
-pub fn next_told(r: NextTold) {
-    match r {
-        NextTold::Is(c) => counted(c),
-        NextTold::Refused(why) => reason(why),
-    }
-    text(b"\n");
-}
-
-pub fn pair_told(r: PairTold) {
-    match r {
-        PairTold::Is(p) => pair(p),
-        PairTold::Refused(why) => reason(why),
-    }
-    text(b"\n");
-}
-
-// A field of a reading: its number, or `?`.
-fn field(f: Field) {
-    match f {
-        Field::Known(k) => next(k),
-        Field::Unread => text(b" ?"),
+    next(c.day as u64);
+    next(c.parts as u64);
+    next(c.divisor as u64);
+    match p {
+        Phase::Morning => text(b" M\n"),
+        Phase::Evening => text(b" E\n"),
+        Phase::Neither => text(b" -\n"),
     }
 }
 
-// A reading, in the paper's order.
-pub fn reading(r: Reading) {
-    let f1 = r.year_name;
-    let f2 = r.month_number;
-    let f3 = r.leap_mark;
-    let f4 = r.day_of_month;
-    let f5 = r.day_name;
-    let f6 = r.first_name;
-    field(f1);
-    field(f2);
-    field(f3);
-    field(f4);
-    field(f5);
-    field(f6);
+fn byte(b: u8) {
+    next(b as u64);
 }
 
-// Every number of a list.
-pub fn numbers(list: &[u32]) {
+fn year(y: u16) {
+    next(y as u64);
+}
+
+fn number(n: u32) {
+    next(n as u64);
+}
+
+// What stands at a place of three lists.
+fn items_at(bytes: &[u8], years: &[u16], numbers: &[u32], i: usize) {
+    if i < bytes.len() {
+        byte(bytes[i]);
+    }
+    if i < years.len() {
+        year(years[i]);
+    }
+    if i < numbers.len() {
+        number(numbers[i]);
+    }
+}
+
+// What stands at the first n places: one loop for lists of three types, of which two are empty.
+fn items(n: usize, bytes: &[u8], years: &[u16], numbers: &[u32]) {
     let mut i = 0;
-    while i < list.len() {
-        next(list[i]);
+    while i < n {
+        items_at(bytes, years, numbers, i);
         i += 1;
     }
 }
 
-// The same of bytes, and of years.
 pub fn bytes(list: &[u8]) {
-    let mut i = 0;
-    while i < list.len() {
-        next(wide(list[i]));
-        i += 1;
-    }
+    items(list.len(), list, &[0u16; 0], &[0u32; 0]);
 }
 
-fn wide(x: u8) -> u32 {
-    x as u32
+pub fn numbers(list: &[u32]) {
+    items(list.len(), &[0u8; 0], &[0u16; 0], list);
 }
 
-pub fn shorts(list: &[u16]) {
-    let mut i = 0;
-    while i < list.len() {
-        next(wider(list[i]));
-        i += 1;
-    }
-}
-
-fn wider(x: u16) -> u32 {
-    x as u32
-}
-
-// A space, and a count.
-pub fn count(n: usize) {
-    next_long(n as u64);
+// The three lists of a sheet.
+pub fn lists(years: &[u16], months: &[u32], days: &[u32]) {
+    items(years.len(), &[0u8; 0], years, &[0u32; 0]);
+    text(b",");
+    numbers(months);
+    text(b",");
+    numbers(days);
+    text(b"\n");
 }
