@@ -22,7 +22,7 @@ pub arm : (fs : List (List ℕ)) {w : Places} {k i : ℕ} {q : Query} → w ≡ 
 arm fs e h r = sym r ∙ ap₂ (λ (v : Places) (j : ℕ). queryAt (table v (slipIn capped fs)) j) e (sym h)
 
 -- the last arm of a `match`: none of the numbers before n
-abbrev pub Denied : ℕ → ℕ → Type 0
+abbrev Denied : ℕ → ℕ → Type 0
 Denied zero k = Unit {0}
 Denied (suc n) k = Denied n k × (k ≡ n → ⊥)
 

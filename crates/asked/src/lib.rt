@@ -56,7 +56,7 @@ fn read_slip(line: &[u8]) -> Slip
 }
 
 // What stands in the places of a line, read as the part that forms have there: a number, a mark, a move.
-pub struct Places {
+struct Places {
     pub n1: u32,
     pub n2: u32,
     pub m3: bool,

@@ -1,16 +1,15 @@
 -- Laws of a text's fields: the first one, and the others after its separator. Assumes nothing.
 use Prim.Native.Nat.{ℕ, zero, suc, _+_, _-_, _≤_, _<_}
-use native.Mathlib.Numerals.{add-one}
 use native.Mathlib.Omega.{arith}
 use native.Mathlib.Decide.{decLe}
 use mathlib.Core.Path.{_≡_, refl, ap, ap₂, sym, _∙_}
-use mathlib.Core.Bool.{Bool, true, false, cond, _&&_}
+use mathlib.Core.Bool.{Bool, true, false}
 use mathlib.Core.List.{List, [], _∷_}
 use lib.Dec.{eqb}
 use lib.ListN.{length, take, drop, length-drop, drop-of-length-le}
 use lib.Seq.{drop-drop}
 use Rattle.forms.proofs.Scanning.{to-the-end}
-use Rattle.forms.specs.Forms.{firstField, inFrontOf, fieldsIn, afterFirst, fieldAt, admits, like, firstLike}
+use Rattle.forms.specs.Forms.{firstField, fieldsIn, afterFirst, fieldAt}
 
 -- the first field's length, its bytes, and what stands after it
 module _ (c : ℕ) where
@@ -98,29 +97,12 @@ module _ (c : ℕ) where
         fields-next (drop from s) (omega (arith, e, h, r, end-in, length-drop from s))
         ∙ ap₂ (λ (l k : List ℕ). l ∷ fieldsIn c k) (sym the-field) (drop-drop (suc (ends (drop from s))) from s ∙ ap (λ (j : ℕ). drop j s) {x = from + suc (ends (drop from s))} {y = to + 1} (omega (arith, e)))
 
-    -- the part in a place from there on
-    pub next-at : (to ≡ length s → ⊥) → (j : ℕ) → fieldAt (fieldsIn c (drop from s)) (suc j) ≡ fieldAt (fieldsIn c (drop (to + 1) s)) j
-    unfolding fieldAt
-    next-at h j = rw (the-next h) refl
-
-    pub none-at : to ≡ length s → (j : ℕ) → fieldAt (fieldsIn c (drop from s)) (suc j) ≡ []
-    unfolding fieldAt
-    none-at h j = rw (the-last h) refl
-
-    pub here-at : take (to - from) (drop from s) ≡ fieldAt (fieldsIn c (drop from s)) 0
-    unfolding fieldAt
-    here-at = go (decLe (length s) to)
-      where
-        go : Dec (length s ≤ to) → take (to - from) (drop from s) ≡ fieldAt (fieldsIn c (drop from s)) 0
-        go (yes h) = rw (the-last (omega (arith, h, end-in))) refl
-        go (no h) = rw (the-next (λ i. omega (arith, h, i))) refl
-
 -- the fields of a line one after the other: the field in a place is the first of what stands after those before it
-pub first-at : (s : List ℕ) → fieldAt (fieldsIn 32 s) 0 ≡ firstField 32 s
+first-at : (s : List ℕ) → fieldAt (fieldsIn 32 s) 0 ≡ firstField 32 s
 unfolding fieldAt
 first-at s = rw (starts 32 s .1) refl
 
-pub later-at : (s : List ℕ) (k : ℕ) → fieldAt (fieldsIn 32 s) (suc k) ≡ fieldAt (fieldsIn 32 (afterFirst s)) k
+later-at : (s : List ℕ) (k : ℕ) → fieldAt (fieldsIn 32 s) (suc k) ≡ fieldAt (fieldsIn 32 (afterFirst s)) k
 unfolding fieldAt fieldsIn afterFirst
 later-at s k = go (decLe (length s) (ends 32 s))
   where

@@ -3,13 +3,13 @@ use Prim.Native.Nat.{ℕ, suc, _+_, _-_, _≤_, _<_}
 use native.Mathlib.Numerals.{add-one}
 use native.Mathlib.Omega.{arith}
 use native.Mathlib.Decide.{decLe}
-use mathlib.Core.Path.{_≡_, refl, ap, ap₂, sym, _∙_}
+use mathlib.Core.Path.{_≡_, refl, ap, sym, _∙_}
 use mathlib.Core.Bool.{Bool, true, false, not, cond, _&&_, and-eq-true-iff}
 use mathlib.Core.List.{List, [], _∷_}
 use lib.Dec.{eqb, ltb}
 use lib.ListN.{length, getD, take, drop}
 use borrow.Author.Tests.{eq-eqb, ne-eqb, lt-ltb, le-ltb, ltb-true, eqb-false, not-true}
-use Rattle.forms.specs.Forms.{firstField, fieldsIn, same, letter, admits, like, otherWord, past, firstLike}
+use Rattle.forms.specs.Forms.{firstField, fieldsIn, same, admits, like, otherWord, past, firstLike}
 use Rattle.forms.proofs.Fields.{end-in, the-last, the-next, starts}
 
 -- fields and what is left of them
@@ -39,11 +39,11 @@ module _ (s t : List ℕ) (i a j b : ℕ) (ri : i ≤ length s) (rj : j ≤ leng
   Like r = r ≡ like (fieldsIn 32 (drop i s)) (fieldsIn 32 (drop j t))
 
   module _ (h : admits p f ≡ true) where
-    pub both-last : a ≡ length s → b ≡ length t → Like true
+    both-last : a ≡ length s → b ≡ length t → Like true
     unfolding like
     both-last l m = rw (the-last 32 s i a ri ea l, the-last 32 t j b rj eb m, h) refl
 
-    pub line-longer : a ≡ length s → (b ≡ length t → ⊥) → Like false
+    line-longer : a ≡ length s → (b ≡ length t → ⊥) → Like false
     unfolding like
     line-longer l m = rw (the-last 32 s i a ri ea l, the-next 32 t j b rj eb m, h) (sym (none-like (some 32 (drop (b + 1) t))))
 

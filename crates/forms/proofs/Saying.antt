@@ -8,8 +8,7 @@ use mathlib.Core.Bool.{Bool, true, false, not, cond, _&&_, _||_}
 use mathlib.Core.List.{List, [], _∷_}
 use lib.Dec.{eqb, leb}
 use lib.IntN.{ℤ, pos, negsuc}
-use lib.ListN.{drop}
-use borrow.Author.Tests.{leb-true, eqb-true, eqb-false, le-leb, ne-eqb, eq-eqb, not-true}
+use borrow.Author.Tests.{leb-true, eqb-true, eqb-false, le-leb, ne-eqb, not-true}
 use Rattle.rule.specs.Reasons.{within}
 use Rattle.reading.specs.declared.Field.{Field}
 use Rattle.reading.specs.declared.Field.the-variants.{Known, Unread}

@@ -9,7 +9,7 @@ use lib.IntN.{pos, negsuc}
 use lib.ListN.{length}
 use borrow.Author.Tests.{eqb-true, eqb-false, ne-eqb, not-true}
 use Rattle.reading.specs.declared.Field.the-variants.{Known, Unread}
-use Rattle.fields.specs.Fields.{word, decimal, followed, joined}
+use Rattle.fields.specs.Fields.{decimal, followed, joined}
 use Rattle.fields.specs.Paper.{AreDigits, none, one-more, IsDecimal, nought, not-nought}
 use Rattle.fields.proofs.Paper.{decimal-reads-back}
 use Rattle.forms.specs.declared.Mark.the-variants.{Seen, Unseen}

@@ -1,6 +1,6 @@
 -- A line's fields, "parted by single spaces"; the forms of lines; and what each field says. No query is named here. All are lists of
 -- bytes. Assumes nothing.
-use Prim.Native.Nat.{ℕ, zero, suc, _+_, _-_}
+use Prim.Native.Nat.{ℕ, zero, suc}
 use mathlib.Core.Bool.{Bool, true, false, not, cond, _&&_, _||_}
 use mathlib.Core.List.{List, [], _∷_}
 use lib.Dec.{eqb, ltb}
@@ -9,7 +9,7 @@ use lib.ListN.{length, drop}
 use Rattle.rule.specs.Reasons.{within}
 use Rattle.reading.specs.declared.Field.{Field}
 use Rattle.reading.specs.declared.Field.the-variants.{Known, Unread}
-use Rattle.fields.specs.Fields.{word, decimal}
+use Rattle.fields.specs.Fields.{word}
 use Rattle.fields.specs.Paper.{valueFrom}
 use Rattle.forms.specs.declared.Mark.{Mark}
 use Rattle.forms.specs.declared.Mark.the-variants.{Seen, Unseen}

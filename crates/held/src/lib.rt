@@ -1,7 +1,7 @@
 // The lines of an input, held and answered, with echo or without: the desk program's own code. Of each line the first 201 bytes are held,
 // which have the answer of the whole. No contract can say what is written; that it is the front of the buffer, and whose answer stands
 // there, is said.
-ghost use Prim.Native.Nat.{_+_, _≤_};
+ghost use Prim.Native.Nat.{_≤_};
 ghost use mathlib.Core.Path.{_≡_};
 ghost use mathlib.Core.Bool.{cond};
 ghost use mathlib.Core.List.{[], _∷_, _++_};

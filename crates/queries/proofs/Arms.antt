@@ -1,6 +1,6 @@
 -- The law of one arm: what is put for a query's variant is put for the query. Assumes nothing.
 use Prim.Native.Nat.{ℕ, _≤_}
-use mathlib.Core.Path.{_≡_, refl, ap, sym}
+use mathlib.Core.Path.{_≡_, ap, sym}
 use mathlib.Core.List.{List}
 use Rattle.fields.specs.Fields.{Put}
 use Rattle.fields.proofs.Putting.{put-as, wide}

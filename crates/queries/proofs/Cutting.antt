@@ -1,61 +1,28 @@
 -- Every answer is the same of numbers and of numbers cut down. Assumes nothing.
 use Prim.Native.Nat.{ℕ, zero, suc, _-_, _≤_, _<_}
 use native.Mathlib.Omega.{arith}
-use native.Mathlib.Decide.{decLe}
-use mathlib.Core.Path.{_≡_, refl, ap, ap₂, sym, _∙_}
+use mathlib.Core.Path.{_≡_, refl, ap, sym, _∙_}
 use mathlib.Core.Bool.{Bool, true, false, cond}
-use mathlib.Core.List.{List, [], _∷_, _++_}
-use lib.Dec.{eqb, leb}
-use lib.IntN.{ℤ, pos, negsuc}
+use mathlib.Core.List.{List, [], _∷_}
+use lib.Dec.{leb}
+use lib.IntN.{ℤ, pos}
 use lib.ListN.{length, drop}
-use borrow.Author.Tests.{ne-eqb, le-leb, lt-leb}
-use Rattle.rule.specs.Reasons.{Answer, is, guard, within}
-use Rattle.dates.specs.declared.Date.{Date}
+use borrow.Author.Tests.{le-leb, lt-leb}
+use Rattle.rule.specs.Reasons.{is, guard, within}
 use Rattle.dates.specs.Dates.{dateOf, dateAt}
-use Rattle.facts.specs.declared.YearFacts.{YearFacts}
-use Rattle.facts.specs.declared.MonthFacts.{MonthFacts}
 use Rattle.facts.specs.Facts.{yearFacts, yearFactsAt, monthFacts, monthFactsAt}
-use Rattle.reading.specs.declared.Field.{Field}
 use Rattle.reading.specs.declared.Field.the-variants.{Known, Unread}
 use Rattle.reading.specs.declared.Reading.{Reading}
-use Rattle.reading.specs.Readings.{windowDays, fitting}
-use Rattle.fields.specs.Fields.{word, each}
-use Rattle.told.specs.Answers.{
-  told,
-  placeLine,
-  placeText,
-  yearLine,
-  yearText,
-  monthLineOf,
-  monthText,
-  quarterLine,
-  quarterText,
-  termLine,
-  termText,
-  conjunctionLine,
-  conjunctionText,
-  nextLine,
-  nextText,
-  pairLine,
-  pairText,
-  dayLineOf,
-  dayText,
-  dayLine,
-  dateText,
-  textOfDate,
-  moveText,
-  foundLine,
-  searchText,
-}
+use Rattle.fields.specs.Fields.{word}
+use Rattle.told.specs.Answers.{told, placeLine, placeText, yearLine, yearText, monthLineOf, monthText, quarterLine, quarterText, termLine, termText, conjunctionLine, conjunctionText, nextLine, nextText, pairLine, pairText, dayLineOf, dayText, dayLine, dateText, textOfDate, moveText, searchText}
 use Rattle.capped.specs.Capped.{capped, cappedMove, cappedField, cappedReading}
 use Rattle.capped.specs.Paper.{Settled, AlikeSearch, whole, both}
 use Rattle.capped.proofs.Paper.{at-most, from-one, capped-alike, capped-search}
 use Rattle.forms.specs.declared.Mark.{Mark}
 use Rattle.forms.specs.declared.Mark.the-variants.{Seen, Unseen}
-use Rattle.forms.specs.Forms.{fieldsIn, fieldAt, same, firstLike, back, isMinus, moveOf, slipFieldOf, moveIn, slipFieldIn, numberIn}
+use Rattle.forms.specs.Forms.{fieldsIn, fieldAt, same, firstLike, back, isMinus, moveOf, slipFieldOf, moveIn, slipFieldIn}
 use Rattle.fields.specs.Paper.{valueFrom}
 use Rattle.asked.specs.declared.Query.{Query}
-use Rattle.asked.specs.declared.Slip.{Slip}
 use Rattle.asked.specs.Asked.{Row, slipIn, table, tableOf, forms, queryAt, isNote, readBy}
 use Rattle.asked.specs.Paper.{read}
 use Rattle.queries.specs.Queries.{unreadable, markField, readingOf, answered, answerTo}

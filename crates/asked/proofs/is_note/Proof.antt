@@ -1,5 +1,4 @@
 -- `asked::is_note` meets its contract. Assumes nothing.
-use native.Mathlib.Omega.{arith}
 use Rattle.asked.proofs.Rows.{no-byte, first-byte}
 use borrow.Author.Needs.{needs}
 use Rattle.asked.proofs.is_note.Statement.{statement}

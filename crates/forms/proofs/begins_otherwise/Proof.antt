@@ -1,5 +1,4 @@
 -- `forms::begins_otherwise` meets its contract. Assumes nothing.
-use native.Mathlib.Omega.{arith}
 use Rattle.forms.proofs.Likeness.{no-form, no-line, first-letters}
 use borrow.Author.Needs.{needs}
 use Rattle.forms.proofs.begins_otherwise.Statement.{statement}

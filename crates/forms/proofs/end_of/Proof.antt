@@ -1,10 +1,9 @@
 -- `forms::end_of` meets its contract. The invariant: no space so far. Assumes nothing.
 use borrow.Author.Tests.{eq-eqb, ne-eqb}
-use Prim.Native.Nat.{_-_, _≤_, _<_}
+use Prim.Native.Nat.{_-_, _≤_}
 use native.Mathlib.Omega.{arith}
-use mathlib.Core.Path.{_≡_, refl, sym, _∙_}
+use mathlib.Core.Path.{_≡_, refl}
 use lib.ListN.{length, drop}
-use borrow.Author.Needs.{needs}
 use Prim.Native.Nat.{_+_}
 use Rattle.forms.specs.Forms.{firstField}
 use Rattle.forms.proofs.Scanning.{field-more, field-over, field-none}

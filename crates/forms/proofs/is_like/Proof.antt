@@ -1,7 +1,7 @@
 -- `forms::is_like` meets its contract. The invariant: what is left of both says what the whole does. Assumes nothing.
 use Prim.Native.Nat.{_-_, _≤_}
 use native.Mathlib.Omega.{arith}
-use mathlib.Core.Path.{_≡_, refl, sym, _∙_}
+use mathlib.Core.Path.{_≡_, refl, _∙_}
 use lib.ListN.{length, drop}
 use borrow.Author.Needs.{needs}
 use Rattle.rule.proofs.Answers.{failed, passed}

@@ -1,5 +1,4 @@
 -- `forms::past` meets its contract. Assumes nothing.
-use native.Mathlib.Omega.{arith}
 use mathlib.Core.Path.{sym, _∙_}
 use Rattle.forms.proofs.Likeness.{other-word, kept-place, this-place, next-place}
 use borrow.Author.Needs.{needs}
