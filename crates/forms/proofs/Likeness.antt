@@ -82,9 +82,11 @@ module _ (k i : ℕ) (p : List ℕ) (fs : List (List ℕ)) where
   unfolding past
   kept-place h = rw (lt-ltb k i h) refl
 
-  pub this-place : i ≤ k → like (fieldsIn 32 p) fs ≡ true → i ≡ past k i p fs
+  pub this-place : i ≤ k → {r : ℕ} {x : Bool} → r ≡ cond x i (i + 1) → x ≡ like (fieldsIn 32 p) fs → r ≡ past k i p fs
   unfolding past
-  this-place h e = rw (le-ltb k i h, e) refl
+  this-place h e f =
+      e ∙ ap (λ (y : Bool). cond y i (i + 1)) f
+      ∙ rw (le-ltb k i h) (ap (λ (j : ℕ). cond (like (fieldsIn 32 p) fs) i j) (add-one i))
 
   pub next-place : i ≤ k → like (fieldsIn 32 p) fs ≡ false → i + 1 ≡ past k i p fs
   unfolding past

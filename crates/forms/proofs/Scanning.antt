@@ -8,6 +8,7 @@ use mathlib.Core.List.{List, [], _∷_}
 use lib.Dec.{eqb}
 use lib.ListN.{length, getD, take, drop, drop-of-length-le, length-drop}
 use lib.Seq.{drop-cons, take-all}
+use borrow.Author.Tests.{eq-eqb, ne-eqb}
 use Rattle.rule.specs.Reasons.{within}
 use Rattle.fields.specs.Fields.{word}
 use Rattle.fields.specs.Paper.{valueFrom}
@@ -128,3 +129,21 @@ module _ (c : ℕ) (s : List ℕ) (i : ℕ) where
   pub field-none : length s ≤ i → length (firstField c (drop i s)) ≡ 0
   unfolding firstField
   field-none h = ap (λ (t : List ℕ). length (firstField c t)) (drop-of-length-le s h)
+
+-- what the digits of the first field that are left make of a number
+module _ (s : List ℕ) (i v : ℕ) where
+  pub number-next : i < length s → (getD s i 0 ≡ 32 → ⊥) →
+      capped (valueFrom (capped (10 * v + (getD s i 0 - 48))) (firstField 32 (drop (i + 1) s))) ≡ capped (valueFrom v (firstField 32 (drop i s)))
+  unfolding valueFrom firstField
+  number-next h e =
+      capped-value (firstField 32 (drop (i + 1) s)) (10 * v + (getD s i 0 - 48))
+      ∙ sym (ap (λ (t : List ℕ). capped (valueFrom v (firstField 32 t))) (rest s i h) ∙ rw (ne-eqb (getD s i 0) 32 e) refl)
+
+  pub number-over : i < length s → getD s i 0 ≡ 32 → v ≤ 4294967295 → capped (valueFrom v (firstField 32 (drop i s))) ≡ v
+  unfolding valueFrom firstField
+  number-over h e r =
+      ap (λ (t : List ℕ). capped (valueFrom v (firstField 32 t))) (rest s i h) ∙ rw (eq-eqb (getD s i 0) 32 e) (omega (arith, r))
+
+  pub number-last : length s ≤ i → v ≤ 4294967295 → capped (valueFrom v (firstField 32 (drop i s))) ≡ v
+  unfolding valueFrom firstField
+  number-last h r = ap (λ (t : List ℕ). capped (valueFrom v (firstField 32 t))) (drop-of-length-le s h) ∙ omega (arith, r)

@@ -1,6 +1,7 @@
 // A line's fields, parted by single spaces: whether they are like a form, and what each of them says. No query is named here. Numbers
 // are cut down to 32 bits (crate `capped`).
 ghost use mathlib.Core.Path.{_≡_};
+ghost use mathlib.Core.Bool.{cond};
 ghost use Prim.Native.Nat.{_+_, _-_, _*_, _≤_};
 ghost use lib.ListN.{length, drop};
 ghost use Rattle.rule.specs.Reasons.{within};
@@ -209,8 +210,19 @@ fn begins_otherwise(form: &[u8], line: &[u8]) -> bool
     (form[0] < 91) & (64 < form[0]) & (form[0] != line[0])
 }
 
+// The place of a form that a line is like, the next one where it is not.
+fn past_this(like: bool, i: u8) -> usize
+    ensures { λ r. ⌜ r ≡ cond like i (i + 1) ⌝ }
+{
+    if like {
+        return i as usize;
+    }
+    i as usize + 1
+}
+
 // How many forms of a table a line is past, once it was held against the form in place i: k, where that is an earlier one that it is like;
-// else i where it is like this one, and one more where it is not. The first letter is looked at first.
+// else i where it is like this one, and one more where it is not. The first letter is looked at first. (`is_like` is asked for in two
+// places so that it stays a function by itself in the compiled code, and this one, with its form known, a look at one letter.)
 pub fn past(k: usize, i: u8, form: &[u8], line: &[u8]) -> usize
     ensures { λ r. ⌜ r ≡ past k i (now (form .entry)) (fieldsIn 32 (now (line .entry))) ⌝ }
 {
@@ -220,10 +232,10 @@ pub fn past(k: usize, i: u8, form: &[u8], line: &[u8]) -> usize
     if begins_otherwise(form, line) {
         return i as usize + 1;
     }
-    if is_like(form, line) {
-        return i as usize;
+    if form.len() < 2 {
+        return past_this(is_like(form, line), i);
     }
-    i as usize + 1
+    past_this(is_like(form, line), i)
 }
 
 // A number with one digit more.
@@ -282,13 +294,23 @@ fn slip_mark_of(s: &[u8]) -> Mark
     Mark::Seen(same(b"L", s))
 }
 
-// What the first field says, as a number, a mark, a move, and on a slip.
+// What the first field says, as a number: the same in one look along it.
 pub fn number(s: &[u8]) -> u32
     ensures { λ r. ⌜ r ≡ capped (valueFrom 0 (firstField 32 (now (s .entry)))) ⌝ }
 {
-    value_of(first_field(s))
+    let mut v = 0;
+    let mut i = 0;
+    while i < s.len() {
+        if s[i] == 32 {
+            return v;
+        }
+        v = one_more(v, s[i]);
+        i += 1;
+    }
+    v
 }
 
+// As a mark, as a move, and on a slip.
 pub fn leap(s: &[u8]) -> bool
     ensures { λ r. ⌜ r ≡ same (word "L") (firstField 32 (now (s .entry))) ⌝ }
 {
