@@ -58,7 +58,8 @@ row-like (r ∷ rs) fs e = go (like (fieldsIn 32 (r .form)) fs) refl (row-like r
     here : readAll (fieldsIn 32 (r .form)) 0 fs ≡ texts (r .query)
     here = cc
 
-    go : (x : Bool) → like (fieldsIn 32 (r .form)) fs ≡ x → (chosen rs fs ≡ Query.Unreadable) ⊎ (fs ≡ textsOf (texts (chosen rs fs))) → (chosen (r ∷ rs) fs ≡ Query.Unreadable) ⊎ (fs ≡ textsOf (texts (chosen (r ∷ rs) fs)))
+    go : (x : Bool) → like (fieldsIn 32 (r .form)) fs ≡ x → (chosen rs fs ≡ Query.Unreadable) ⊎ (fs ≡ textsOf (texts (chosen rs fs))) →
+        (chosen (r ∷ rs) fs ≡ Query.Unreadable) ⊎ (fs ≡ textsOf (texts (chosen (r ∷ rs) fs)))
     go true h i = inr (rw (h) (all-admitted (fieldsIn 32 (r .form)) fs h ∙ ap textsOf here))
     go false h i = rw (h) i
 

@@ -66,7 +66,8 @@ module _ (c : ℕ) where
   fields-next [] h = absurd (omega arith)
   fields-next (b ∷ s) h = go (fields-next s) (eqb b c) refl
     where
-      go : (ends s < length s → fieldsIn c s ≡ firstField c s ∷ fieldsIn c (drop (suc (ends s)) s)) → (t : Bool) → eqb b c ≡ t → fieldsIn c (b ∷ s) ≡ firstField c (b ∷ s) ∷ fieldsIn c (drop (ends (b ∷ s)) s)
+      go : (ends s < length s → fieldsIn c s ≡ firstField c s ∷ fieldsIn c (drop (suc (ends s)) s)) → (t : Bool) → eqb b c ≡ t →
+          fieldsIn c (b ∷ s) ≡ firstField c (b ∷ s) ∷ fieldsIn c (drop (ends (b ∷ s)) s)
       go ih true e = fields-over b s e ∙ rw (first-over b s e) refl
       go ih false e =
           fields-more b s e (firstField c s) (fieldsIn c (drop (suc (ends s)) s)) (ih (omega (arith, h, ap length (first-more b s e))))
@@ -95,7 +96,8 @@ module _ (c : ℕ) where
     pub the-next : (to ≡ length s → ⊥) → fieldsIn c (drop from s) ≡ take (to - from) (drop from s) ∷ fieldsIn c (drop (to + 1) s)
     the-next h =
         fields-next (drop from s) (omega (arith, e, h, r, end-in, length-drop from s))
-        ∙ ap₂ (λ (l k : List ℕ). l ∷ fieldsIn c k) (sym the-field) (drop-drop (suc (ends (drop from s))) from s ∙ ap (λ (j : ℕ). drop j s) {x = from + suc (ends (drop from s))} {y = to + 1} (omega (arith, e)))
+        ∙ ap₂ (λ (l k : List ℕ). l ∷ fieldsIn c k) (sym the-field)
+        (drop-drop (suc (ends (drop from s))) from s ∙ ap (λ (j : ℕ). drop j s) {x = from + suc (ends (drop from s))} {y = to + 1} (omega (arith, e)))
 
 -- the fields of a line one after the other: the field in a place is the first of what stands after those before it
 first-at : (s : List ℕ) → fieldAt (fieldsIn 32 s) 0 ≡ firstField 32 s

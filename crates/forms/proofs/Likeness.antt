@@ -9,7 +9,7 @@ use mathlib.Core.List.{List, [], _∷_}
 use lib.Dec.{eqb, ltb}
 use lib.ListN.{length, getD, take, drop}
 use borrow.Author.Tests.{eq-eqb, ne-eqb, lt-ltb, le-ltb, ltb-true, eqb-false, not-true}
-use Rattle.forms.specs.Forms.{firstField, fieldsIn, same, admits, like, otherWord, past, firstLike}
+use Rattle.forms.specs.Forms.{firstField, fieldsIn, same, letter, admits, like, otherWord, past, firstLike}
 use Rattle.forms.proofs.Fields.{end-in, the-last, the-next, starts}
 
 -- fields and what is left of them
@@ -71,6 +71,13 @@ module _ (s t : List ℕ) (i a j b : ℕ) (ri : i ≤ length s) (rj : j ≤ leng
       go (yes l) (no m) = rw (the-last 32 s i a ri ea (omega (arith, l, end-in 32 s i a ri ea)), the-next 32 t j b rj eb (λ e. omega (arith, e, m)), h) refl
       go (no l) (yes m) = rw (the-next 32 s i a ri ea (λ e. omega (arith, e, l)), the-last 32 t j b rj eb (omega (arith, m, end-in 32 t j b rj eb)), h) refl
       go (no l) (no m) = rw (the-next 32 s i a ri ea (λ e. omega (arith, e, l)), the-next 32 t j b rj eb (λ e. omega (arith, e, m)), h) refl
+
+-- a field of a form that is none of the letters admits itself alone
+pub no-letter : (p s : List ℕ) → (letter p ≡ 110 → ⊥) → (letter p ≡ 109 → ⊥) → (letter p ≡ 115 → ⊥) → (letter p ≡ 102 → ⊥) → (letter p ≡ 103 → ⊥) →
+    same p s ≡ admits p s
+unfolding admits
+no-letter p s a b c d e =
+    rw (ne-eqb (letter p) 110 a, ne-eqb (letter p) 109 b, ne-eqb (letter p) 115 c, ne-eqb (letter p) 102 d, ne-eqb (letter p) 103 e) refl
 
 -- the forms of a table, one after the other
 unfoldable pub pastAll : ℕ → ℕ → List (List ℕ) → List (List ℕ) → ℕ

@@ -155,23 +155,14 @@ fn letter(s: &[u8]) -> u8
 fn admits(p: &[u8], s: &[u8]) -> bool
     ensures { λ r. ⌜ r ≡ admits (now (p .entry)) (now (s .entry)) ⌝ }
 {
-    let k = letter(p);
-    if k == 110 {
-        return is_decimal(s);
+    match letter(p) {
+        110 => is_decimal(s),
+        109 => is_mark(s),
+        115 => is_decimal(s) | is_back(s),
+        102 => is_decimal(s) | same(b"?", s),
+        103 => is_mark(s) | same(b"?", s),
+        _ => same(p, s),
     }
-    if k == 109 {
-        return is_mark(s);
-    }
-    if k == 115 {
-        return is_decimal(s) | is_back(s);
-    }
-    if k == 102 {
-        return is_decimal(s) | same(b"?", s);
-    }
-    if k == 103 {
-        return is_mark(s) | same(b"?", s);
-    }
-    same(p, s)
 }
 
 // Whether a line is like a form: as many fields, and each admitted.

@@ -1,5 +1,6 @@
 -- The law of one arm: what is put for a query's variant is put for the query. Assumes nothing.
 use Prim.Native.Nat.{ℕ, _≤_}
+use native.Mathlib.Omega.{arith}
 use mathlib.Core.Path.{_≡_, ap, sym}
 use mathlib.Core.List.{List}
 use Rattle.fields.specs.Fields.{Put}
@@ -9,3 +10,7 @@ use Rattle.queries.specs.Queries.{answered}
 
 pub arm : {w a b : ℕ} {o o′ : List ℕ} (s : List ℕ) {q p : Query} → q ≡ p → w ≤ 2304014 → Put w o a (answered s p) o′ b → Put 2304014 o a (answered s q) o′ b
 arm s e h t = put-as (sym (ap (answered s) e)) (wide h t)
+
+-- the same of an answer of one line
+pub line : {a b : ℕ} {o o′ : List ℕ} (s : List ℕ) {q p : Query} → q ≡ p → Put 120 o a (answered s p) o′ b → Put 2304014 o a (answered s q) o′ b
+line s e t = arm s e (omega arith) t

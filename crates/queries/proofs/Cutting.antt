@@ -14,7 +14,32 @@ use Rattle.facts.specs.Facts.{yearFacts, yearFactsAt, monthFacts, monthFactsAt}
 use Rattle.reading.specs.declared.Field.the-variants.{Known, Unread}
 use Rattle.reading.specs.declared.Reading.{Reading}
 use Rattle.fields.specs.Fields.{word}
-use Rattle.told.specs.Answers.{told, placeLine, placeText, yearLine, yearText, monthLineOf, monthText, quarterLine, quarterText, termLine, termText, conjunctionLine, conjunctionText, nextLine, nextText, pairLine, pairText, dayLineOf, dayText, dayLine, dateText, textOfDate, moveText, searchText}
+use Rattle.told.specs.Answers.{
+  told,
+  placeLine,
+  placeText,
+  yearLine,
+  yearText,
+  monthLineOf,
+  monthText,
+  quarterLine,
+  quarterText,
+  termLine,
+  termText,
+  conjunctionLine,
+  conjunctionText,
+  nextLine,
+  nextText,
+  pairLine,
+  pairText,
+  dayLineOf,
+  dayText,
+  dayLine,
+  dateText,
+  textOfDate,
+  moveText,
+  searchText,
+}
 use Rattle.capped.specs.Capped.{capped, cappedMove, cappedField, cappedReading}
 use Rattle.capped.specs.Paper.{Settled, AlikeSearch, whole, both}
 use Rattle.capped.proofs.Paper.{at-most, from-one, capped-alike, capped-search}
@@ -28,7 +53,8 @@ use Rattle.asked.specs.Paper.{read}
 use Rattle.queries.specs.Queries.{unreadable, markField, readingOf, answered, answerTo}
 
 -- a line that also says the number itself
-line-capped : {A : Type 0} (b : ℕ → Bool) → Settled b → (k : ℕ) (f : ℕ → A → List ℕ) (h : ℕ → A) (n : ℕ) → told (f (capped n)) (guard (b (capped n)) k (is (h (capped n)))) ≡ told (f n) (guard (b n) k (is (h n)))
+line-capped : {A : Type 0} (b : ℕ → Bool) → Settled b → (k : ℕ) (f : ℕ → A → List ℕ) (h : ℕ → A) (n : ℕ) →
+    told (f (capped n)) (guard (b (capped n)) k (is (h (capped n)))) ≡ told (f n) (guard (b n) k (is (h n)))
 line-capped b s k f h n = go (b n) refl
   where
     go : (t : Bool) → b n ≡ t → told (f (capped n)) (guard (b (capped n)) k (is (h (capped n)))) ≡ told (f n) (guard (b n) k (is (h n)))

@@ -36,15 +36,26 @@ form-number-spec =
     (λ c. search needs)
     (λ c κs. search needs)
     (λ c.
-    let e2 = and-past _ _ _ (c .before .before .before .before .before .before .before .before .before .before .before .before .before .before .before .before .before .before .before .before .before .before .past .ensures) (c .before .before .before .before .before .before .before .before .before .before .before .before .before .before .before .before .before .before .before .before .past2 .ensures) in
-    let e3 = and-past _ _ _ e2 (c .before .before .before .before .before .before .before .before .before .before .before .before .before .before .before .before .before .before .past3 .ensures) in
-    let e4 = and-past _ _ _ e3 (c .before .before .before .before .before .before .before .before .before .before .before .before .before .before .before .before .past4 .ensures) in
-    let e5 = and-past _ _ _ e4 (c .before .before .before .before .before .before .before .before .before .before .before .before .before .before .past5 .ensures) in
-    let e6 = and-past _ _ _ e5 (c .before .before .before .before .before .before .before .before .before .before .before .before .past6 .ensures) in
-    let e7 = and-past _ _ _ e6 (c .before .before .before .before .before .before .before .before .before .before .past7 .ensures) in
-    let e8 = and-past _ _ _ e7 (c .before .before .before .before .before .before .before .before .past8 .ensures) in
-    let e9 = and-past _ _ _ e8 (c .before .before .before .before .before .before .past9 .ensures) in
-    let e10 = and-past _ _ _ e9 (c .before .before .before .before .past10 .ensures) in
-    let e11 = and-past _ _ _ e10 (c .before .before .past11 .ensures) in
+    let b2 = c .before .before in
+    let b4 = b2 .before .before in
+    let b6 = b4 .before .before in
+    let b8 = b6 .before .before in
+    let b10 = b8 .before .before in
+    let b12 = b10 .before .before in
+    let b14 = b12 .before .before in
+    let b16 = b14 .before .before in
+    let b18 = b16 .before .before in
+    let b20 = b18 .before .before in
+    let b22 = b20 .before .before in
+    let e2 = and-past _ _ _ (b22 .past .ensures) (b20 .past2 .ensures) in
+    let e3 = and-past _ _ _ e2 (b18 .past3 .ensures) in
+    let e4 = and-past _ _ _ e3 (b16 .past4 .ensures) in
+    let e5 = and-past _ _ _ e4 (b14 .past5 .ensures) in
+    let e6 = and-past _ _ _ e5 (b12 .past6 .ensures) in
+    let e7 = and-past _ _ _ e6 (b10 .past7 .ensures) in
+    let e8 = and-past _ _ _ e7 (b8 .past8 .ensures) in
+    let e9 = and-past _ _ _ e8 (b6 .past9 .ensures) in
+    let e10 = and-past _ _ _ e9 (b4 .past10 .ensures) in
+    let e11 = and-past _ _ _ e10 (b2 .past11 .ensures) in
     let e12 = and-past _ _ _ e11 (c .past12 .ensures) in
     e12 ∙ past-all _ forms))

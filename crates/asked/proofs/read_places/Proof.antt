@@ -22,14 +22,19 @@ read-places-spec =
     (λ c κs. search needs)
     (λ c κs. search needs)
     (λ c.
-    let l = c .before .before .before .before .before .before .before .args .line .now in
+    let b2 = c .before .before in
+    let b3 = b2 .before in
+    let b4 = b3 .before in
+    let b5 = b4 .before in
+    let b7 = b5 .before .before in
+    let l = b7 .args .line .now in
     let none : (j : ℕ) → fieldAt (fieldsIn 32 l) (3 + j) ≡ [] =
-    λ j. nothing-at 3 j l _ (c .before .before .before .after-first3 .ensures ∙ ap afterFirst (c .before .before .before .before .after-first2 .ensures ∙ ap afterFirst (c .before .before .before .before .before .after-first .ensures))) (c .before .before .if1 .taken) in
+    λ j. nothing-at 3 j l _ (b3 .after-first3 .ensures ∙ ap afterFirst (b4 .after-first2 .ensures ∙ ap afterFirst (b5 .after-first .ensures))) (b2 .if1 .taken) in
     rw (
       c .before .number .ensures,
       c .number2 .ensures,
-      c .before .before .before .before .after-first2 .ensures,
-      c .before .before .before .before .before .after-first .ensures,
+      b4 .after-first2 .ensures,
+      b5 .after-first .ensures,
       at-place 1 l,
       at-place 2 l,
       none 0,

@@ -25,8 +25,14 @@ all-digits-spec =
     (λ c. (omega arith, refl))
     (λ c. omega arith)
     (λ c κs. search needs)
-    (λ c. sym (no-digit _ (c .before .before .before .before .loop .i) (c .before .before .before .loop-test .taken) (failed (c .before .is-digit .result) _ (c .before .is-digit .ensures) (c .if1 .taken))) ∙ c .before .before .before .before .loop .inv .1)
+    (λ c.
+    let b3 = c .before .before .before in
+    let b4 = b3 .before in
+    sym (no-digit _ (b4 .loop .i) (b3 .loop-test .taken) (failed (c .before .is-digit .result) _ (c .before .is-digit .ensures) (c .if1 .taken))) ∙ b4 .loop .inv .1)
     (λ c. omega arith)
     (λ c. omega arith)
-    (λ c. (omega arith, sym (digit-next _ (c .before .before .before .before .loop .i) (c .before .before .before .loop-test .taken) (passed (c .before .is-digit .result) _ (c .before .is-digit .ensures) (c .if1 .left))) ∙ c .before .before .before .before .loop .inv .1))
+    (λ c.
+    let b3 = c .before .before .before in
+    let b4 = b3 .before in
+    (omega arith, sym (digit-next _ (b4 .loop .i) (b3 .loop-test .taken) (passed (c .before .is-digit .result) _ (c .before .is-digit .ensures) (c .if1 .left))) ∙ b4 .loop .inv .1))
     (λ c. sym (no-more-digits _ (c .before .loop .i) (c .loop-test .left)) ∙ c .before .loop .inv .1))

@@ -14,4 +14,8 @@ begins-otherwise-spec =
     (λ c. search needs)
     (λ c. search needs)
     (λ c. search needs)
-    (λ c. first-letters (c .before .before .before .before .before .before .args .form .now) (c .before .before .before .before .before .before .args .line .now) (c .before .before .before .before .before .if1 .left) (c .before .before .before .before .if2 .left)))
+    (λ c.
+    let b4 = c .before .before .before .before in
+    let b5 = b4 .before in
+    let b6 = b5 .before in
+    first-letters (b6 .args .form .now) (b6 .args .line .now) (b5 .if1 .left) (b4 .if2 .left)))

@@ -24,8 +24,16 @@ end-of-spec =
     μ-loop
     (λ c. (c .pre, refl))
     (λ c. omega arith)
-    (λ c. omega (arith, field-over _ (c .before .before .before .before .args .s .now) (c .before .before .before .loop .to) (c .before .before .loop-test .taken) (eq-eqb _ _ (c .if1 .taken)), c .before .before .before .loop .inv .1))
+    (λ c.
+    let b2 = c .before .before in
+    let b3 = b2 .before in
+    let b4 = b3 .before in
+    omega (arith, field-over _ (b4 .args .s .now) (b3 .loop .to) (b2 .loop-test .taken) (eq-eqb _ _ (c .if1 .taken)), b3 .loop .inv .1))
     (λ c. omega arith)
     (λ c. omega arith)
-    (λ c. (omega arith, omega (arith, field-more _ (c .before .before .before .before .args .s .now) (c .before .before .before .loop .to) (c .before .before .loop-test .taken) (ne-eqb _ _ (c .if1 .left)), c .before .before .before .loop .inv .1)))
+    (λ c.
+    let b2 = c .before .before in
+    let b3 = b2 .before in
+    let b4 = b3 .before in
+    (omega arith, omega (arith, field-more _ (b4 .args .s .now) (b3 .loop .to) (b2 .loop-test .taken) (ne-eqb _ _ (c .if1 .left)), b3 .loop .inv .1)))
     (λ c. omega (arith, field-none (c .before .before .args .sep) (c .before .before .args .s .now) (c .before .loop .to) (c .loop-test .left), c .before .loop .inv .1)))

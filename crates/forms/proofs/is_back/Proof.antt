@@ -23,4 +23,10 @@ is-back-spec =
     (λ c. search needs)
     (λ c. search needs)
     (λ c κs. search needs)
-    (λ c. back-made (c .before .before .before .before .before .before .before .before .args .s .now) (c .before .before .before .before .before .before .if1 .left) (c .before .before .same .result) (c .is-decimal .result) (c .before .before .same .ensures ∙ ap (same (word "0")) (to-the-end 1 (c .before .before .before .before .before .before .before .before .args .s .now))) (c .is-decimal .ensures ∙ ap isDecimal (to-the-end 1 (c .before .before .before .before .before .before .before .before .args .s .now)))))
+    (λ c.
+    let b2 = c .before .before in
+    let b6 = b2 .before .before .before .before in
+    let b8 = b6 .before .before in
+    back-made (b8 .args .s .now) (b6 .if1 .left) (b2 .same .result) (c .is-decimal .result)
+    (b2 .same .ensures ∙ ap (same (word "0")) (to-the-end 1 (b8 .args .s .now)))
+    (c .is-decimal .ensures ∙ ap isDecimal (to-the-end 1 (b8 .args .s .now)))))

@@ -30,35 +30,78 @@ is-like-spec =
     (λ c κs. c .before .loop .inv .1)
     (λ c. omega (arith, c .before .end-of .ensures))
     (λ c. omega (arith, c .before .end-of .ensures))
-    (λ c. end-in 32 (c .before .before .before .before .before .args .form .now) (c .before .before .loop .i) (c .before .end-of .result) (c .before .before .loop .inv .0) (c .before .end-of .ensures))
+    (λ c.
+    let b2 = c .before .before in
+    let b5 = b2 .before .before .before in
+    end-in 32 (b5 .args .form .now) (b2 .loop .i) (c .before .end-of .result) (b2 .loop .inv .0) (c .before .end-of .ensures))
     (λ c. omega (arith, c .before .end-of2 .ensures))
     (λ c. omega (arith, c .before .end-of2 .ensures))
-    (λ c. end-in 32 (c .before .before .before .before .before .before .args .line .now) (c .before .before .before .loop .j) (c .before .end-of2 .result) (c .before .before .before .loop .inv .1) (c .before .end-of2 .ensures))
+    (λ c.
+    let b3 = c .before .before .before in
+    let b6 = b3 .before .before .before in
+    end-in 32 (b6 .args .line .now) (b3 .loop .j) (c .before .end-of2 .result) (b3 .loop .inv .1) (c .before .end-of2 .ensures))
     (λ c κs. search needs)
     (λ c.
-    refused (c .before .before .before .before .before .before .before .before .before .args .form .now) (c .before .before .before .before .before .before .before .before .before .args .line .now) (c .before .before .before .before .before .before .loop .i) (c .before .before .before .before .before .end-of .result) (c .before .before .before .before .before .before .loop .j) (c .before .before .before .before .end-of2 .result) (c .before .before .before .before .before .before .loop .inv .0) (c .before .before .before .before .before .before .loop .inv .1) (c .before .before .before .before .before .end-of .ensures) (c .before .before .before .before .end-of2 .ensures)
+    let b4 = c .before .before .before .before in
+    let b5 = b4 .before in
+    let b6 = b5 .before in
+    let b9 = b6 .before .before .before in
+    refused (b9 .args .form .now) (b9 .args .line .now) (b6 .loop .i) (b5 .end-of .result) (b6 .loop .j) (b4 .end-of2 .result) (b6 .loop .inv .0)
+    (b6 .loop .inv .1) (b5 .end-of .ensures) (b4 .end-of2 .ensures)
     (failed (c .before .admits .result) _ (c .before .admits .ensures) (c .if1 .taken))
-    ∙ c .before .before .before .before .before .before .loop .inv .2)
+    ∙ b6 .loop .inv .2)
     (λ c.
-    line-ends (c .before .before .before .before .before .before .before .before .before .before .args .form .now) (c .before .before .before .before .before .before .before .before .before .before .args .line .now) (c .before .before .before .before .before .before .before .loop .i) (c .before .before .before .before .before .before .end-of .result) (c .before .before .before .before .before .before .before .loop .j) (c .before .before .before .before .before .end-of2 .result) (c .before .before .before .before .before .before .before .loop .inv .0) (c .before .before .before .before .before .before .before .loop .inv .1) (c .before .before .before .before .before .before .end-of .ensures) (c .before .before .before .before .before .end-of2 .ensures)
-    (passed (c .before .before .admits .result) _ (c .before .before .admits .ensures) (c .before .if1 .left))
+    let b2 = c .before .before in
+    let b5 = b2 .before .before .before in
+    let b6 = b5 .before in
+    let b7 = b6 .before in
+    let b10 = b7 .before .before .before in
+    line-ends (b10 .args .form .now) (b10 .args .line .now) (b7 .loop .i) (b6 .end-of .result) (b7 .loop .j) (b5 .end-of2 .result)
+    (b7 .loop .inv .0) (b7 .loop .inv .1) (b6 .end-of .ensures) (b5 .end-of2 .ensures)
+    (passed (b2 .admits .result) _ (b2 .admits .ensures) (c .before .if1 .left))
     (c .if2 .taken)
-    ∙ c .before .before .before .before .before .before .before .loop .inv .2)
+    ∙ b7 .loop .inv .2)
     (λ c.
-    form-longer (c .before .before .before .before .before .before .before .before .before .before .before .args .form .now) (c .before .before .before .before .before .before .before .before .before .before .before .args .line .now) (c .before .before .before .before .before .before .before .before .loop .i) (c .before .before .before .before .before .before .before .end-of .result) (c .before .before .before .before .before .before .before .before .loop .j) (c .before .before .before .before .before .before .end-of2 .result) (c .before .before .before .before .before .before .before .before .loop .inv .0) (c .before .before .before .before .before .before .before .before .loop .inv .1) (c .before .before .before .before .before .before .before .end-of .ensures) (c .before .before .before .before .before .before .end-of2 .ensures)
-    (passed (c .before .before .before .admits .result) _ (c .before .before .before .admits .ensures) (c .before .before .if1 .left))
+    let b2 = c .before .before in
+    let b3 = b2 .before in
+    let b6 = b3 .before .before .before in
+    let b7 = b6 .before in
+    let b8 = b7 .before in
+    let b11 = b8 .before .before .before in
+    form-longer (b11 .args .form .now) (b11 .args .line .now) (b8 .loop .i) (b7 .end-of .result) (b8 .loop .j) (b6 .end-of2 .result)
+    (b8 .loop .inv .0) (b8 .loop .inv .1) (b7 .end-of .ensures) (b6 .end-of2 .ensures)
+    (passed (b3 .admits .result) _ (b3 .admits .ensures) (b2 .if1 .left))
     (c .before .if2 .left)
     (c .if3 .taken)
-    ∙ c .before .before .before .before .before .before .before .before .loop .inv .2)
-    (λ c. omega (arith, end-in 32 (c .before .before .before .before .before .before .before .before .before .before .before .args .form .now) (c .before .before .before .before .before .before .before .before .loop .i) (c .before .before .before .before .before .before .before .end-of .result) (c .before .before .before .before .before .before .before .before .loop .inv .0) (c .before .before .before .before .before .before .before .end-of .ensures)))
-    (λ c. omega (arith, end-in 32 (c .before .before .before .before .before .before .before .before .before .before .before .args .line .now) (c .before .before .before .before .before .before .before .before .loop .j) (c .before .before .before .before .before .before .end-of2 .result) (c .before .before .before .before .before .before .before .before .loop .inv .1) (c .before .before .before .before .before .before .end-of2 .ensures)))
-    (λ c. omega (arith, c .before .if2 .left, c .before .before .before .before .before .before .before .end-of .ensures, end-in 32 (c .before .before .before .before .before .before .before .before .before .before .before .args .form .now) (c .before .before .before .before .before .before .before .before .loop .i) (c .before .before .before .before .before .before .before .end-of .result) (c .before .before .before .before .before .before .before .before .loop .inv .0) (c .before .before .before .before .before .before .before .end-of .ensures)))
-    (λ c. (
-      omega (arith, c .before .if2 .left, end-in 32 (c .before .before .before .before .before .before .before .before .before .before .before .args .form .now) (c .before .before .before .before .before .before .before .before .loop .i) (c .before .before .before .before .before .before .before .end-of .result) (c .before .before .before .before .before .before .before .before .loop .inv .0) (c .before .before .before .before .before .before .before .end-of .ensures)),
-      omega (arith, c .if3 .left, end-in 32 (c .before .before .before .before .before .before .before .before .before .before .before .args .line .now) (c .before .before .before .before .before .before .before .before .loop .j) (c .before .before .before .before .before .before .end-of2 .result) (c .before .before .before .before .before .before .before .before .loop .inv .1) (c .before .before .before .before .before .before .end-of2 .ensures)),
-      both-next (c .before .before .before .before .before .before .before .before .before .before .before .args .form .now) (c .before .before .before .before .before .before .before .before .before .before .before .args .line .now) (c .before .before .before .before .before .before .before .before .loop .i) (c .before .before .before .before .before .before .before .end-of .result) (c .before .before .before .before .before .before .before .before .loop .j) (c .before .before .before .before .before .before .end-of2 .result) (c .before .before .before .before .before .before .before .before .loop .inv .0) (c .before .before .before .before .before .before .before .before .loop .inv .1) (c .before .before .before .before .before .before .before .end-of .ensures) (c .before .before .before .before .before .before .end-of2 .ensures)
-          (passed (c .before .before .before .admits .result) _ (c .before .before .before .admits .ensures) (c .before .before .if1 .left))
+    ∙ b8 .loop .inv .2)
+    (λ c.
+    let b7 = c .before .before .before .before .before .before .before in
+    let b8 = b7 .before in
+    let b11 = b8 .before .before .before in
+    omega (arith, end-in 32 (b11 .args .form .now) (b8 .loop .i) (b7 .end-of .result) (b8 .loop .inv .0) (b7 .end-of .ensures)))
+    (λ c.
+    let b6 = c .before .before .before .before .before .before in
+    let b8 = b6 .before .before in
+    let b11 = b8 .before .before .before in
+    omega (arith, end-in 32 (b11 .args .line .now) (b8 .loop .j) (b6 .end-of2 .result) (b8 .loop .inv .1) (b6 .end-of2 .ensures)))
+    (λ c.
+    let b7 = c .before .before .before .before .before .before .before in
+    let b8 = b7 .before in
+    let b11 = b8 .before .before .before in
+    omega (arith, c .before .if2 .left, b7 .end-of .ensures, end-in 32 (b11 .args .form .now) (b8 .loop .i) (b7 .end-of .result) (b8 .loop .inv .0) (b7 .end-of .ensures)))
+    (λ c.
+    let b2 = c .before .before in
+    let b3 = b2 .before in
+    let b6 = b3 .before .before .before in
+    let b7 = b6 .before in
+    let b8 = b7 .before in
+    let b11 = b8 .before .before .before in (
+      omega (arith, c .before .if2 .left, end-in 32 (b11 .args .form .now) (b8 .loop .i) (b7 .end-of .result) (b8 .loop .inv .0) (b7 .end-of .ensures)),
+      omega (arith, c .if3 .left, end-in 32 (b11 .args .line .now) (b8 .loop .j) (b6 .end-of2 .result) (b8 .loop .inv .1) (b6 .end-of2 .ensures)),
+      both-next (b11 .args .form .now) (b11 .args .line .now) (b8 .loop .i) (b7 .end-of .result) (b8 .loop .j) (b6 .end-of2 .result)
+          (b8 .loop .inv .0) (b8 .loop .inv .1) (b7 .end-of .ensures) (b6 .end-of2 .ensures)
+          (passed (b3 .admits .result) _ (b3 .admits .ensures) (b2 .if1 .left))
           (c .before .if2 .left)
           (c .if3 .left)
-          ∙ c .before .before .before .before .before .before .before .before .loop .inv .2,
+          ∙ b8 .loop .inv .2,
     )))

@@ -23,7 +23,16 @@ move-of-spec =
     (λ c κs. search needs)
     (λ c. search needs)
     (λ c. fits-minus (c .value-of .result) (record { fits = c .value-of .ok }))
-    (λ c. minus (c .value-of .result) (record { fits = c .value-of .ok }) ∙ ap back (c .value-of .ensures ∙ ap (λ (s : List ℕ). capped (valueFrom 0 s)) (to-the-end 1 (c .before .before .before .before .before .before .args .s .now))) ∙ move-back (c .before .before .before .before .before .before .args .s .now) (c .before .before .before .before .if1 .left) (c .before .before .if2 .taken))
+    (λ c.
+    let b2 = c .before .before in
+    let b4 = b2 .before .before in
+    let b6 = b4 .before .before in
+    minus (c .value-of .result) (record { fits = c .value-of .ok })
+    ∙ ap back (c .value-of .ensures ∙ ap (λ (s : List ℕ). capped (valueFrom 0 s)) (to-the-end 1 (b6 .args .s .now)))
+    ∙ move-back (b6 .args .s .now) (b4 .if1 .left) (b2 .if2 .taken))
     (λ c κs. search needs)
     (λ c. search needs)
-    (λ c. plus (c .value-of2 .result) (record { fits = c .value-of2 .ok }) ∙ ap pos (c .value-of2 .ensures) ∙ move-on (c .before .before .before .before .before .args .s .now) (c .before .before .before .if1 .left) (c .before .if2 .left)))
+    (λ c.
+    let b3 = c .before .before .before in
+    let b5 = b3 .before .before in
+    plus (c .value-of2 .result) (record { fits = c .value-of2 .ok }) ∙ ap pos (c .value-of2 .ensures) ∙ move-on (b5 .args .s .now) (b3 .if1 .left) (c .before .if2 .left)))

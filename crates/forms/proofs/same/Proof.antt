@@ -25,8 +25,14 @@ same-spec =
     (λ c. (c .if1 .left, omega arith, refl))
     (λ c. omega arith)
     (λ c. omega arith)
-    (λ c. sym (other _ _ (c .before .before .before .before .loop .i) (c .before .before .before .loop-test .taken) (omega arith) (ne-eqb _ _ (c .if2 .taken))) ∙ c .before .before .before .before .loop .inv .2)
+    (λ c.
+    let b3 = c .before .before .before in
+    let b4 = b3 .before in
+    sym (other _ _ (b4 .loop .i) (b3 .loop-test .taken) (omega arith) (ne-eqb _ _ (c .if2 .taken))) ∙ b4 .loop .inv .2)
     (λ c. omega arith)
     (λ c. omega arith)
-    (λ c. (c .before .before .before .before .loop .inv .0, omega arith, sym (same-next _ _ (c .before .before .before .before .loop .i) (c .before .before .before .loop-test .taken) (omega arith) (eq-eqb _ _ (c .if2 .left))) ∙ c .before .before .before .before .loop .inv .2))
+    (λ c.
+    let b3 = c .before .before .before in
+    let b4 = b3 .before in
+    (b4 .loop .inv .0, omega arith, sym (same-next _ _ (b4 .loop .i) (b3 .loop-test .taken) (omega arith) (eq-eqb _ _ (c .if2 .left))) ∙ b4 .loop .inv .2))
     (λ c. sym (same-end _ _ (c .before .loop .i) (c .loop-test .left) (omega arith)) ∙ c .before .loop .inv .2))

@@ -29,5 +29,13 @@ value-of-spec =
     (λ c κs. search needs)
     (λ c. omega arith)
     (λ c. omega arith)
-    (λ c. (omega arith, omega (arith, c .one-more .ensures), ap (λ (v : ℕ). capped (valueFrom v (drop (c .before .before .before .loop .i + 1) (c .before .before .before .before .before .args .s .now)))) (c .one-more .ensures) ∙ value-next (c .before .before .before .before .before .args .s .now) (c .before .before .before .loop .i) (c .before .before .before .loop .v) (c .before .before .loop-test .taken) ∙ c .before .before .before .loop .inv .2))
+    (λ c.
+    let b2 = c .before .before in
+    let b3 = b2 .before in
+    let b5 = b3 .before .before in (
+      omega arith,
+      omega (arith, c .one-more .ensures),
+      ap (λ (v : ℕ). capped (valueFrom v (drop (b3 .loop .i + 1) (b5 .args .s .now)))) (c .one-more .ensures)
+          ∙ value-next (b5 .args .s .now) (b3 .loop .i) (b3 .loop .v) (b2 .loop-test .taken) ∙ b3 .loop .inv .2,
+    ))
     (λ c. sym (value-last (c .before .before .before .args .s .now) (c .before .loop .i) (c .before .loop .v) (c .loop-test .left) (c .before .loop .inv .1)) ∙ c .before .loop .inv .2))

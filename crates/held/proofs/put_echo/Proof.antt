@@ -15,4 +15,10 @@ put-echo-spec =
     (λ c. note-echo (c .before .before .before .before .before .args .echo) _ _ (sym (c .before .is-printed .ensures) ∙ c .if2 .taken))
     (λ c κs. search needs)
     (λ c. search needs)
-    (λ c. line-echo (c .before .before .before .before .before .before .before .before .before .args .echo) _ (not-false _ (c .before .before .before .before .before .before .if1 .left)) (sym (c .before .before .before .before .before .is-printed .ensures) ∙ c .before .before .before .before .if2 .left) (c .before .before .before .before .before .before .before .before .before .pre .0) (c .before .before .put-line .ensures)))
+    (λ c.
+    let b2 = c .before .before in
+    let b4 = b2 .before .before in
+    let b5 = b4 .before in
+    let b6 = b5 .before in
+    let b9 = b6 .before .before .before in
+    line-echo (b9 .args .echo) _ (not-false _ (b6 .if1 .left)) (sym (b5 .is-printed .ensures) ∙ b4 .if2 .left) (b9 .pre .0) (b2 .put-line .ensures)))

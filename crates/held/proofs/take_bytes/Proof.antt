@@ -17,58 +17,28 @@ Inv-loop echo bytes line₀ held days₀ out₀ now-held₀ i₀ line days out n
 abbrev μ-loop : tie.MeasureT-loop
 μ-loop echo bytes line₀ held days₀ out₀ now-held₀ i₀ line days out now-held i = length bytes - i
 
-loop-holds : tie.Need-loop-holds Inv-loop μ-loop
-loop-holds c =
-    let a = c .before .before .before .before in
-    (no-byte (a .args .bytes .now) _ _ (a .pre .0), refl, refl, refl)
-
-shared-slice-read-take-byte : tie.Need-shared-slice-read-take-byte Inv-loop μ-loop
-shared-slice-read-take-byte c = omega arith
-
-take-byte-requires : tie.Need-take-byte-requires Inv-loop μ-loop
-take-byte-requires c κs = search needs
-
-add-i : tie.Need-add-i Inv-loop μ-loop
-add-i c = omega arith
-
-loop-less : tie.Need-loop-less Inv-loop μ-loop
-loop-less c = omega arith
-
-loop-again : tie.Need-loop-again Inv-loop μ-loop
-loop-again c =
-    let p = c .before .before .before .before .before .before in
-    let q = p .before .before .before .before .before .before in
-    let a = q .before .before .before .before .before in
-    (next-byte (a .args .bytes .now) _ _ {i = q .loop .i} (omega arith) (q .loop .inv .0) (p .take-byte .ensures .0), search needs, search needs, search needs)
-
-same-length : tie.Need-same-length Inv-loop μ-loop
-same-length c = search needs
-
-same-length-2 : tie.Need-same-length-2 Inv-loop μ-loop
-same-length-2 c = search needs
-
-same-length-3 : tie.Need-same-length-3 Inv-loop μ-loop
-same-length-3 c = search needs
-
-returns : tie.Need-returns Inv-loop μ-loop
-returns c =
-    let q = c .before in
-    let a = q .before .before .before .before .before in
-    all-bytes (a .args .bytes .now) _ _ {i = q .loop .i} (omega arith) (q .loop .inv .0)
-
 pub take-bytes-spec : {M : Type 1} → statement M
 take-bytes-spec =
     tie.close
     (tie.spec
     Inv-loop
     μ-loop
-    loop-holds
-    shared-slice-read-take-byte
-    take-byte-requires
-    add-i
-    loop-less
-    loop-again
-    same-length
-    same-length-2
-    same-length-3
-    returns)
+    (λ c.
+    let a = c .before .before .before .before in
+    (no-byte (a .args .bytes .now) _ _ (a .pre .0), refl, refl, refl))
+    (λ c. omega arith)
+    (λ c κs. search needs)
+    (λ c. omega arith)
+    (λ c. omega arith)
+    (λ c.
+    let p = c .before .before .before .before .before .before in
+    let q = p .before .before .before .before .before .before in
+    let a = q .before .before .before .before .before in
+    (next-byte (a .args .bytes .now) _ _ {i = q .loop .i} (omega arith) (q .loop .inv .0) (p .take-byte .ensures .0), search needs, search needs, search needs))
+    (λ c. search needs)
+    (λ c. search needs)
+    (λ c. search needs)
+    (λ c.
+    let q = c .before in
+    let a = q .before .before .before .before .before in
+    all-bytes (a .args .bytes .now) _ _ {i = q .loop .i} (omega arith) (q .loop .inv .0)))

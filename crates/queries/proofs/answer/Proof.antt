@@ -6,7 +6,7 @@ use mir.Val.{SFits}
 use mir.ValLaws.{toZ-ofZ}
 use Rattle.fields.proofs.Putting.{put-as}
 use Rattle.told.specs.Answers.{moveText}
-use Rattle.queries.proofs.Arms.{arm}
+use Rattle.queries.proofs.Arms.{arm, line}
 use borrow.Author.Needs.{needs}
 use Rattle.queries.proofs.answer.Statement.{statement}
 use Rattle.queries.proofs.answer.Tie as tie
@@ -44,33 +44,48 @@ answer-spec =
     (λ c. search needs)
     (λ c κs. search needs)
     (λ c. search needs)
-    (λ c. arm (c .before .before .before .before .before .before .before .before .before .args .line .now) (c .before .before .before .before .enum-told .given .1) (omega arith) (c .before .before .put-unreadable .ensures))
+    (λ c.
+    let b2 = c .before .before in
+    let b4 = b2 .before .before in
+    let b9 = b4 .before .before .before .before .before in
+    arm (b9 .args .line .now) (b4 .enum-told .given .1) (omega arith) (b2 .put-unreadable .ensures))
     (λ c. search needs)
-    (λ c. arm (c .before .before .before .before .before .before .before .before .before .args .line .now) (c .before .before .before .before .enum-told2 .given .1) (omega arith) (c .before .before .put-line .ensures))
+    (λ c.
+    let b2 = c .before .before in
+    let b4 = b2 .before .before in
+    let b9 = b4 .before .before .before .before .before in
+    arm (b9 .args .line .now) (b4 .enum-told2 .given .1) (omega arith) (b2 .put-line .ensures))
     (λ c. search needs)
-    (λ c. arm (c .before .before .before .before .before .before .before .before .before .before .args .line .now) (c .before .before .before .before .before .q .given .1) (omega arith) (c .before .before .answer-place .ensures))
+    (λ c. let b = c .before .before .before .before .before in line (b .before .before .before .before .before .args .line .now) (b .q .given .1) (c .before .before .answer-place .ensures))
     (λ c. search needs)
-    (λ c. arm (c .before .before .before .before .before .before .before .before .before .before .args .line .now) (c .before .before .before .before .before .q2 .given .1) (omega arith) (c .before .before .answer-year .ensures))
+    (λ c. let b = c .before .before .before .before .before in line (b .before .before .before .before .before .args .line .now) (b .q2 .given .1) (c .before .before .answer-year .ensures))
     (λ c. search needs)
-    (λ c. arm (c .before .before .before .before .before .before .before .before .before .before .args .line .now) (c .before .before .before .before .before .q3 .given .1) (omega arith) (c .before .before .answer-month .ensures))
+    (λ c. let b = c .before .before .before .before .before in line (b .before .before .before .before .before .args .line .now) (b .q3 .given .1) (c .before .before .answer-month .ensures))
     (λ c. search needs)
-    (λ c. arm (c .before .before .before .before .before .before .before .before .before .before .args .line .now) (c .before .before .before .before .before .q4 .given .1) (omega arith) (c .before .before .answer-quarter .ensures))
+    (λ c. let b = c .before .before .before .before .before in line (b .before .before .before .before .before .args .line .now) (b .q4 .given .1) (c .before .before .answer-quarter .ensures))
     (λ c. search needs)
-    (λ c. arm (c .before .before .before .before .before .before .before .before .before .before .args .line .now) (c .before .before .before .before .before .q5 .given .1) (omega arith) (c .before .before .answer-term .ensures))
+    (λ c. let b = c .before .before .before .before .before in line (b .before .before .before .before .before .args .line .now) (b .q5 .given .1) (c .before .before .answer-term .ensures))
     (λ c. search needs)
-    (λ c. arm (c .before .before .before .before .before .before .before .before .before .before .args .line .now) (c .before .before .before .before .before .q6 .given .1) (omega arith) (c .before .before .answer-conjunction .ensures))
+    (λ c. let b = c .before .before .before .before .before in line (b .before .before .before .before .before .args .line .now) (b .q6 .given .1) (c .before .before .answer-conjunction .ensures))
     (λ c. search needs)
-    (λ c. arm (c .before .before .before .before .before .before .before .before .before .before .args .line .now) (c .before .before .before .before .before .q7 .given .1) (omega arith) (c .before .before .answer-next .ensures))
+    (λ c. let b = c .before .before .before .before .before in line (b .before .before .before .before .before .args .line .now) (b .q7 .given .1) (c .before .before .answer-next .ensures))
     (λ c. search needs)
-    (λ c. arm (c .before .before .before .before .before .before .before .before .before .before .args .line .now) (c .before .before .before .before .before .q8 .given .1) (omega arith) (c .before .before .answer-pair .ensures))
+    (λ c. let b = c .before .before .before .before .before in line (b .before .before .before .before .before .args .line .now) (b .q8 .given .1) (c .before .before .answer-pair .ensures))
     (λ c. search needs)
-    (λ c. arm (c .before .before .before .before .before .before .before .before .before .before .args .line .now) (c .before .before .before .before .before .q9 .given .1) (omega arith) (c .before .before .answer-day .ensures))
+    (λ c. let b = c .before .before .before .before .before in line (b .before .before .before .before .before .args .line .now) (b .q9 .given .1) (c .before .before .answer-day .ensures))
     (λ c. search needs)
-    (λ c. arm (c .before .before .before .before .before .before .before .before .before .before .args .line .now) (c .before .before .before .before .before .q10 .given .1) (omega arith) (c .before .before .answer-date .ensures))
+    (λ c. let b = c .before .before .before .before .before in line (b .before .before .before .before .before .args .line .now) (b .q10 .given .1) (c .before .before .answer-date .ensures))
     (λ c. search needs)
     (λ c.
     let h : SFits w64 (c .before .before .before .before .before .q11 .given .0 .1 .1 .1 .1 .0) = search needs in
-    arm (c .before .before .before .before .before .before .before .before .before .before .args .line .now) (c .before .before .before .before .before .q11 .given .1) (omega arith) (put-as (ap (moveText _ _ _ _) (toZ-ofZ w64 _ h)) (c .before .before .answer-move .ensures)))
+    let b2 = c .before .before in
+    let b5 = b2 .before .before .before in
+    let b10 = b5 .before .before .before .before .before in
+    arm (b10 .args .line .now) (b5 .q11 .given .1) (omega arith) (put-as (ap (moveText _ _ _ _) (toZ-ofZ w64 _ h)) (b2 .answer-move .ensures)))
     (λ c. search needs)
     (λ c. search needs)
-    (λ c. arm (c .before .before .before .before .before .before .before .before .before .before .before .before .before .args .line .now) (c .before .before .before .before .before .before .before .before .q12 .given .1) (omega arith) (c .before .before .before .before .answer-slip .ensures)))
+    (λ c.
+    let b4 = c .before .before .before .before in
+    let b8 = b4 .before .before .before .before in
+    let b13 = b8 .before .before .before .before .before in
+    arm (b13 .args .line .now) (b8 .q12 .given .1) (omega arith) (b4 .answer-slip .ensures)))

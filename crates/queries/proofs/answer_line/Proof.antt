@@ -14,11 +14,19 @@ answer-line-spec =
     (tie.spec
     (λ c κs. search needs)
     (λ c. search needs)
-    (λ c. put-as (too-long (c .before .before .before .before .before .before .before .before .args .line .now) (c .before .before .before .before .if1 .taken)) (wide (omega arith) (c .before .before .put-unreadable .ensures)))
+    (λ c.
+    let b2 = c .before .before in
+    let b4 = b2 .before .before in
+    let b8 = b4 .before .before .before .before in
+    put-as (too-long (b8 .args .line .now) (b4 .if1 .taken)) (wide (omega arith) (b2 .put-unreadable .ensures)))
     (λ c κs. search needs)
     (λ c κs. search needs)
     (λ c. search needs)
     (λ c. search needs)
     (λ c.
-    let s = c .before .before .before .before .before .before .before .before .before .before .before .before .args .line .now in
-    put-as (ap (answered s) (c .before .before .before .before .before .before .before .read-query .ensures) ∙ short-enough s (c .before .before .before .before .before .before .before .before .if1 .left)) (c .before .before .before .before .answer .ensures)))
+    let b4 = c .before .before .before .before in
+    let b7 = b4 .before .before .before in
+    let b8 = b7 .before in
+    let b12 = b8 .before .before .before .before in
+    let s = b12 .args .line .now in
+    put-as (ap (answered s) (b7 .read-query .ensures) ∙ short-enough s (b8 .if1 .left)) (b4 .answer .ensures)))

@@ -14,4 +14,8 @@ answer-slip-spec =
     (λ c κs. search needs)
     (λ c. search needs)
     (λ c. search needs)
-    (λ c. put-as (ap (λ (r : Reading). searchText r (c .before .before .before .before .before .before .before .before .before .before .args .first) (c .before .before .before .before .before .before .before .before .before .before .args .last)) (c .before .before .before .before .before .before .before .reading-of .ensures)) (c .before .before .before .before .answer-search .ensures)))
+    (λ c.
+    let b4 = c .before .before .before .before in
+    let b7 = b4 .before .before .before in
+    let b10 = b7 .before .before .before in
+    put-as (ap (λ (r : Reading). searchText r (b10 .args .first) (b10 .args .last)) (b7 .reading-of .ensures)) (b4 .answer-search .ensures)))

@@ -12,4 +12,8 @@ put-line-spec =
     (λ c κs. search needs)
     (λ c κs. search needs)
     (λ c. search needs)
-    (λ c. wide (omega (arith, c .before .before .before .before .before .before .before .before .before .before .pre .0)) (then (c .before .before .before .before .before .before .put-bytes .ensures) (c .before .before .put-byte .ensures))))
+    (λ c.
+    let b2 = c .before .before in
+    let b6 = b2 .before .before .before .before in
+    let b10 = b6 .before .before .before .before in
+    wide (omega (arith, b10 .pre .0)) (then (b6 .put-bytes .ensures) (b2 .put-byte .ensures))))
