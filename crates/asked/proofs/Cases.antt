@@ -18,3 +18,7 @@ double-space = refl
 pub a-day : read (word "DAY 39857") ≡ Query.Day 39857
 unfolding valueFrom fieldsIn fieldAt same allDigits isDecimal isBack isMark admits like firstLike numberIn leapIn moveIn moveOf slipFieldIn slipMarkIn table formsOf forms queryAt isNote readBy
 a-day = refl
+
+pub a-planet-next : read (word "NEXT 5 7") ≡ Query.Next 5 7
+unfolding valueFrom fieldsIn fieldAt same allDigits isDecimal isBack isMark admits like firstLike numberIn leapIn moveIn moveOf slipFieldIn slipMarkIn table formsOf forms queryAt isNote readBy
+a-planet-next = refl

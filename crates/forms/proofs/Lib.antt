@@ -1,4 +1,5 @@
 -- Laws of a line's fields.
+pub mod Cases
 pub mod Scanning
 pub mod Fields
 pub mod Likeness

@@ -2,8 +2,9 @@
 use Prim.Native.Nat.{ℕ, _≤_, _<_}
 use native.Mathlib.Omega.{arith}
 use mathlib.Core.Path.{_≡_, refl, ap, sym}
-use mathlib.Core.Bool.{Bool, true, false, cond}
+use mathlib.Core.Bool.{Bool, true, false, cond, _&&_}
 use mathlib.Core.List.{List, [], _∷_, _++_}
+use lib.Dec.{leb}
 use lib.ListN.{length}
 use lib.Seq.{take-all}
 use borrow.Author.Tests.{le-leb, lt-leb}
@@ -13,13 +14,19 @@ use Rattle.asked.specs.Asked.{isNote}
 use Rattle.held.specs.Held.{isPrinted, echoed}
 
 -- whether a line is a note
+beyond : (b : Bool) (n k : ℕ) → k < n → false ≡ (leb n k && b)
+beyond b n k h = rw (lt-leb n k h) refl
+
+up-to : (b : Bool) (n k : ℕ) → n ≤ k → b ≡ (leb n k && b)
+up-to b n k h = rw (le-leb n k h) refl
+
 pub long-line : (l : List ℕ) → 200 < length l → false ≡ isPrinted l
 unfolding isPrinted
-long-line l h = rw (lt-leb (length l) 200 h) refl
+long-line l h = beyond (isNote l) (length l) _ (omega (arith, h))
 
 pub short-line : (l : List ℕ) → length l ≤ 200 → isNote l ≡ isPrinted l
 unfolding isPrinted
-short-line l h = rw (le-leb (length l) 200 h) refl
+short-line l h = up-to (isNote l) (length l) _ (omega (arith, h))
 
 abbrev EchoPut : Bool → List ℕ → List ℕ → List ℕ → ℕ → Type 0
 EchoPut e l o o′ b = Put 202 o 0 (cond e (echoed l) []) o′ b

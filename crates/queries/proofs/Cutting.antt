@@ -199,10 +199,17 @@ module _ (s : List ℕ) where
       go true = refl
       go false = rows
 
+-- by a line's length, against any number
+up-to : (x y : List ℕ) (n k : ℕ) → n ≤ k → x ≡ cond (leb n k) x y
+up-to x y n k h = rw (le-leb n k h) refl
+
+beyond : (x y : List ℕ) (n k : ℕ) → k < n → y ≡ cond (leb n k) x y
+beyond x y n k h = rw (lt-leb n k h) refl
+
 pub short-enough : (s : List ℕ) → length s ≤ 200 → answered s (readBy capped s) ≡ answerTo s
 unfolding answerTo
-short-enough s h = rw (le-leb (length s) 200 h) (same-answer s)
+short-enough s h = same-answer s ∙ up-to (answered s (read s)) unreadable (length s) _ (omega (arith, h))
 
 pub too-long : (s : List ℕ) → 200 < length s → unreadable ≡ answerTo s
 unfolding answerTo
-too-long s h = rw (lt-leb (length s) 200 h) refl
+too-long s h = beyond (answered s (read s)) unreadable (length s) _ (omega (arith, h))
