@@ -18,9 +18,11 @@ import sys
 
 sys.dont_write_bytecode = True
 
-from walked import DAYS, FORMS, MONTHS, ROOT, YEARS, Desk, hold, last_count, lines_in, mark
+from walked import DAYS, MONTHS, ROOT, YEARS, Desk, hold, last_count, lines_in, mark
 
-OLD_WORDS = [word for word in FORMS if word != "PAIR"]
+# the words of the drawn lines that keep their bytes: a new query has a list of its own
+OLD_WORDS = "PLACE YEAR MONTH QUARTER TERM CONJUNCTION NEXT DAY DATE MOVE SEARCH".split()
+WORDS_WITH_PAIR = "PLACE YEAR MONTH QUARTER TERM CONJUNCTION NEXT PAIR DAY DATE MOVE SEARCH".split()
 WORKED = """PLACE 11
 PLACE 9366
 PLACE 1
@@ -310,7 +312,7 @@ def long_notes():
 def added(desk):
     draw = random.Random(20261116)
     lines = [line.encode() for line in NOTES + PAIRS + WRONG_PAIRS] + long_notes()
-    words = [*FORMS, "PAIR", "PAIR", "#", "#", "#"]
+    words = [*WORDS_WITH_PAIR, "PAIR", "PAIR", "#", "#", "#"]
     for turn in range(300):
         line = drawn(desk, draw, words)
         while len(desk.told(line.encode())) > 30:

@@ -26,7 +26,7 @@ use Rattle.forms.proofs.Saying.{
   slip-mark-says,
 }
 use Rattle.asked.specs.declared.Query.{Query}
-use Rattle.asked.specs.Asked.{Row, table, tableOf, formsOf, forms, queryAt, isNote, readBy}
+use Rattle.asked.specs.Asked.{Row, table, tableOf, formsOf, forms, queryAt, hashed, readBy}
 use Rattle.asked.specs.Paper.{texts, written, Written-is-read, Note-is-read, Else-unreadable, One-query}
 
 abbrev itself : ℕ → ℕ
@@ -64,8 +64,8 @@ row-like (r ∷ rs) fs e = go (like (fieldsIn 32 (r .form)) fs) refl (row-like r
     go false h i = rw (h) i
 
 -- a line that does not begin with `#` is no note
-no-note : (t : List ℕ) → ((u : List ℕ) → t ≡ 35 ∷ u → ⊥) → isNote t ≡ false
-unfolding isNote
+no-note : (t : List ℕ) → ((u : List ℕ) → t ≡ 35 ∷ u → ⊥) → hashed t ≡ false
+unfolding hashed
 no-note [] h = refl
 no-note (b ∷ t) h = ne-eqb b 35 (λ e. h t (ap (λ (x : ℕ). x ∷ t) e))
 
@@ -81,12 +81,12 @@ else-unreadable t not-note no-query = rw (no-note t not-note) (go (row-like (tab
     go (inr e) = absurd (no-query (chosen (tableOf itself fs) fs) (sym (fields-joined t) ∙ ap joined e))
 
 pub note-is-read : Note-is-read
-unfolding readBy isNote
+unfolding readBy hashed
 note-is-read t = refl
 
 -- a line of texts is read as its texts are, where its word does not begin with `#`
-word-first : (b : ℕ) (x : List ℕ) (ts : List Text) → eqb b 35 ≡ false → isNote (line (bytes (b ∷ x) ∷ ts)) ≡ false
-unfolding line textsOf followed isNote
+word-first : (b : ℕ) (x : List ℕ) (ts : List Text) → eqb b 35 ≡ false → hashed (line (bytes (b ∷ x) ∷ ts)) ≡ false
+unfolding line textsOf followed hashed
 word-first b x [] e = e
 word-first b x (u ∷ us) e = e
 
@@ -96,11 +96,11 @@ unfolding readBy textsOf
 by b x ts e n h = rw (word-first b x ts n, fields-of-line (bytes (b ∷ x)) ts e) h
 
 nothing : readBy itself (line []) ≡ Query.Unreadable
-unfolding readBy isNote queryAt table firstLike forms formsOf textsOf line fieldsIn like admits same
+unfolding readBy hashed queryAt table firstLike forms formsOf textsOf line fieldsIn like admits same
 nothing = refl
 
 note : readBy itself (line (texts Query.Note)) ≡ Query.Note
-unfolding readBy isNote textsOf line followed
+unfolding readBy hashed textsOf line followed
 note = refl
 
 pub written-is-read : Written-is-read

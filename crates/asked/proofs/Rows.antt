@@ -9,7 +9,7 @@ use lib.ListN.{length, getD}
 use Rattle.capped.specs.Capped.{capped}
 use Rattle.asked.specs.declared.Places.{Places}
 use Rattle.asked.specs.declared.Query.{Query}
-use Rattle.asked.specs.Asked.{Row, slipIn, placesIn, table, tableOf, queryAt, isNote}
+use Rattle.asked.specs.Asked.{Row, slipIn, placesIn, table, tableOf, queryAt, hashed}
 
 pub beyond : (rs : List Row) (k : ℕ) → length rs ≤ k → queryAt rs k ≡ Query.Unreadable
 unfolding queryAt
@@ -31,12 +31,12 @@ all-denied zero k d = omega arith
 all-denied (suc n) k (d, e) = omega (arith, all-denied n k d, e)
 
 -- whether a line is a note, by its first byte
-pub no-byte : (s : List ℕ) → length s ≡ 0 → false ≡ isNote s
-unfolding isNote
+pub no-byte : (s : List ℕ) → length s ≡ 0 → false ≡ hashed s
+unfolding hashed
 no-byte [] h = refl
 no-byte (b ∷ s) h = absurd (omega arith)
 
-pub first-byte : (s : List ℕ) → (length s ≡ 0 → ⊥) → eqb (getD s 0 0) 35 ≡ isNote s
-unfolding isNote
+pub first-byte : (s : List ℕ) → (length s ≡ 0 → ⊥) → eqb (getD s 0 0) 35 ≡ hashed s
+unfolding hashed
 first-byte [] h = absurd (h refl)
 first-byte (b ∷ s) h = refl

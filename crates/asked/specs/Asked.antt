@@ -46,19 +46,19 @@ row f q = record { form = word f; query = q }
 
 -- the table of forms: `n` is a number, `m` a mark, `s` a number that may start with `-`, `f` and `g` a number and a mark that may be `?`
 unfoldable pub table : Places → Slip → List Row
-table w slip =
-    row "PLACE n" (Query.Place (w .n1))
-    ∷ row "YEAR n" (Query.Year (w .n1))
-    ∷ row "MONTH n" (Query.Month (w .n1))
-    ∷ row "QUARTER n n" (Query.Quarter (w .n1) (w .n2))
-    ∷ row "TERM n n" (Query.Term (w .n1) (w .n2))
-    ∷ row "CONJUNCTION n n" (Query.Conjunction (w .n1) (w .n2))
-    ∷ row "NEXT n n" (Query.Next (w .n1) (w .n2))
-    ∷ row "PAIR n" (Query.Pair (w .n1))
-    ∷ row "DAY n" (Query.Day (w .n1))
-    ∷ row "DATE n n m n" (Query.Date (w .n1) (w .n2) (w .m3) (w .n4))
-    ∷ row "MOVE n n m n s" (Query.Move (w .n1) (w .n2) (w .m3) (w .n4) (w .s5))
-    ∷ row "SEARCH f f g f f f n n" (Query.Search slip (w .n7) (w .n8))
+table p slip =
+    row "PLACE n" (Query.Place (p .n1))
+    ∷ row "YEAR n" (Query.Year (p .n1))
+    ∷ row "MONTH n" (Query.Month (p .n1))
+    ∷ row "QUARTER n n" (Query.Quarter (p .n1) (p .n2))
+    ∷ row "TERM n n" (Query.Term (p .n1) (p .n2))
+    ∷ row "CONJUNCTION n n" (Query.Conjunction (p .n1) (p .n2))
+    ∷ row "NEXT n n" (Query.Next (p .n1) (p .n2))
+    ∷ row "PAIR n" (Query.Pair (p .n1))
+    ∷ row "DAY n" (Query.Day (p .n1))
+    ∷ row "DATE n n m n" (Query.Date (p .n1) (p .n2) (p .m3) (p .n4))
+    ∷ row "MOVE n n m n s" (Query.Move (p .n1) (p .n2) (p .m3) (p .n4) (p .s5))
+    ∷ row "SEARCH f f g f f f n n" (Query.Search slip (p .n7) (p .n8))
     ∷ []
 
 -- the table, with what stands in the places of a line
@@ -78,11 +78,11 @@ queryAt [] k = Query.Unreadable
 queryAt (r ∷ rs) zero = r .query
 queryAt (r ∷ rs) (suc k) = queryAt rs k
 
--- "A line that begins with `#` (..) is a note"
-unfoldable pub isNote : List ℕ → Bool
-isNote [] = false
-isNote (b ∷ s) = eqb b 35
+-- "A line that begins with `#`": it is a note where it "has at most 200 bytes", which is asked of every line (crate `queries`)
+unfoldable pub hashed : List ℕ → Bool
+hashed [] = false
+hashed (b ∷ s) = eqb b 35
 
--- what a line asks: nothing, where it is a note; else the query of the first form that it is like
+-- what a line asks: nothing, where it begins with `#`; else the query of the first form that it is like
 unfoldable pub readBy : (ℕ → ℕ) → List ℕ → Query
-readBy c s = cond (isNote s) Query.Note (queryAt (tableOf c (fieldsIn 32 s)) (firstLike forms (fieldsIn 32 s)))
+readBy c s = cond (hashed s) Query.Note (queryAt (tableOf c (fieldsIn 32 s)) (firstLike forms (fieldsIn 32 s)))

@@ -42,7 +42,7 @@ read = readBy (λ k. k)
 abbrev pub Written-is-read : Type 0
 Written-is-read = (q : Query) → read (written q) ≡ q
 
--- "A line that begins with `#`" is a note, whatever follows
+-- a line that begins with `#` is read as a note, whatever follows
 abbrev pub Note-is-read : Type 0
 Note-is-read = (t : List ℕ) → read (35 ∷ t) ≡ Query.Note
 

@@ -3,7 +3,7 @@
 ghost use mathlib.Core.Path.{_≡_};
 ghost use Rattle.capped.specs.Capped.{capped};
 ghost use Rattle.forms.specs.Forms.{fieldsIn, firstLike};
-ghost use Rattle.asked.specs.Asked.{isNote, slipIn, placesIn, tableOf, forms, queryAt, readBy};
+ghost use Rattle.asked.specs.Asked.{hashed, slipIn, placesIn, tableOf, forms, queryAt, readBy};
 use forms::Mark;
 use reading::Field;
 
@@ -140,8 +140,8 @@ fn query_of(k: usize, line: &[u8]) -> Query
 }
 
 // Whether a line begins with `#`.
-pub fn is_note(line: &[u8]) -> bool
-    ensures { λ r. ⌜ r ≡ isNote (now (line .entry)) ⌝ }
+pub fn is_hashed(line: &[u8]) -> bool
+    ensures { λ r. ⌜ r ≡ hashed (now (line .entry)) ⌝ }
 {
     if line.len() == 0 {
         return false;
@@ -153,7 +153,7 @@ pub fn is_note(line: &[u8]) -> bool
 pub fn read_query(line: &[u8]) -> Query
     ensures { λ r. ⌜ r ≡ readBy capped (now (line .entry)) ⌝ }
 {
-    if is_note(line) {
+    if is_hashed(line) {
         return Query::Note;
     }
     query_of(form_number(line), line)

@@ -6,3 +6,4 @@ pub mod Likeness
 pub mod Moves
 pub mod Spaces
 pub mod Saying
+pub mod Paper

@@ -12,13 +12,13 @@ use borrow.Author.Tests.{leb-true, eqb-true, eqb-false, le-leb, ne-eqb, not-true
 use Rattle.rule.specs.Reasons.{within}
 use Rattle.reading.specs.declared.Field.{Field}
 use Rattle.reading.specs.declared.Field.the-variants.{Known, Unread}
-use Rattle.fields.specs.Fields.{word, digits, decimal}
+use Rattle.fields.specs.Fields.{word, digits, decimal, leapText}
 use Rattle.fields.specs.Paper.{valueFrom, AreDigits, none, one-more, IsDecimal, nought, not-nought}
 use Rattle.fields.proofs.Paper.{decimal-reads-back, one-decimal, decimal-tells}
 use Rattle.forms.specs.declared.Mark.{Mark}
 use Rattle.forms.specs.declared.Mark.the-variants.{Seen, Unseen}
 use Rattle.forms.specs.Forms.{fieldAt, same, allDigits, leads, isDecimal, isBack, isMark, letter, admits, like, back, isMinus, moveOf, slipFieldOf, slipMarkOf}
-use Rattle.forms.specs.Texts.{Text, bytes, n, m, s, f, g, markText, moveText, fieldText, markReadText, textOf, textsOf}
+use Rattle.forms.specs.Texts.{Text, bytes, n, m, s, f, g, signedText, fieldText, markReadText, textOf, textsOf}
 
 both : (a b : Bool) → (a && b) ≡ true → (a ≡ true) × (b ≡ true)
 both true b e = (refl, e)
@@ -66,7 +66,7 @@ unfolding isDecimal allDigits
 decimal-is nought = refl
 decimal-is (not-nought {d} {ds} l h r) = rw (leads-well d ds l, in-digits d (omega (arith, l)) h) (digits-all r)
 
-exact : (p t : List ℕ) → same p t ≡ true → t ≡ p
+pub exact : (p t : List ℕ) → same p t ≡ true → t ≡ p
 unfolding same
 exact [] [] e = refl
 exact [] (k ∷ t) e = absurd (let o : _≡_ {A = ℕ} 0 1 = cc in omega arith)
@@ -93,10 +93,10 @@ readAs p t =
     (cond (eqb (letter p) 103) (g (slipMarkOf t))
     (bytes p)))))
 
-number-text : (t : List ℕ) → isDecimal t ≡ true → t ≡ decimal (valueFrom 0 t)
+pub number-text : (t : List ℕ) → isDecimal t ≡ true → t ≡ decimal (valueFrom 0 t)
 number-text t e = one-decimal t (is-decimal t e)
 
-mark-text : (t : List ℕ) → isMark t ≡ true → t ≡ markText (same (word "L") t)
+pub mark-text : (t : List ℕ) → isMark t ≡ true → t ≡ leapText (same (word "L") t)
 unfolding isMark same
 mark-text t = either (same (word "-") t) (same (word "L") t)
     (λ e. let i : t ≡ word "-" = exact (word "-") t e in rw (i) refl)
@@ -106,11 +106,11 @@ no-minus : {t : List ℕ} → IsDecimal t → isMinus t ≡ false
 no-minus nought = refl
 no-minus (not-nought {d} l h r) = ne-eqb d 45 (λ e. omega (arith, e, l))
 
-minus : (v : ℕ) → (v ≡ 0 → ⊥) → 45 ∷ decimal v ≡ moveText (back v)
+minus : (v : ℕ) → (v ≡ 0 → ⊥) → 45 ∷ decimal v ≡ signedText (back v)
 minus zero h = absurd (h refl)
 minus (suc v) h = refl
 
-back-text : (t : List ℕ) → isBack t ≡ true → t ≡ moveText (moveOf itself t)
+back-text : (t : List ℕ) → isBack t ≡ true → t ≡ signedText (moveOf itself t)
 unfolding isBack moveOf digits decimal same
 back-text [] e = absurd (let o : _≡_ {A = ℕ} 0 1 = cc in omega arith)
 back-text (b ∷ t) e =
@@ -123,11 +123,11 @@ back-text (b ∷ t) e =
     other : (t : List ℕ) → t ≡ word "0" → same (word "0") t ≡ false → ⊥
     other t h z = let y : same (word "0") (word "0") ≡ false = subst (λ (l : List ℕ). same (word "0") l ≡ false) h z in let o : _≡_ {A = ℕ} 0 1 = cc in omega arith
 
-move-text : (t : List ℕ) → (isDecimal t || isBack t) ≡ true → t ≡ moveText (moveOf itself t)
+pub move-text : (t : List ℕ) → (isDecimal t || isBack t) ≡ true → t ≡ signedText (moveOf itself t)
 unfolding moveOf
 move-text t = either (isDecimal t) (isBack t) (λ e. rw (no-minus (is-decimal t e)) (number-text t e)) (back-text t)
 
-field-text : (t : List ℕ) → (isDecimal t || same (word "?") t) ≡ true → t ≡ fieldText (slipFieldOf itself t)
+pub field-text : (t : List ℕ) → (isDecimal t || same (word "?") t) ≡ true → t ≡ fieldText (slipFieldOf itself t)
 unfolding slipFieldOf
 field-text t e = go (same (word "?") t) refl e
   where
@@ -139,7 +139,7 @@ field-text t e = go (same (word "?") t) refl e
     go true i h = exact (word "?") t i
     go false i h = number-text t (or-false (isDecimal t) h)
 
-slip-mark-text : (t : List ℕ) → (isMark t || same (word "?") t) ≡ true → t ≡ markReadText (slipMarkOf t)
+pub slip-mark-text : (t : List ℕ) → (isMark t || same (word "?") t) ≡ true → t ≡ markReadText (slipMarkOf t)
 unfolding slipMarkOf
 slip-mark-text t e = go (same (word "?") t) refl e
   where
@@ -195,12 +195,12 @@ number-is k = decimal-is (decimal-reads-back k .0)
 pub number-says : (k : ℕ) → valueFrom 0 (decimal k) ≡ k
 number-says k = decimal-reads-back k .1
 
-pub mark-is : (l : Bool) → isMark (markText l) ≡ true
+pub mark-is : (l : Bool) → isMark (leapText l) ≡ true
 unfolding isMark same
 mark-is true = refl
 mark-is false = refl
 
-pub mark-says : (l : Bool) → same (word "L") (markText l) ≡ l
+pub mark-says : (l : Bool) → same (word "L") (leapText l) ≡ l
 unfolding same
 mark-says true = refl
 mark-says false = refl
@@ -217,12 +217,12 @@ or-true : (a : Bool) → (a || true) ≡ true
 or-true true = refl
 or-true false = refl
 
-pub move-is : (z : ℤ) → (isDecimal (moveText z) || isBack (moveText z)) ≡ true
+pub move-is : (z : ℤ) → (isDecimal (signedText z) || isBack (signedText z)) ≡ true
 unfolding isBack
 move-is (pos k) = rw (number-is k) refl
 move-is (negsuc k) = rw (not-nought-alone k, number-is (suc k)) (or-true (isDecimal (45 ∷ decimal (suc k))))
 
-pub move-says : (z : ℤ) → moveOf itself (moveText z) ≡ z
+pub move-says : (z : ℤ) → moveOf itself (signedText z) ≡ z
 unfolding moveOf
 move-says (pos k) = rw (no-minus (decimal-reads-back k .0)) (ap pos (number-says k))
 move-says (negsuc k) = ap back (number-says (suc k))

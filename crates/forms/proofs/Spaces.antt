@@ -14,6 +14,7 @@ use Rattle.fields.specs.Paper.{AreDigits, none, one-more, IsDecimal, nought, no
 use Rattle.fields.proofs.Paper.{decimal-reads-back}
 use Rattle.forms.specs.declared.Mark.the-variants.{Seen, Unseen}
 use Rattle.forms.specs.Forms.{inFrontOf, fieldsIn}
+use Rattle.forms.specs.Paper.{NoSpace, no-byte, byte-more, NoSpaces, no-text, text-more}
 use Rattle.forms.specs.Texts.{Text, bytes, n, m, s, f, g, textOf, textsOf, line}
 use Rattle.forms.proofs.Fields.{fields-more}
 
@@ -43,10 +44,16 @@ fields-joined (b ∷ t) = go (eqb b 32) refl (fieldsIn 32 t) (fields-joined t) (
     go true e (y ∷ fs) h l = ap₂ (λ (c : ℕ) (r : List ℕ). c ∷ r) (sym (eqb-true b 32 e)) h
     go false e (y ∷ fs) h l = joined-front y fs b ∙ ap (λ (r : List ℕ). b ∷ r) h
 
--- a text without a space
-data NoSpace : List ℕ → Type 0 where
-  no-byte : NoSpace []
-  byte-more : {b : ℕ} {t : List ℕ} → (b ≡ 32 → ⊥) → NoSpace t → NoSpace (b ∷ t)
+-- in none of its fields is a space
+without-front : (b : ℕ) (e : Bool) → eqb b 32 ≡ e → (fs : List (List ℕ)) → NoSpaces fs → NoSpaces (inFrontOf e b fs)
+without-front b true e fs h = text-more no-byte h
+without-front b false e [] h = text-more (byte-more {b = b} (eqb-false b 32 e) no-byte) no-text
+without-front b false e (x ∷ xs) (text-more h k) = text-more (byte-more {b = b} (eqb-false b 32 e) h) k
+
+pub without-spaces : (t : List ℕ) → NoSpaces (fieldsIn 32 t)
+unfolding fieldsIn
+without-spaces [] = text-more no-byte no-text
+without-spaces (b ∷ t) = without-front b (eqb b 32) refl (fieldsIn 32 t) (without-spaces t)
 
 alone : {f : List ℕ} → NoSpace f → fieldsIn 32 f ≡ f ∷ []
 unfolding fieldsIn
@@ -57,6 +64,11 @@ before-space : (u : List ℕ) {f : List ℕ} → NoSpace f → fieldsIn 32 (f ++
 unfolding fieldsIn
 before-space u no-byte = refl
 before-space u (byte-more {b} {t} h r) = fields-more 32 b (t ++ (32 ∷ u)) (ne-eqb b 32 h) t (fieldsIn 32 u) (before-space u r)
+
+pub joined-fields : (f : List ℕ) (fs : List (List ℕ)) → NoSpaces (f ∷ fs) → fieldsIn 32 (joined (f ∷ fs)) ≡ f ∷ fs
+unfolding followed
+joined-fields x [] (text-more h k) = alone h
+joined-fields x (y ∷ ys) (text-more h k) = before-space (joined (y ∷ ys)) h ∙ ap (λ (l : List (List ℕ)). x ∷ l) (joined-fields y ys k)
 
 digits-no-space : {t : List ℕ} → AreDigits t → NoSpace t
 digits-no-space none = no-byte

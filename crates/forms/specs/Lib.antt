@@ -1,3 +1,4 @@
 -- A line's fields: definitions, and statements of them.
 pub mod Forms
 pub mod Texts
+pub mod Paper

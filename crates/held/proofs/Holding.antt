@@ -9,7 +9,7 @@ use lib.ListN.{length, getD, take, set, length-append, length-take}
 use lib.Seq.{sets, take-all, take-suc-set, take-append-le}
 use borrow.Author.Tests.{eq-eqb, ne-eqb}
 use Rattle.fields.proofs.Putting.{front-next}
-use Rattle.held.specs.Held.{lineAfter, lineAfterAll, said, saidAt, saidAtEnd, Holds, Becomes, Answers}
+use Rattle.held.specs.Held.{lineAfter, lineAfterAll, reply, saidAt, saidAtEnd, Holds, Becomes, Answers}
 
 -- as many bytes are held as there are of the line, 201 at most
 pub how-many : (room : List ℕ) (n : ℕ) (l : List ℕ) → length room ≡ 201 → n ≤ 201 → Holds room n l → n ≡ min 201 (length l)
@@ -46,7 +46,7 @@ module _ (b : ℕ) where
   unfolding lineAfter
   line-ended room room′ n r h e = record { few = omega arith; holds = λ l g. rw (eq-eqb b 10 e, h) }
 
-  pub line-answered : (e : Bool) {room out out′ : List ℕ} {n : ℕ} → b ≡ 10 → Answers (said e) room n out out′ → Answers (λ l. saidAt e l b) room n out out′
+  pub line-answered : (e : Bool) {room out out′ : List ℕ} {n : ℕ} → b ≡ 10 → Answers (reply e) room n out out′ → Answers (λ l. saidAt e l b) room n out out′
   unfolding saidAt
   line-answered e h a = record { said = λ l g. rw (eq-eqb b 10 h) (a .said l g) }
 
@@ -90,7 +90,7 @@ module _ (x : Bool) (room out : List ℕ) (n : ℕ) (h : length room ≡ 201) (k
   none-held e [] g = refl
   none-held e (b ∷ l) g = absurd (omega (arith, how-many room n (b ∷ l) h k g))
 
-  some-held : {out′ : List ℕ} → 0 < n → Answers (said x) room n out out′ → (l : List ℕ) → Holds room n l → out′ ≡ sets out 0 (saidAtEnd x l)
+  some-held : {out′ : List ℕ} → 0 < n → Answers (reply x) room n out out′ → (l : List ℕ) → Holds room n l → out′ ≡ sets out 0 (saidAtEnd x l)
   unfolding saidAtEnd
   some-held e a [] g = absurd (omega (arith, how-many room n [] h k g))
   some-held e a (b ∷ l) g = a .said (b ∷ l) g
@@ -98,5 +98,5 @@ module _ (x : Bool) (room out : List ℕ) (n : ℕ) (h : length room ≡ 201) (k
   pub no-line : n ≤ 0 → Answers (saidAtEnd x) room n out out
   no-line e = record { said = none-held e }
 
-  pub final-line : {out′ : List ℕ} → 0 < n → Answers (said x) room n out out′ → Answers (saidAtEnd x) room n out out′
+  pub final-line : {out′ : List ℕ} → 0 < n → Answers (reply x) room n out out′ → Answers (saidAtEnd x) room n out out′
   final-line e a = record { said = some-held e a }

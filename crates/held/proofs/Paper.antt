@@ -12,9 +12,9 @@ use lib.Dec.{leb}
 use borrow.Author.Tests.{ne-eqb, le-leb, lt-leb}
 use Rattle.fields.specs.Fields.{followed, Put}
 use Rattle.queries.specs.Queries.{unreadable, answerTo}
-use Rattle.asked.specs.Asked.{isNote}
+use Rattle.asked.specs.Asked.{hashed}
 use Rattle.queries.proofs.Paper.{front-is-enough, note-as-it-stands, too-long}
-use Rattle.held.specs.Held.{lineAfter, lineAfterAll, isPrinted, echoed, said, saidAt, saidAtEnd, saidTo, Becomes, Answers}
+use Rattle.held.specs.Held.{lineAfter, lineAfterAll, isNote, echoed, reply, saidAt, saidAtEnd, saidTo, Becomes, Answers}
 use Rattle.held.specs.Paper as Paper
 use Rattle.held.proofs.Holding.{how-many, lines-append}
 
@@ -64,11 +64,11 @@ module _ (e : Bool) where
       ∙ said-to-line (l ++ (b ∷ [])) s t (rest-of-line b s h)
       ∙ ap (λ (m : List ℕ). saidTo e m t) (append-assoc l (b ∷ []) s)
 
-  at-newline : (l s : List ℕ) → saidTo e l (10 ∷ s) ≡ said e l ++ saidTo e [] s
+  at-newline : (l s : List ℕ) → saidTo e l (10 ∷ s) ≡ reply e l ++ saidTo e [] s
   unfolding saidTo saidAt lineAfter
   at-newline l s = refl
 
-  at-end : (b : ℕ) (l : List ℕ) → saidTo e (b ∷ l) [] ≡ said e (b ∷ l)
+  at-end : (b : ℕ) (l : List ℕ) → saidTo e (b ∷ l) [] ≡ reply e (b ∷ l)
   unfolding saidTo saidAtEnd
   at-end b l = refl
 
@@ -85,51 +85,51 @@ module _ (e : Bool) where
       }
 
 -- whether a line is a note, by its first 201 bytes
-printed-alike : (l : List ℕ) → isPrinted (take 201 l) ≡ isPrinted l
-unfolding isPrinted
-printed-alike l = go (decLe (length l) 200)
+note-alike : (l : List ℕ) → isNote (take 201 l) ≡ isNote l
+unfolding isNote
+note-alike l = go (decLe (length l) 200)
   where
-    go : Dec (length l ≤ 200) → isPrinted (take 201 l) ≡ isPrinted l
-    go (yes h) = ap isPrinted (take-all 201 l (omega (arith, h)))
+    go : Dec (length l ≤ 200) → isNote (take 201 l) ≡ isNote l
+    go (yes h) = ap isNote (take-all 201 l (omega (arith, h)))
     go (no h) = rw (lt-leb (length l) 200 (omega (arith, h)), lt-leb (length (take 201 l)) 200 (omega (arith, h, length-take 201 l))) refl
 
 echo-alike : (l : List ℕ) → echoed (take 201 l) ≡ echoed l
 unfolding echoed
-echo-alike l = rw (printed-alike l, take-all 201 (take 201 l) (omega (arith, length-take 201 l))) refl
+echo-alike l = rw (note-alike l, take-all 201 (take 201 l) (omega (arith, length-take 201 l))) refl
 
 pub held-is-enough : Paper.Held-is-enough
-unfolding said
+unfolding reply
 held-is-enough true room n l h = ap (λ (t : List ℕ). echoed t ++ answerTo t) h ∙ ap₂ (λ (s t : List ℕ). s ++ t) (echo-alike l) (front-is-enough l)
 held-is-enough false room n l h = ap answerTo h ∙ front-is-enough l
 
 -- what is said to what is held, put into the buffer
-pub held-answered : {out out′ : List ℕ} {r : ℕ} (e : Bool) (room : List ℕ) (n : ℕ) → Put 2304216 out 0 (said e (take (n - 0) room)) out′ r →
-    Answers (said e) room n out out′
+pub held-answered : {out out′ : List ℕ} {r : ℕ} (e : Bool) (room : List ℕ) (n : ℕ) → Put 2304216 out 0 (reply e (take (n - 0) room)) out′ r →
+    Answers (reply e) room n out out′
 held-answered {out} e room n p =
     record {
-      said = λ l g. p .stored ∙ ap (sets out 0) (ap (λ (k : ℕ). said e (take k room)) (sub-zero n) ∙ held-is-enough e room n l g);
+      said = λ l g. p .stored ∙ ap (sets out 0) (ap (λ (k : ℕ). reply e (take k room)) (sub-zero n) ∙ held-is-enough e room n l g);
     }
 
 -- echo, literally
-not-printed : (l : List ℕ) → (length l ≤ 200 → (t : List ℕ) → l ≡ 35 ∷ t → ⊥) → isPrinted l ≡ false
-unfolding isPrinted isNote
-not-printed l h = go (decLe (length l) 200) l refl
+no-note : (l : List ℕ) → (length l ≤ 200 → (t : List ℕ) → l ≡ 35 ∷ t → ⊥) → isNote l ≡ false
+unfolding isNote hashed
+no-note l h = go (decLe (length l) 200) l refl
   where
-    go : Dec (length l ≤ 200) → (m : List ℕ) → l ≡ m → (leb (length l) 200 && isNote l) ≡ false
+    go : Dec (length l ≤ 200) → (m : List ℕ) → l ≡ m → (leb (length l) 200 && hashed l) ≡ false
     go (no i) m e = rw (lt-leb (length l) 200 (omega (arith, i))) refl
     go (yes i) [] e = rw (e) refl
     go (yes i) (b ∷ t) e = rw (le-leb (length l) 200 i, e) (ne-eqb b 35 (λ j. h i t (e ∙ ap (λ (x : ℕ). x ∷ t) j)))
 
-line-first : (l : List ℕ) → (length l ≤ 200 → (t : List ℕ) → l ≡ 35 ∷ t → ⊥) → said true l ≡ take 201 l ++ (10 ∷ answerTo l)
-unfolding said echoed
-line-first l h = rw (not-printed l h) (append-assoc (take 201 l) (10 ∷ []) (answerTo l))
+line-first : (l : List ℕ) → (length l ≤ 200 → (t : List ℕ) → l ≡ 35 ∷ t → ⊥) → reply true l ≡ take 201 l ++ (10 ∷ answerTo l)
+unfolding reply echoed
+line-first l h = rw (no-note l h) (append-assoc (take 201 l) (10 ∷ []) (answerTo l))
 
-note-once : (t : List ℕ) → length (35 ∷ t) ≤ 200 → said true (35 ∷ t) ≡ (35 ∷ t) ++ (10 ∷ [])
-unfolding said echoed isPrinted isNote
+note-once : (t : List ℕ) → length (35 ∷ t) ≤ 200 → reply true (35 ∷ t) ≡ (35 ∷ t) ++ (10 ∷ [])
+unfolding reply echoed isNote hashed
 note-once t h = rw (le-leb (length (35 ∷ t)) 200 h) (note-as-it-stands t h)
 
-without : (l : List ℕ) → said false l ≡ answerTo l
-unfolding said
+without : (l : List ℕ) → reply false l ≡ answerTo l
+unfolding reply
 without l = refl
 
 pub echo-literally : Paper.Echo-literally
@@ -160,7 +160,7 @@ never-ending room p =
     omega arith
 
 unanswered : (room : List ℕ) → length room ≡ 201 → Answers (λ l. saidAt false l 10) room 201 (0 ∷ []) (0 ∷ []) → ⊥
-unfolding saidAt said unreadable followed
+unfolding saidAt reply unreadable followed
 unanswered room h p =
     let e : _≡_ {A = List ℕ} (0 ∷ []) (85 ∷ []) = p .said room refl ∙ ap (sets (0 ∷ []) 0) (too-long room (omega arith)) in
     let o : _≡_ {A = ℕ} 0 85 = cc in

@@ -8,7 +8,7 @@ use mathlib.Core.List.{List, [], _∷_, _++_}
 use lib.Dec.{eqb, leb}
 use lib.ListN.{length, take}
 use lib.Seq.{sets}
-use Rattle.asked.specs.Asked.{isNote}
+use Rattle.asked.specs.Asked.{hashed}
 use Rattle.queries.specs.Queries.{answerTo}
 
 -- "one query a line": a line so far, after a byte more of the input. A newline ends it, and the next line begins
@@ -20,26 +20,27 @@ unfoldable pub lineAfterAll : List ℕ → List ℕ → List ℕ
 lineAfterAll l [] = l
 lineAfterAll l (b ∷ s) = lineAfterAll (lineAfter l b) s
 
--- "With echo, each line held (201 bytes at most) is printed before its answer"; a note is printed "once"
-unfoldable pub isPrinted : List ℕ → Bool
-isPrinted l = leb (length l) 200 && isNote l
+-- "A line that begins with `#` and has at most 200 bytes is a note"
+unfoldable pub isNote : List ℕ → Bool
+isNote l = leb (length l) 200 && hashed l
 
+-- "With echo, each line held (201 bytes at most) is printed before its answer"; a note is printed "once"
 unfoldable pub echoed : List ℕ → List ℕ
-echoed l = cond (isPrinted l) [] (take 201 l ++ (10 ∷ []))
+echoed l = cond (isNote l) [] (take 201 l ++ (10 ∷ []))
 
 -- what is said to a line: its answer, behind the line itself where there is echo
-unfoldable pub said : Bool → List ℕ → List ℕ
-said e l = cond e (echoed l) [] ++ answerTo l
+unfoldable pub reply : Bool → List ℕ → List ℕ
+reply e l = cond e (echoed l) [] ++ answerTo l
 
 module _ (e : Bool) where
   -- at a byte: at a line's end what is said to the line
   unfoldable pub saidAt : List ℕ → ℕ → List ℕ
-  saidAt l b = cond (eqb b 10) (said e l) []
+  saidAt l b = cond (eqb b 10) (reply e l) []
 
   -- at the input's end: "A final line without a newline counts", where there is one
   unfoldable pub saidAtEnd : List ℕ → List ℕ
   saidAtEnd [] = []
-  saidAtEnd (b ∷ l) = said e (b ∷ l)
+  saidAtEnd (b ∷ l) = reply e (b ∷ l)
 
   -- to the rest of an input, behind a line so far
   unfoldable pub saidTo : List ℕ → List ℕ → List ℕ

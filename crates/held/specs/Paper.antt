@@ -6,7 +6,7 @@ use mathlib.Core.Bool.{Bool, true, false}
 use mathlib.Core.List.{List, [], _∷_, _++_}
 use lib.ListN.{length, getD, take}
 use Rattle.queries.specs.Queries.{answerTo}
-use Rattle.held.specs.Held.{lineAfter, lineAfterAll, said, saidAt, saidTo, Holds, Becomes, Answers}
+use Rattle.held.specs.Held.{lineAfter, lineAfterAll, reply, saidAt, saidTo, Holds, Becomes, Answers}
 
 -- no newline stands in it
 abbrev pub OneLine : List ℕ → Type 0
@@ -14,14 +14,14 @@ OneLine s = (i : ℕ) → i < length s → getD s i 0 ≡ 10 → ⊥
 
 -- to what is held of a line the same is said as to the whole
 abbrev pub Held-is-enough : Type 0
-Held-is-enough = (e : Bool) (room : List ℕ) (n : ℕ) (l : List ℕ) → Holds room n l → said e (take n room) ≡ said e l
+Held-is-enough = (e : Bool) (room : List ℕ) (n : ℕ) (l : List ℕ) → Holds room n l → reply e (take n room) ≡ reply e l
 
 -- without echo a line's answer alone is said; with echo "each line held (201 bytes at most) is printed before its answer", and a note
 -- "as it stands", "once"
 pub record Echo-literally : Type 0 where
-  pub without : (l : List ℕ) → said false l ≡ answerTo l
-  pub line-first : (l : List ℕ) → (length l ≤ 200 → (t : List ℕ) → l ≡ 35 ∷ t → ⊥) → said true l ≡ take 201 l ++ (10 ∷ answerTo l)
-  pub note-once : (t : List ℕ) → length (35 ∷ t) ≤ 200 → said true (35 ∷ t) ≡ (35 ∷ t) ++ (10 ∷ [])
+  pub without : (l : List ℕ) → reply false l ≡ answerTo l
+  pub line-first : (l : List ℕ) → (length l ≤ 200 → (t : List ℕ) → l ≡ 35 ∷ t → ⊥) → reply true l ≡ take 201 l ++ (10 ∷ answerTo l)
+  pub note-once : (t : List ℕ) → length (35 ∷ t) ≤ 200 → reply true (35 ∷ t) ≡ (35 ∷ t) ++ (10 ∷ [])
 
 -- the line so far is what came since the last newline, or all that came, where there was none
 pub record Since-last-newline : Type 0 where
@@ -30,8 +30,8 @@ pub record Since-last-newline : Type 0 where
 
 -- "one query a line", answered in input order; "A final line without a newline counts"; and nothing else is said
 pub record Line-by-line (e : Bool) : Type 0 where
-  pub line : (l s : List ℕ) → OneLine l → saidTo e [] (l ++ (10 ∷ s)) ≡ said e l ++ saidTo e [] s
-  pub final : (b : ℕ) (l : List ℕ) → OneLine (b ∷ l) → saidTo e [] (b ∷ l) ≡ said e (b ∷ l)
+  pub line : (l s : List ℕ) → OneLine l → saidTo e [] (l ++ (10 ∷ s)) ≡ reply e l ++ saidTo e [] s
+  pub final : (b : ℕ) (l : List ℕ) → OneLine (b ∷ l) → saidTo e [] (b ∷ l) ≡ reply e (b ∷ l)
   pub nothing : saidTo e [] [] ≡ []
 
 -- a room of 201 places holds a line in one way

@@ -7,7 +7,7 @@ ghost use mathlib.Core.Bool.{cond};
 ghost use mathlib.Core.List.{[], _∷_, _++_};
 ghost use lib.ListN.{length};
 ghost use Rattle.fields.specs.Fields.{Put};
-ghost use Rattle.held.specs.Held.{lineAfter, lineAfterAll, isPrinted, echoed, said, saidAt, saidAtEnd, Becomes, TakesOn, Answers};
+ghost use Rattle.held.specs.Held.{lineAfter, lineAfterAll, isNote, echoed, reply, saidAt, saidAtEnd, Becomes, TakesOn, Answers};
 
 // A byte more of the line, where there is room for it. How many bytes are held then.
 fn hold(b: u8, line: &mut [u8], held: usize) -> usize
@@ -22,13 +22,13 @@ fn hold(b: u8, line: &mut [u8], held: usize) -> usize
 }
 
 // Whether a line is a note, which is printed as its own answer.
-fn is_printed(line: &[u8]) -> bool
-    ensures { λ r. ⌜ r ≡ isPrinted (now (line .entry)) ⌝ }
+fn is_note(line: &[u8]) -> bool
+    ensures { λ r. ⌜ r ≡ isNote (now (line .entry)) ⌝ }
 {
     if 200 < line.len() {
         return false;
     }
-    asked::is_note(line)
+    asked::is_hashed(line)
 }
 
 // With echo, a line of 201 bytes at most, where its answer does not print it.
@@ -39,7 +39,7 @@ fn put_echo(echo: bool, line: &[u8], out: &mut [u8]) -> usize
     if !echo {
         return 0;
     }
-    if is_printed(line) {
+    if is_note(line) {
         return 0;
     }
     queries::put_line(line, out, 0)
@@ -48,7 +48,7 @@ fn put_echo(echo: bool, line: &[u8], out: &mut [u8]) -> usize
 // What is said to a line of 201 bytes at most.
 fn put_said(echo: bool, line: &[u8], days: &mut [u32], out: &mut [u8]) -> usize
     requires { ⌜ (length (now line) ≤ 201) × (27759 ≤ length (now days)) × (2304216 ≤ length (now out)) ⌝ }
-    ensures { λ r. ⌜ Put 2304216 (now (out .entry)) 0 (said echo (now (line .entry))) (now (out .exit)) r ⌝ }
+    ensures { λ r. ⌜ Put 2304216 (now (out .entry)) 0 (reply echo (now (line .entry))) (now (out .exit)) r ⌝ }
 {
     let to = put_echo(echo, line, out);
     queries::answer_line(line, days, out, to)
@@ -57,7 +57,7 @@ fn put_said(echo: bool, line: &[u8], days: &mut [u32], out: &mut [u8]) -> usize
 // The line is answered: to what is held the same is said as to the whole (Held-is-enough).
 fn answer_held(echo: bool, line: &[u8], held: usize, days: &mut [u32], out: &mut [u8])
     requires { ⌜ (held ≤ 201) × (length (now line) ≡ 201) × (27759 ≤ length (now days)) × (2304216 ≤ length (now out)) ⌝ }
-    ensures { λ _. ⌜ Answers (said echo) (now (line .entry)) held (now (out .entry)) (now (out .exit)) ⌝ }
+    ensures { λ _. ⌜ Answers (reply echo) (now (line .entry)) held (now (out .entry)) (now (out .exit)) ⌝ }
 {
     let n = put_said(echo, &line[0..held], days, out);
     io::write_all(1, &out[0..n]);

@@ -48,7 +48,7 @@ use Rattle.forms.specs.declared.Mark.the-variants.{Seen, Unseen}
 use Rattle.forms.specs.Forms.{fieldsIn, fieldAt, same, firstLike, back, isMinus, moveOf, slipFieldOf, moveIn, slipFieldIn}
 use Rattle.fields.specs.Paper.{valueFrom}
 use Rattle.asked.specs.declared.Query.{Query}
-use Rattle.asked.specs.Asked.{Row, slipIn, table, tableOf, forms, queryAt, isNote, readBy}
+use Rattle.asked.specs.Asked.{Row, slipIn, table, tableOf, forms, queryAt, hashed, readBy}
 use Rattle.asked.specs.Paper.{read}
 use Rattle.queries.specs.Queries.{unreadable, markField, readingOf, answered, answerTo}
 
@@ -184,7 +184,7 @@ module _ (s : List ℕ) where
 
   same-answer : answered s (readBy capped s) ≡ answered s (read s)
   unfolding readBy
-  same-answer = go (isNote s)
+  same-answer = go (hashed s)
     where
       fs : List (List ℕ)
       fs = fieldsIn 32 s

@@ -11,7 +11,7 @@ read-query-spec =
     tie.close
     (tie.spec
     (λ c κs. search needs)
-    (λ c. rw (sym (c .before .is-note .ensures) ∙ c .if1 .taken) refl)
+    (λ c. rw (sym (c .before .is-hashed .ensures) ∙ c .if1 .taken) refl)
     (λ c κs. search needs)
     (λ c κs. search needs)
-    (λ c. rw (sym (c .before .before .before .is-note .ensures) ∙ c .before .before .if1 .left, c .query-of .ensures, c .before .form-number .ensures) refl))
+    (λ c. rw (sym (c .before .before .before .is-hashed .ensures) ∙ c .before .before .if1 .left, c .query-of .ensures, c .before .form-number .ensures) refl))

@@ -12,7 +12,7 @@ put-echo-spec =
     (tie.spec
     (λ c. no-echo (c .before .before .before .args .echo) (c .before .before .before .args .line .now) _ (not-true _ (c .if1 .taken)))
     (λ c κs. search needs)
-    (λ c. note-echo (c .before .before .before .before .before .args .echo) _ _ (sym (c .before .is-printed .ensures) ∙ c .if2 .taken))
+    (λ c. note-echo (c .before .before .before .before .before .args .echo) _ _ (sym (c .before .is-note .ensures) ∙ c .if2 .taken))
     (λ c κs. search needs)
     (λ c. search needs)
     (λ c.
@@ -21,4 +21,4 @@ put-echo-spec =
     let b5 = b4 .before in
     let b6 = b5 .before in
     let b9 = b6 .before .before .before in
-    line-echo (b9 .args .echo) _ (not-false _ (b6 .if1 .left)) (sym (b5 .is-printed .ensures) ∙ b4 .if2 .left) (b9 .pre .0) (b2 .put-line .ensures)))
+    line-echo (b9 .args .echo) _ (not-false _ (b6 .if1 .left)) (sym (b5 .is-note .ensures) ∙ b4 .if2 .left) (b9 .pre .0) (b2 .put-line .ensures)))

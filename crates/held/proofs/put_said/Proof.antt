@@ -1,12 +1,12 @@
 -- `held::put_said` meets its contract: the echo, and then the answer. Assumes nothing.
 use Rattle.fields.proofs.Putting.{then}
-use Rattle.held.specs.Held.{said}
+use Rattle.held.specs.Held.{reply}
 use borrow.Author.Needs.{needs}
 use Rattle.held.proofs.put_said.Statement.{statement}
 use Rattle.held.proofs.put_said.Tie as tie
 
 pub put-said-spec : {M : Type 1} → statement M
-unfolding said
+unfolding reply
 put-said-spec =
     tie.close
     (tie.spec

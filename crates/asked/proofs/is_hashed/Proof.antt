@@ -1,11 +1,11 @@
--- `asked::is_note` meets its contract. Assumes nothing.
+-- `asked::is_hashed` meets its contract. Assumes nothing.
 use Rattle.asked.proofs.Rows.{no-byte, first-byte}
 use borrow.Author.Needs.{needs}
-use Rattle.asked.proofs.is_note.Statement.{statement}
-use Rattle.asked.proofs.is_note.Tie as tie
+use Rattle.asked.proofs.is_hashed.Statement.{statement}
+use Rattle.asked.proofs.is_hashed.Tie as tie
 
-pub is-note-spec : {M : Type 1} → statement M
-is-note-spec =
+pub is-hashed-spec : {M : Type 1} → statement M
+is-hashed-spec =
     tie.close
     (tie.spec
     (λ c. no-byte (c .before .args .line .now) (c .if1 .taken))
