@@ -11,6 +11,7 @@ use Rattle.forms.specs.Forms.{fieldsIn, fieldAt, same, admits, like, firstLike,
 use Rattle.forms.specs.Texts.{Text, bytes, textsOf, line}
 use Rattle.forms.proofs.Spaces.{fields-joined, spaceless, words, fields-of-line}
 use Rattle.forms.proofs.Saying.{
+  itself,
   readAs,
   readAll,
   all-admitted,
@@ -29,13 +30,10 @@ use Rattle.asked.specs.declared.Query.{Query}
 use Rattle.asked.specs.Asked.{Row, table, tableOf, formsOf, forms, queryAt, hashed, readBy}
 use Rattle.asked.specs.Paper.{texts, written, Written-is-read, Note-is-read, Else-unreadable, One-query}
 
-abbrev itself : ℕ → ℕ
-itself k = k
-
 -- what each row reads, and what each row's query is written as
 asRead : List (List ℕ) → List Row → List (List Text)
 asRead fs [] = []
-asRead fs (r ∷ rs) = readAll (fieldsIn 32 (r .form)) 0 fs ∷ asRead fs rs
+asRead fs (r ∷ rs) = readAll (fieldsIn (r .form)) 0 fs ∷ asRead fs rs
 
 asWritten : List Row → List (List Text)
 asWritten [] = []
@@ -53,14 +51,14 @@ chosen rs fs = queryAt rs (firstLike (formsOf rs) fs)
 row-like : (rs : List Row) (fs : List (List ℕ)) → asRead fs rs ≡ asWritten rs → (chosen rs fs ≡ Query.Unreadable) ⊎ (fs ≡ textsOf (texts (chosen rs fs)))
 unfolding asRead asWritten queryAt firstLike formsOf
 row-like [] fs e = inl refl
-row-like (r ∷ rs) fs e = go (like (fieldsIn 32 (r .form)) fs) refl (row-like rs fs (cc))
+row-like (r ∷ rs) fs e = go (like (fieldsIn (r .form)) fs) refl (row-like rs fs (cc))
   where
-    here : readAll (fieldsIn 32 (r .form)) 0 fs ≡ texts (r .query)
+    here : readAll (fieldsIn (r .form)) 0 fs ≡ texts (r .query)
     here = cc
 
-    go : (x : Bool) → like (fieldsIn 32 (r .form)) fs ≡ x → (chosen rs fs ≡ Query.Unreadable) ⊎ (fs ≡ textsOf (texts (chosen rs fs))) →
+    go : (x : Bool) → like (fieldsIn (r .form)) fs ≡ x → (chosen rs fs ≡ Query.Unreadable) ⊎ (fs ≡ textsOf (texts (chosen rs fs))) →
         (chosen (r ∷ rs) fs ≡ Query.Unreadable) ⊎ (fs ≡ textsOf (texts (chosen (r ∷ rs) fs)))
-    go true h i = inr (rw (h) (all-admitted (fieldsIn 32 (r .form)) fs h ∙ ap textsOf here))
+    go true h i = inr (rw (h) (all-admitted (fieldsIn (r .form)) fs h ∙ ap textsOf here))
     go false h i = rw (h) i
 
 -- a line that does not begin with `#` is no note
@@ -74,7 +72,7 @@ unfolding readBy forms formsOf table written line
 else-unreadable t not-note no-query = rw (no-note t not-note) (go (row-like (tableOf itself fs) fs (rows-right fs)))
   where
     fs : List (List ℕ)
-    fs = fieldsIn 32 t
+    fs = fieldsIn t
 
     go : (chosen (tableOf itself fs) fs ≡ Query.Unreadable) ⊎ (fs ≡ textsOf (texts (chosen (tableOf itself fs) fs))) → chosen (tableOf itself fs) fs ≡ Query.Unreadable
     go (inl e) = e

@@ -85,4 +85,4 @@ hashed (b ∷ s) = eqb b 35
 
 -- what a line asks: nothing, where it begins with `#`; else the query of the first form that it is like
 unfoldable pub readBy : (ℕ → ℕ) → List ℕ → Query
-readBy c s = cond (hashed s) Query.Note (queryAt (tableOf c (fieldsIn 32 s)) (firstLike forms (fieldsIn 32 s)))
+readBy c s = cond (hashed s) Query.Note (queryAt (tableOf c (fieldsIn s)) (firstLike forms (fieldsIn s)))

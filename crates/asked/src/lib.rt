@@ -37,7 +37,7 @@ pub enum Query {
 
 // The slip in places 1 to 6 of a line.
 fn read_slip(line: &[u8]) -> Slip
-    ensures { λ r. ⌜ r ≡ slipIn capped (fieldsIn 32 (now (line .entry))) ⌝ }
+    ensures { λ r. ⌜ r ≡ slipIn capped (fieldsIn (now (line .entry))) ⌝ }
 {
     let s1 = forms::after_first(line);
     let s2 = forms::after_first(s1);
@@ -67,7 +67,7 @@ struct Places {
 }
 
 fn read_places(line: &[u8]) -> Places
-    ensures { λ r. ⌜ r ≡ placesIn capped (fieldsIn 32 (now (line .entry))) ⌝ }
+    ensures { λ r. ⌜ r ≡ placesIn capped (fieldsIn (now (line .entry))) ⌝ }
 {
     let s1 = forms::after_first(line);
     let s2 = forms::after_first(s1);
@@ -101,7 +101,7 @@ fn read_places(line: &[u8]) -> Places
 
 // The table of forms: which of them a line is like, counted from 0.
 fn form_number(line: &[u8]) -> usize
-    ensures { λ r. ⌜ r ≡ firstLike forms (fieldsIn 32 (now (line .entry))) ⌝ }
+    ensures { λ r. ⌜ r ≡ firstLike forms (fieldsIn (now (line .entry))) ⌝ }
 {
     let k1 = forms::past(0, 0, b"PLACE n", line);
     let k2 = forms::past(k1, 1, b"YEAR n", line);
@@ -119,7 +119,7 @@ fn form_number(line: &[u8]) -> usize
 
 // The query of a line that is like a form, counted from 0.
 fn query_of(k: usize, line: &[u8]) -> Query
-    ensures { λ r. ⌜ r ≡ queryAt (tableOf capped (fieldsIn 32 (now (line .entry)))) k ⌝ }
+    ensures { λ r. ⌜ r ≡ queryAt (tableOf capped (fieldsIn (now (line .entry)))) k ⌝ }
 {
     let w = read_places(line);
     match k {

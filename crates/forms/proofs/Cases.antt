@@ -12,7 +12,7 @@ pub nought-in-front : isDecimal (word "05") ≡ false
 unfolding allDigits isDecimal
 nought-in-front = refl
 
-pub space-at-the-end : fieldsIn 32 (word "A ") ≡ word "A" ∷ [] ∷ []
+pub space-at-the-end : fieldsIn (word "A ") ≡ word "A" ∷ [] ∷ []
 unfolding fieldsIn
 space-at-the-end = refl
 

@@ -16,8 +16,8 @@ use Rattle.forms.proofs.Fields.{end-in, the-last, the-next, starts}
 abbrev Some : List (List ℕ) → Type 0
 Some fs = (f : List ℕ) × (gs : List (List ℕ)) × (fs ≡ f ∷ gs)
 
-some : (c : ℕ) (s : List ℕ) → Some (fieldsIn c s)
-some c s = let (gs, e) = starts c s in (firstField c s, gs, e)
+some : (s : List ℕ) → Some (fieldsIn s)
+some s = let (gs, e) = starts s in (firstField s, gs, e)
 
 none-like : {fs : List (List ℕ)} → Some fs → like [] fs ≡ false
 unfolding like
@@ -28,7 +28,7 @@ unfolding like
 some-unlike (f, gs, e) = rw (e) refl
 
 -- a field of a form and a field of a line, each from its place on
-module _ (s t : List ℕ) (i a j b : ℕ) (ri : i ≤ length s) (rj : j ≤ length t) (ea : a ≡ i + length (firstField 32 (drop i s))) (eb : b ≡ j + length (firstField 32 (drop j t))) where
+module _ (s t : List ℕ) (i a j b : ℕ) (ri : i ≤ length s) (rj : j ≤ length t) (ea : a ≡ i + length (firstField (drop i s))) (eb : b ≡ j + length (firstField (drop j t))) where
   abbrev p : List ℕ
   p = take (a - i) (drop i s)
 
@@ -36,41 +36,41 @@ module _ (s t : List ℕ) (i a j b : ℕ) (ri : i ≤ length s) (rj : j ≤ leng
   f = take (b - j) (drop j t)
 
   abbrev Like : Bool → Type 0
-  Like r = r ≡ like (fieldsIn 32 (drop i s)) (fieldsIn 32 (drop j t))
+  Like r = r ≡ like (fieldsIn (drop i s)) (fieldsIn (drop j t))
 
   module _ (h : admits p f ≡ true) where
     both-last : a ≡ length s → b ≡ length t → Like true
     unfolding like
-    both-last l m = rw (the-last 32 s i a ri ea l, the-last 32 t j b rj eb m, h) refl
+    both-last l m = rw (the-last s i a ri ea l, the-last t j b rj eb m, h) refl
 
     line-longer : a ≡ length s → (b ≡ length t → ⊥) → Like false
     unfolding like
-    line-longer l m = rw (the-last 32 s i a ri ea l, the-next 32 t j b rj eb m, h) (sym (none-like (some 32 (drop (b + 1) t))))
+    line-longer l m = rw (the-last s i a ri ea l, the-next t j b rj eb m, h) (sym (none-like (some (drop (b + 1) t))))
 
     pub line-ends : a ≡ length s → Like (eqb b (length t))
     line-ends l = go (decLe (length t) b)
       where
         go : Dec (length t ≤ b) → Like (eqb b (length t))
-        go (yes m) = let e : b ≡ length t = omega (arith, m, end-in 32 t j b rj eb) in eq-eqb b (length t) e ∙ both-last l e
+        go (yes m) = let e : b ≡ length t = omega (arith, m, end-in t j b rj eb) in eq-eqb b (length t) e ∙ both-last l e
         go (no m) = ne-eqb b (length t) (λ e. omega (arith, e, m)) ∙ line-longer l (λ e. omega (arith, e, m))
 
     pub form-longer : (a ≡ length s → ⊥) → b ≡ length t → Like false
     unfolding like
-    form-longer l m = rw (the-next 32 s i a ri ea l, the-last 32 t j b rj eb m, h) (sym (some-unlike (some 32 (drop (a + 1) s))))
+    form-longer l m = rw (the-next s i a ri ea l, the-last t j b rj eb m, h) (sym (some-unlike (some (drop (a + 1) s))))
 
-    pub both-next : (a ≡ length s → ⊥) → (b ≡ length t → ⊥) → Like (like (fieldsIn 32 (drop (a + 1) s)) (fieldsIn 32 (drop (b + 1) t)))
+    pub both-next : (a ≡ length s → ⊥) → (b ≡ length t → ⊥) → Like (like (fieldsIn (drop (a + 1) s)) (fieldsIn (drop (b + 1) t)))
     unfolding like
-    both-next l m = rw (the-next 32 s i a ri ea l, the-next 32 t j b rj eb m, h) refl
+    both-next l m = rw (the-next s i a ri ea l, the-next t j b rj eb m, h) refl
 
   pub refused : admits p f ≡ false → Like false
   unfolding like
   refused h = go (decLe (length s) a) (decLe (length t) b)
     where
       go : Dec (length s ≤ a) → Dec (length t ≤ b) → Like false
-      go (yes l) (yes m) = rw (the-last 32 s i a ri ea (omega (arith, l, end-in 32 s i a ri ea)), the-last 32 t j b rj eb (omega (arith, m, end-in 32 t j b rj eb)), h) refl
-      go (yes l) (no m) = rw (the-last 32 s i a ri ea (omega (arith, l, end-in 32 s i a ri ea)), the-next 32 t j b rj eb (λ e. omega (arith, e, m)), h) refl
-      go (no l) (yes m) = rw (the-next 32 s i a ri ea (λ e. omega (arith, e, l)), the-last 32 t j b rj eb (omega (arith, m, end-in 32 t j b rj eb)), h) refl
-      go (no l) (no m) = rw (the-next 32 s i a ri ea (λ e. omega (arith, e, l)), the-next 32 t j b rj eb (λ e. omega (arith, e, m)), h) refl
+      go (yes l) (yes m) = rw (the-last s i a ri ea (omega (arith, l, end-in s i a ri ea)), the-last t j b rj eb (omega (arith, m, end-in t j b rj eb)), h) refl
+      go (yes l) (no m) = rw (the-last s i a ri ea (omega (arith, l, end-in s i a ri ea)), the-next t j b rj eb (λ e. omega (arith, e, m)), h) refl
+      go (no l) (yes m) = rw (the-next s i a ri ea (λ e. omega (arith, e, l)), the-last t j b rj eb (omega (arith, m, end-in t j b rj eb)), h) refl
+      go (no l) (no m) = rw (the-next s i a ri ea (λ e. omega (arith, e, l)), the-next t j b rj eb (λ e. omega (arith, e, m)), h) refl
 
 -- a field of a form that is none of the letters admits itself alone
 pub no-letter : (p s : List ℕ) → (letter p ≡ 110 → ⊥) → (letter p ≡ 109 → ⊥) → (letter p ≡ 115 → ⊥) → (letter p ≡ 102 → ⊥) → (letter p ≡ 103 → ⊥) →
@@ -89,13 +89,13 @@ module _ (k i : ℕ) (p : List ℕ) (fs : List (List ℕ)) where
   unfolding past
   kept-place h = rw (lt-ltb k i h) refl
 
-  pub this-place : i ≤ k → {r : ℕ} {x : Bool} → r ≡ cond x i (i + 1) → x ≡ like (fieldsIn 32 p) fs → r ≡ past k i p fs
+  pub this-place : i ≤ k → {r : ℕ} {x : Bool} → r ≡ cond x i (i + 1) → x ≡ like (fieldsIn p) fs → r ≡ past k i p fs
   unfolding past
   this-place h e f =
       e ∙ ap (λ (y : Bool). cond y i (i + 1)) f
-      ∙ rw (le-ltb k i h) (ap (λ (j : ℕ). cond (like (fieldsIn 32 p) fs) i j) (add-one i))
+      ∙ rw (le-ltb k i h) (ap (λ (j : ℕ). cond (like (fieldsIn p) fs) i j) (add-one i))
 
-  pub next-place : i ≤ k → like (fieldsIn 32 p) fs ≡ false → i + 1 ≡ past k i p fs
+  pub next-place : i ≤ k → like (fieldsIn p) fs ≡ false → i + 1 ≡ past k i p fs
   unfolding past
   next-place h e = rw (le-ltb k i h, e) (add-one i)
 
@@ -112,7 +112,7 @@ module _ (fs : List (List ℕ)) where
   from-place : (ps : List (List ℕ)) (i : ℕ) → pastAll i i ps fs ≡ i + firstLike ps fs
   unfolding pastAll past firstLike
   from-place [] i = omega arith
-  from-place (p ∷ ps) i = rw (le-ltb i i (omega arith)) (go (like (fieldsIn 32 p) fs) (from-place ps (suc i)))
+  from-place (p ∷ ps) i = rw (le-ltb i i (omega arith)) (go (like (fieldsIn p) fs) (from-place ps (suc i)))
     where
       go : (x : Bool) → pastAll (suc i) (suc i) ps fs ≡ suc i + firstLike ps fs →
           pastAll (cond x i (suc i)) (suc i) ps fs ≡ i + cond x 0 (suc (firstLike ps fs))
@@ -158,30 +158,30 @@ module _ (a : ℕ) (low : 64 < a) (high : a < 91) where
       ) refl
   word-alone (c ∷ p) f = refl
 
-  differing : (p s : List ℕ) (b : ℕ) → (a ≡ b → ⊥) → same (a ∷ p) (firstField 32 (b ∷ s)) ≡ false
+  differing : (p s : List ℕ) (b : ℕ) → (a ≡ b → ⊥) → same (a ∷ p) (firstField (b ∷ s)) ≡ false
   unfolding same firstField
   differing p s b h = go (eqb b 32)
     where
-      go : (x : Bool) → same (a ∷ p) (cond x [] (b ∷ firstField 32 s)) ≡ false
+      go : (x : Bool) → same (a ∷ p) (cond x [] (b ∷ firstField s)) ≡ false
       go true = refl
       go false = rw (ne-eqb a b h) refl
 
-  begins : (p : List ℕ) → firstField 32 (a ∷ p) ≡ a ∷ firstField 32 p
+  begins : (p : List ℕ) → firstField (a ∷ p) ≡ a ∷ firstField p
   unfolding firstField
   begins p = rw (ne-eqb a 32 (λ e. omega (arith, e, low))) refl
 
-  unlike : (p s : List ℕ) (b : ℕ) → (a ≡ b → ⊥) → like (fieldsIn 32 (a ∷ p)) (fieldsIn 32 (b ∷ s)) ≡ false
+  unlike : (p s : List ℕ) (b : ℕ) → (a ≡ b → ⊥) → like (fieldsIn (a ∷ p)) (fieldsIn (b ∷ s)) ≡ false
   unfolding like
   unlike p s b h =
       rw (
-        starts 32 (a ∷ p) .1,
-        starts 32 (b ∷ s) .1,
+        starts (a ∷ p) .1,
+        starts (b ∷ s) .1,
         begins p,
-        word-alone (firstField 32 p) (firstField 32 (b ∷ s)),
-        differing (firstField 32 p) s b h,
+        word-alone (firstField p) (firstField (b ∷ s)),
+        differing (firstField p) s b h,
       ) refl
 
-pub other-word : (p s : List ℕ) → otherWord p s ≡ true → like (fieldsIn 32 p) (fieldsIn 32 s) ≡ false
+pub other-word : (p s : List ℕ) → otherWord p s ≡ true → like (fieldsIn p) (fieldsIn s) ≡ false
 unfolding otherWord
 other-word [] s e = absurd (let o : _≡_ {A = ℕ} 0 1 = cc in omega arith)
 other-word (a ∷ p) [] e = absurd (let o : _≡_ {A = ℕ} 0 1 = cc in omega arith)

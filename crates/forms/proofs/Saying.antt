@@ -20,7 +20,7 @@ use Rattle.forms.specs.declared.Mark.the-variants.{Seen, Unseen}
 use Rattle.forms.specs.Forms.{fieldAt, same, allDigits, leads, isDecimal, isBack, isMark, letter, admits, like, back, isMinus, moveOf, slipFieldOf, slipMarkOf}
 use Rattle.forms.specs.Texts.{Text, bytes, n, m, s, f, g, signedText, fieldText, markReadText, textOf, textsOf}
 
-both : (a b : Bool) → (a && b) ≡ true → (a ≡ true) × (b ≡ true)
+pub both : (a b : Bool) → (a && b) ≡ true → (a ≡ true) × (b ≡ true)
 both true b e = (refl, e)
 both false b e = absurd (let o : _≡_ {A = ℕ} 0 1 = cc in omega arith)
 
@@ -76,12 +76,16 @@ exact (q ∷ p) (k ∷ t) e =
     ap₂ (λ (i : ℕ) (l : List ℕ). i ∷ l) (sym (eqb-true q k a)) (exact p t r)
 
 -- one of two tests
+or-false : (a : Bool) → (a || false) ≡ true → a ≡ true
+or-false true h = refl
+or-false false h = h
+
 either : {P : Type 0} (a b : Bool) → (a ≡ true → P) → (b ≡ true → P) → (a || b) ≡ true → P
 either true b h i e = h refl
 either false b h i e = i e
 
 -- READ AS: what a field is, where a form's field admits it
-abbrev itself : ℕ → ℕ
+abbrev pub itself : ℕ → ℕ
 itself k = k
 
 unfoldable pub readAs : List ℕ → List ℕ → Text
@@ -131,10 +135,6 @@ pub field-text : (t : List ℕ) → (isDecimal t || same (word "?") t) ≡ true 
 unfolding slipFieldOf
 field-text t e = go (same (word "?") t) refl e
   where
-    or-false : (a : Bool) → (a || false) ≡ true → a ≡ true
-    or-false true h = refl
-    or-false false h = h
-
     go : (x : Bool) → same (word "?") t ≡ x → (isDecimal t || x) ≡ true → t ≡ fieldText (cond x Unread (Known (valueFrom 0 t)))
     go true i h = exact (word "?") t i
     go false i h = number-text t (or-false (isDecimal t) h)
@@ -143,10 +143,6 @@ pub slip-mark-text : (t : List ℕ) → (isMark t || same (word "?") t) ≡ true
 unfolding slipMarkOf
 slip-mark-text t e = go (same (word "?") t) refl e
   where
-    or-false : (a : Bool) → (a || false) ≡ true → a ≡ true
-    or-false true h = refl
-    or-false false h = h
-
     go : (x : Bool) → same (word "?") t ≡ x → (isMark t || x) ≡ true → t ≡ markReadText (cond x Unseen (Seen (same (word "L") t)))
     go true i h = exact (word "?") t i
     go false i h = mark-text t (or-false (isMark t) h)

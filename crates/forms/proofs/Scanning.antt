@@ -117,33 +117,33 @@ back-made [] h a b e f = absurd (h refl)
 back-made (d ∷ s) h a b e f = ap₂ (λ (i j : Bool). eqb d 45 && not i && j) e f
 
 -- the first field of what is left
-module _ (c : ℕ) (s : List ℕ) (i : ℕ) where
-  pub field-more : i < length s → eqb (getD s i 0) c ≡ false → length (firstField c (drop i s)) ≡ length (firstField c (drop (i + 1) s)) + 1
+module _ (s : List ℕ) (i : ℕ) where
+  pub field-more : i < length s → eqb (getD s i 0) 32 ≡ false → length (firstField (drop i s)) ≡ length (firstField (drop (i + 1) s)) + 1
   unfolding firstField
-  field-more h e = ap (λ (t : List ℕ). length (firstField c t)) (rest s i h) ∙ rw (e) (omega arith)
+  field-more h e = ap (λ (t : List ℕ). length (firstField t)) (rest s i h) ∙ rw (e) (omega arith)
 
-  pub field-over : i < length s → eqb (getD s i 0) c ≡ true → length (firstField c (drop i s)) ≡ 0
+  pub field-over : i < length s → eqb (getD s i 0) 32 ≡ true → length (firstField (drop i s)) ≡ 0
   unfolding firstField
-  field-over h e = ap (λ (t : List ℕ). length (firstField c t)) (rest s i h) ∙ rw (e) refl
+  field-over h e = ap (λ (t : List ℕ). length (firstField t)) (rest s i h) ∙ rw (e) refl
 
-  pub field-none : length s ≤ i → length (firstField c (drop i s)) ≡ 0
+  pub field-none : length s ≤ i → length (firstField (drop i s)) ≡ 0
   unfolding firstField
-  field-none h = ap (λ (t : List ℕ). length (firstField c t)) (drop-of-length-le s h)
+  field-none h = ap (λ (t : List ℕ). length (firstField t)) (drop-of-length-le s h)
 
 -- what the digits of the first field that are left make of a number
 module _ (s : List ℕ) (i v : ℕ) where
   pub number-next : i < length s → (getD s i 0 ≡ 32 → ⊥) →
-      capped (valueFrom (capped (10 * v + (getD s i 0 - 48))) (firstField 32 (drop (i + 1) s))) ≡ capped (valueFrom v (firstField 32 (drop i s)))
+      capped (valueFrom (capped (10 * v + (getD s i 0 - 48))) (firstField (drop (i + 1) s))) ≡ capped (valueFrom v (firstField (drop i s)))
   unfolding valueFrom firstField
   number-next h e =
-      capped-value (firstField 32 (drop (i + 1) s)) (10 * v + (getD s i 0 - 48))
-      ∙ sym (ap (λ (t : List ℕ). capped (valueFrom v (firstField 32 t))) (rest s i h) ∙ rw (ne-eqb (getD s i 0) 32 e) refl)
+      capped-value (firstField (drop (i + 1) s)) (10 * v + (getD s i 0 - 48))
+      ∙ sym (ap (λ (t : List ℕ). capped (valueFrom v (firstField t))) (rest s i h) ∙ rw (ne-eqb (getD s i 0) 32 e) refl)
 
-  pub number-over : i < length s → getD s i 0 ≡ 32 → v ≤ 4294967295 → capped (valueFrom v (firstField 32 (drop i s))) ≡ v
+  pub number-over : i < length s → getD s i 0 ≡ 32 → v ≤ 4294967295 → capped (valueFrom v (firstField (drop i s))) ≡ v
   unfolding valueFrom firstField
   number-over h e r =
-      ap (λ (t : List ℕ). capped (valueFrom v (firstField 32 t))) (rest s i h) ∙ rw (eq-eqb (getD s i 0) 32 e) (omega (arith, r))
+      ap (λ (t : List ℕ). capped (valueFrom v (firstField t))) (rest s i h) ∙ rw (eq-eqb (getD s i 0) 32 e) (omega (arith, r))
 
-  pub number-last : length s ≤ i → v ≤ 4294967295 → capped (valueFrom v (firstField 32 (drop i s))) ≡ v
+  pub number-last : length s ≤ i → v ≤ 4294967295 → capped (valueFrom v (firstField (drop i s))) ≡ v
   unfolding valueFrom firstField
-  number-last h r = ap (λ (t : List ℕ). capped (valueFrom v (firstField 32 t))) (drop-of-length-le s h) ∙ omega (arith, r)
+  number-last h r = ap (λ (t : List ℕ). capped (valueFrom v (firstField t))) (drop-of-length-le s h) ∙ omega (arith, r)

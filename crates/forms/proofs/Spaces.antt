@@ -17,12 +17,13 @@ use Rattle.forms.specs.Forms.{inFrontOf, fieldsIn}
 use Rattle.forms.specs.Paper.{NoSpace, no-byte, byte-more, NoSpaces, no-text, text-more}
 use Rattle.forms.specs.Texts.{Text, bytes, n, m, s, f, g, textOf, textsOf, line}
 use Rattle.forms.proofs.Fields.{fields-more}
+use Rattle.forms.proofs.Saying.{both}
 
 -- a line is the line of its fields
-fields-some : (t : List ℕ) → 1 ≤ length (fieldsIn 32 t)
+fields-some : (t : List ℕ) → 1 ≤ length (fieldsIn t)
 unfolding fieldsIn
 fields-some [] = omega arith
-fields-some (b ∷ t) = go (eqb b 32) (fieldsIn 32 t)
+fields-some (b ∷ t) = go (eqb b 32) (fieldsIn t)
   where
     go : (x : Bool) (fs : List (List ℕ)) → 1 ≤ length (inFrontOf x b fs)
     go true fs = omega arith
@@ -34,10 +35,10 @@ unfolding followed
 joined-front x [] b = refl
 joined-front x (y ∷ fs) b = refl
 
-pub fields-joined : (t : List ℕ) → joined (fieldsIn 32 t) ≡ t
+pub fields-joined : (t : List ℕ) → joined (fieldsIn t) ≡ t
 unfolding fieldsIn followed
 fields-joined [] = refl
-fields-joined (b ∷ t) = go (eqb b 32) refl (fieldsIn 32 t) (fields-joined t) (fields-some t)
+fields-joined (b ∷ t) = go (eqb b 32) refl (fieldsIn t) (fields-joined t) (fields-some t)
   where
     go : (x : Bool) → eqb b 32 ≡ x → (fs : List (List ℕ)) → joined fs ≡ t → 1 ≤ length fs → joined (inFrontOf x b fs) ≡ b ∷ t
     go x e [] h l = absurd (omega arith)
@@ -50,22 +51,22 @@ without-front b true e fs h = text-more no-byte h
 without-front b false e [] h = text-more (byte-more {b = b} (eqb-false b 32 e) no-byte) no-text
 without-front b false e (x ∷ xs) (text-more h k) = text-more (byte-more {b = b} (eqb-false b 32 e) h) k
 
-pub without-spaces : (t : List ℕ) → NoSpaces (fieldsIn 32 t)
+pub without-spaces : (t : List ℕ) → NoSpaces (fieldsIn t)
 unfolding fieldsIn
 without-spaces [] = text-more no-byte no-text
-without-spaces (b ∷ t) = without-front b (eqb b 32) refl (fieldsIn 32 t) (without-spaces t)
+without-spaces (b ∷ t) = without-front b (eqb b 32) refl (fieldsIn t) (without-spaces t)
 
-alone : {f : List ℕ} → NoSpace f → fieldsIn 32 f ≡ f ∷ []
+alone : {f : List ℕ} → NoSpace f → fieldsIn f ≡ f ∷ []
 unfolding fieldsIn
 alone no-byte = refl
-alone (byte-more {b} {t} h r) = fields-more 32 b t (ne-eqb b 32 h) t [] (alone r)
+alone (byte-more {b} {t} h r) = fields-more b t (ne-eqb b 32 h) t [] (alone r)
 
-before-space : (u : List ℕ) {f : List ℕ} → NoSpace f → fieldsIn 32 (f ++ (32 ∷ u)) ≡ f ∷ fieldsIn 32 u
+before-space : (u : List ℕ) {f : List ℕ} → NoSpace f → fieldsIn (f ++ (32 ∷ u)) ≡ f ∷ fieldsIn u
 unfolding fieldsIn
 before-space u no-byte = refl
-before-space u (byte-more {b} {t} h r) = fields-more 32 b (t ++ (32 ∷ u)) (ne-eqb b 32 h) t (fieldsIn 32 u) (before-space u r)
+before-space u (byte-more {b} {t} h r) = fields-more b (t ++ (32 ∷ u)) (ne-eqb b 32 h) t (fieldsIn u) (before-space u r)
 
-pub joined-fields : (f : List ℕ) (fs : List (List ℕ)) → NoSpaces (f ∷ fs) → fieldsIn 32 (joined (f ∷ fs)) ≡ f ∷ fs
+pub joined-fields : (f : List ℕ) (fs : List (List ℕ)) → NoSpaces (f ∷ fs) → fieldsIn (joined (f ∷ fs)) ≡ f ∷ fs
 unfolding followed
 joined-fields x [] (text-more h k) = alone h
 joined-fields x (y ∷ ys) (text-more h k) = before-space (joined (y ∷ ys)) h ∙ ap (λ (l : List (List ℕ)). x ∷ l) (joined-fields y ys k)
@@ -82,10 +83,6 @@ decimal-no-space k = go (decimal-reads-back k .0)
     go (not-nought {d} l h r) = byte-more {b = d} (λ e. omega (arith, e, l)) (digits-no-space r)
 
 -- words without a space, tested
-both : (a b : Bool) → (a && b) ≡ true → (a ≡ true) × (b ≡ true)
-both true b e = (refl, e)
-both false b e = absurd (let o : _≡_ {A = ℕ} 0 1 = cc in omega arith)
-
 unfoldable pub spaceless : List ℕ → Bool
 spaceless [] = true
 spaceless (b ∷ t) = not (eqb b 32) && spaceless t
@@ -134,7 +131,7 @@ later (f x) ts e = e
 later (g x) ts e = e
 
 -- the fields of a line of texts are the texts
-pub fields-of-line : (t : Text) (ts : List Text) → words (t ∷ ts) ≡ true → fieldsIn 32 (line (t ∷ ts)) ≡ textsOf (t ∷ ts)
+pub fields-of-line : (t : Text) (ts : List Text) → words (t ∷ ts) ≡ true → fieldsIn (line (t ∷ ts)) ≡ textsOf (t ∷ ts)
 unfolding line textsOf followed
 fields-of-line t [] e = alone (text-no-space t [] e)
 fields-of-line t (u ∷ us) e =

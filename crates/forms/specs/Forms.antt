@@ -14,25 +14,25 @@ use Rattle.fields.specs.Paper.{valueFrom}
 use Rattle.forms.specs.declared.Mark.{Mark}
 use Rattle.forms.specs.declared.Mark.the-variants.{Seen, Unseen}
 
--- what stands before the first separator
-unfoldable pub firstField : ℕ → List ℕ → List ℕ
-firstField c [] = []
-firstField c (b ∷ s) = cond (eqb b c) [] (b ∷ firstField c s)
+-- what stands before the first space
+unfoldable pub firstField : List ℕ → List ℕ
+firstField [] = []
+firstField (b ∷ s) = cond (eqb b 32) [] (b ∷ firstField s)
 
--- a byte in front of fields: a separator ends an empty field, any other is the first byte of the first field
+-- a byte in front of fields: a space ends an empty field, any other is the first byte of the first field
 abbrev pub inFrontOf : Bool → ℕ → List (List ℕ) → List (List ℕ)
 inFrontOf true b fs = [] ∷ fs
 inFrontOf false b [] = (b ∷ []) ∷ []
 inFrontOf false b (f ∷ fs) = (b ∷ f) ∷ fs
 
--- a text's fields: a separator parts two of them
-unfoldable pub fieldsIn : ℕ → List ℕ → List (List ℕ)
-fieldsIn c [] = [] ∷ []
-fieldsIn c (b ∷ s) = inFrontOf (eqb b c) b (fieldsIn c s)
+-- a line's fields: a space parts two of them
+unfoldable pub fieldsIn : List ℕ → List (List ℕ)
+fieldsIn [] = [] ∷ []
+fieldsIn (b ∷ s) = inFrontOf (eqb b 32) b (fieldsIn s)
 
 -- what stands after the first field and its space: nothing where there is no other field
 unfoldable pub afterFirst : List ℕ → List ℕ
-afterFirst s = drop (suc (length (firstField 32 s))) s
+afterFirst s = drop (suc (length (firstField s))) s
 
 -- the field in a place: nothing where there are fewer
 unfoldable pub fieldAt : List (List ℕ) → ℕ → List ℕ
@@ -99,11 +99,11 @@ otherWord (a ∷ p) (b ∷ s) = ltb a 91 && ltb 64 a && not (eqb a b)
 -- the first form of a table that fields are like, counted from 0; how many forms there are where they are like none
 unfoldable pub firstLike : List (List ℕ) → List (List ℕ) → ℕ
 firstLike [] fs = 0
-firstLike (p ∷ ps) fs = cond (like (fieldsIn 32 p) fs) 0 (suc (firstLike ps fs))
+firstLike (p ∷ ps) fs = cond (like (fieldsIn p) fs) 0 (suc (firstLike ps fs))
 
 -- how many forms fields are past, once they were held against the form in place i, when they were past k of those before it
 unfoldable pub past : ℕ → ℕ → List ℕ → List (List ℕ) → ℕ
-past k i p fs = cond (ltb k i) k (cond (like (fieldsIn 32 p) fs) i (suc i))
+past k i p fs = cond (ltb k i) k (cond (like (fieldsIn p) fs) i (suc i))
 
 -- what the field in a place says, as a number, a mark, a move, a field of a slip and a mark of a slip; c says what becomes of a number
 unfoldable pub numberIn : List (List ℕ) → ℕ → ℕ

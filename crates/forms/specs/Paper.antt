@@ -23,15 +23,15 @@ pub data NoSpaces : List (List ℕ) → Type 0 where
 
 -- "Fields parted by single spaces": the fields of a line, with single spaces between, are the line
 abbrev pub Fields-joined : Type 0
-Fields-joined = (s : List ℕ) → joined (fieldsIn 32 s) ≡ s
+Fields-joined = (s : List ℕ) → joined (fieldsIn s) ≡ s
 
 -- there is a space in none of them
 abbrev pub Fields-without-spaces : Type 0
-Fields-without-spaces = (s : List ℕ) → NoSpaces (fieldsIn 32 s)
+Fields-without-spaces = (s : List ℕ) → NoSpaces (fieldsIn s)
 
 -- and no other texts without spaces make the line
 abbrev pub Joined-fields : Type 0
-Joined-fields = (f : List ℕ) (fs : List (List ℕ)) → NoSpaces (f ∷ fs) → fieldsIn 32 (joined (f ∷ fs)) ≡ f ∷ fs
+Joined-fields = (f : List ℕ) (fs : List (List ℕ)) → NoSpaces (f ∷ fs) → fieldsIn (joined (f ∷ fs)) ≡ f ∷ fs
 
 -- a field that a form admits is the one text of what is read there; a word of a form is itself alone. `-0` is the text of no number
 pub record Read-back : Type 0 where

@@ -35,14 +35,14 @@ pub enum Mark {
     Unseen,
 }
 
-// Where the field ends that starts at a place: at the next separator, or with the text.
-fn end_of(s: &[u8], from: usize, sep: u8) -> usize
+// Where the field ends that starts at a place: at the next space, or with the line.
+fn end_of(s: &[u8], from: usize) -> usize
     requires { ⌜ from ≤ length (now s) ⌝ }
-    ensures { λ r. ⌜ r ≡ from + length (firstField sep (drop from (now (s .entry)))) ⌝ }
+    ensures { λ r. ⌜ r ≡ from + length (firstField (drop from (now (s .entry)))) ⌝ }
 {
     let mut to = from;
     while to < s.len() {
-        if s[to] == sep {
+        if s[to] == 32 {
             return to;
         }
         to += 1;
@@ -52,9 +52,9 @@ fn end_of(s: &[u8], from: usize, sep: u8) -> usize
 
 // The first field of a line.
 fn first_field(s: &[u8]) -> &[u8]
-    ensures { λ r. ⌜ now r ≡ firstField 32 (now (s .entry)) ⌝ }
+    ensures { λ r. ⌜ now r ≡ firstField (now (s .entry)) ⌝ }
 {
-    let to = end_of(s, 0, 32);
+    let to = end_of(s, 0);
     &s[0..to]
 }
 
@@ -62,7 +62,7 @@ fn first_field(s: &[u8]) -> &[u8]
 pub fn after_first(s: &[u8]) -> &[u8]
     ensures { λ r. ⌜ now r ≡ afterFirst (now (s .entry)) ⌝ }
 {
-    let to = end_of(s, 0, 32);
+    let to = end_of(s, 0);
     if to == s.len() {
         return &s[to..];
     }
@@ -167,13 +167,13 @@ fn admits(p: &[u8], s: &[u8]) -> bool
 
 // Whether a line is like a form: as many fields, and each admitted.
 fn is_like(form: &[u8], line: &[u8]) -> bool
-    ensures { λ r. ⌜ r ≡ like (fieldsIn 32 (now (form .entry))) (fieldsIn 32 (now (line .entry))) ⌝ }
+    ensures { λ r. ⌜ r ≡ like (fieldsIn (now (form .entry))) (fieldsIn (now (line .entry))) ⌝ }
 {
     let mut i = 0;
     let mut j = 0;
     loop {
-        let a = end_of(form, i, 32);
-        let b = end_of(line, j, 32);
+        let a = end_of(form, i);
+        let b = end_of(line, j);
         if !admits(&form[i..a], &line[j..b]) {
             return false;
         }
@@ -215,7 +215,7 @@ fn past_this(like: bool, i: u8) -> usize
 // else i where it is like this one, and one more where it is not. The first letter is looked at first. (`is_like` is asked for in two
 // places so that it stays a function by itself in the compiled code, and this one, with its form known, a look at one letter.)
 pub fn past(k: usize, i: u8, form: &[u8], line: &[u8]) -> usize
-    ensures { λ r. ⌜ r ≡ past k i (now (form .entry)) (fieldsIn 32 (now (line .entry))) ⌝ }
+    ensures { λ r. ⌜ r ≡ past k i (now (form .entry)) (fieldsIn (now (line .entry))) ⌝ }
 {
     if k < i as usize {
         return k;
@@ -287,7 +287,7 @@ fn slip_mark_of(s: &[u8]) -> Mark
 
 // What the first field says, as a number: the same in one look along it.
 pub fn number(s: &[u8]) -> u32
-    ensures { λ r. ⌜ r ≡ capped (valueFrom 0 (firstField 32 (now (s .entry)))) ⌝ }
+    ensures { λ r. ⌜ r ≡ capped (valueFrom 0 (firstField (now (s .entry)))) ⌝ }
 {
     let mut v = 0;
     let mut i = 0;
@@ -303,25 +303,25 @@ pub fn number(s: &[u8]) -> u32
 
 // As a mark, as a move, and on a slip.
 pub fn leap(s: &[u8]) -> bool
-    ensures { λ r. ⌜ r ≡ same (word "L") (firstField 32 (now (s .entry))) ⌝ }
+    ensures { λ r. ⌜ r ≡ same (word "L") (firstField (now (s .entry))) ⌝ }
 {
     same(b"L", first_field(s))
 }
 
 pub fn signed(s: &[u8]) -> i64
-    ensures { λ r. ⌜ r ≡ moveOf capped (firstField 32 (now (s .entry))) ⌝ }
+    ensures { λ r. ⌜ r ≡ moveOf capped (firstField (now (s .entry))) ⌝ }
 {
     move_of(first_field(s))
 }
 
 pub fn slip_field(s: &[u8]) -> Field
-    ensures { λ r. ⌜ r ≡ slipFieldOf capped (firstField 32 (now (s .entry))) ⌝ }
+    ensures { λ r. ⌜ r ≡ slipFieldOf capped (firstField (now (s .entry))) ⌝ }
 {
     slip_field_of(first_field(s))
 }
 
 pub fn slip_mark(s: &[u8]) -> Mark
-    ensures { λ r. ⌜ r ≡ slipMarkOf (firstField 32 (now (s .entry))) ⌝ }
+    ensures { λ r. ⌜ r ≡ slipMarkOf (firstField (now (s .entry))) ⌝ }
 {
     slip_mark_of(first_field(s))
 }

@@ -47,6 +47,7 @@ use Rattle.forms.specs.declared.Mark.{Mark}
 use Rattle.forms.specs.declared.Mark.the-variants.{Seen, Unseen}
 use Rattle.forms.specs.Forms.{fieldsIn, fieldAt, same, firstLike, back, isMinus, moveOf, slipFieldOf, moveIn, slipFieldIn}
 use Rattle.fields.specs.Paper.{valueFrom}
+use Rattle.forms.proofs.Saying.{itself}
 use Rattle.asked.specs.declared.Query.{Query}
 use Rattle.asked.specs.Asked.{Row, slipIn, table, tableOf, forms, queryAt, hashed, readBy}
 use Rattle.asked.specs.Paper.{read}
@@ -114,9 +115,6 @@ search-capped r first last = go (capped-search r first last)
     go (both k h g) = rw (h 27759, g 27759) refl
 
 -- a move and a field in a line
-abbrev itself : ℕ → ℕ
-itself k = k
-
 back-capped : (v : ℕ) → back (capped v) ≡ cappedMove (back v)
 back-capped zero = refl
 back-capped (suc n) = ap back {x = capped (suc n)} {y = suc (capped (suc n) - 1)} (omega arith)
@@ -187,7 +185,7 @@ module _ (s : List ℕ) where
   same-answer = go (hashed s)
     where
       fs : List (List ℕ)
-      fs = fieldsIn 32 s
+      fs = fieldsIn s
 
       k : ℕ
       k = firstLike forms fs

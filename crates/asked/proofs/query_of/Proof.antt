@@ -18,25 +18,25 @@ query-of-spec =
     (tie.spec
     (λ c κs. search needs)
     (λ c κs. search needs)
-    (λ c. arm (fieldsIn 32 (c .before .before .before .args .line .now)) (c .before .read-places .ensures) (c .match .keys1) refl)
-    (λ c. arm (fieldsIn 32 (c .before .before .before .args .line .now)) (c .before .read-places .ensures) (c .match .keys2) refl)
-    (λ c. arm (fieldsIn 32 (c .before .before .before .args .line .now)) (c .before .read-places .ensures) (c .match .keys3) refl)
-    (λ c. arm (fieldsIn 32 (c .before .before .before .args .line .now)) (c .before .read-places .ensures) (c .match .keys4) refl)
-    (λ c. arm (fieldsIn 32 (c .before .before .before .args .line .now)) (c .before .read-places .ensures) (c .match .keys5) refl)
-    (λ c. arm (fieldsIn 32 (c .before .before .before .args .line .now)) (c .before .read-places .ensures) (c .match .keys6) refl)
-    (λ c. arm (fieldsIn 32 (c .before .before .before .args .line .now)) (c .before .read-places .ensures) (c .match .keys7) refl)
-    (λ c. arm (fieldsIn 32 (c .before .before .before .args .line .now)) (c .before .read-places .ensures) (c .match .keys8) refl)
-    (λ c. arm (fieldsIn 32 (c .before .before .before .args .line .now)) (c .before .read-places .ensures) (c .match .keys9) refl)
-    (λ c. arm (fieldsIn 32 (c .before .before .before .args .line .now)) (c .before .read-places .ensures) (c .match .keys10) refl)
+    (λ c. arm (fieldsIn (c .before .before .before .args .line .now)) (c .before .read-places .ensures) (c .match .keys1) refl)
+    (λ c. arm (fieldsIn (c .before .before .before .args .line .now)) (c .before .read-places .ensures) (c .match .keys2) refl)
+    (λ c. arm (fieldsIn (c .before .before .before .args .line .now)) (c .before .read-places .ensures) (c .match .keys3) refl)
+    (λ c. arm (fieldsIn (c .before .before .before .args .line .now)) (c .before .read-places .ensures) (c .match .keys4) refl)
+    (λ c. arm (fieldsIn (c .before .before .before .args .line .now)) (c .before .read-places .ensures) (c .match .keys5) refl)
+    (λ c. arm (fieldsIn (c .before .before .before .args .line .now)) (c .before .read-places .ensures) (c .match .keys6) refl)
+    (λ c. arm (fieldsIn (c .before .before .before .args .line .now)) (c .before .read-places .ensures) (c .match .keys7) refl)
+    (λ c. arm (fieldsIn (c .before .before .before .args .line .now)) (c .before .read-places .ensures) (c .match .keys8) refl)
+    (λ c. arm (fieldsIn (c .before .before .before .args .line .now)) (c .before .read-places .ensures) (c .match .keys9) refl)
+    (λ c. arm (fieldsIn (c .before .before .before .args .line .now)) (c .before .read-places .ensures) (c .match .keys10) refl)
     (λ c.
     let b2 = c .before .before in
     let b4 = b2 .before .before in
     let w = b2 .read-places .result in
     let f : SFits w64 (w .s5) = search needs in
-    ap (Query.Move (w .n1) (w .n2) (w .m3) (w .n4)) (toZ-ofZ w64 (w .s5) f) ∙ arm (fieldsIn 32 (b4 .args .line .now)) (b2 .read-places .ensures) (c .before .match .keys11) refl)
+    ap (Query.Move (w .n1) (w .n2) (w .m3) (w .n4)) (toZ-ofZ w64 (w .s5) f) ∙ arm (fieldsIn (b4 .args .line .now)) (b2 .read-places .ensures) (c .before .match .keys11) refl)
     (λ c.
     let b2 = c .before .before in
     let b4 = b2 .before .before in
     let w = b2 .read-places .result in
-    ap (λ s. Query.Search s (w .n7) (w .n8)) (c .read-slip .ensures) ∙ arm (fieldsIn 32 (b4 .args .line .now)) (b2 .read-places .ensures) (c .before .match .keys12) refl)
+    ap (λ s. Query.Search s (w .n7) (w .n8)) (c .read-slip .ensures) ∙ arm (fieldsIn (b4 .args .line .now)) (b2 .read-places .ensures) (c .before .match .keys12) refl)
     (λ c. sym (beyond (table _ _) _ (all-denied 12 _ (c .match .rest)))))

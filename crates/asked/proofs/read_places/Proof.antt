@@ -28,7 +28,7 @@ read-places-spec =
     let b5 = b4 .before in
     let b7 = b5 .before .before in
     let l = b7 .args .line .now in
-    let none : (j : ℕ) → fieldAt (fieldsIn 32 l) (3 + j) ≡ [] =
+    let none : (j : ℕ) → fieldAt (fieldsIn l) (3 + j) ≡ [] =
     λ j. nothing-at 3 j l _ (b3 .after-first3 .ensures ∙ ap afterFirst (b4 .after-first2 .ensures ∙ ap afterFirst (b5 .after-first .ensures))) (b2 .if1 .taken) in
     rw (
       c .before .number .ensures,

@@ -12,5 +12,5 @@ first-field-spec =
     (λ c κs. search needs)
     (λ c. search needs)
     (λ c. search needs)
-    (λ c. end-in 32 (c .before .before .args .s .now) 0 _ (omega arith) (c .end-of .ensures))
-    (λ c. front-is 32 (c .before .before .before .args .s .now) _ (c .before .end-of .ensures)))
+    (λ c. end-in (c .before .before .args .s .now) 0 _ (omega arith) (c .end-of .ensures))
+    (λ c. front-is (c .before .before .before .args .s .now) _ (c .before .end-of .ensures)))

@@ -14,7 +14,7 @@ use Rattle.forms.proofs.is_like.Tie as tie
 abbrev Inv-loop : tie.InvT-loop
 Inv-loop form line i₀ j₀ i j =
     (i ≤ length form) × (j ≤ length line)
-    × (like (fieldsIn 32 (drop i form)) (fieldsIn 32 (drop j line)) ≡ like (fieldsIn 32 form) (fieldsIn 32 line))
+    × (like (fieldsIn (drop i form)) (fieldsIn (drop j line)) ≡ like (fieldsIn form) (fieldsIn line))
 
 abbrev μ-loop : tie.MeasureT-loop
 μ-loop form line i₀ j₀ i j = length form - i
@@ -33,13 +33,13 @@ is-like-spec =
     (λ c.
     let b2 = c .before .before in
     let b5 = b2 .before .before .before in
-    end-in 32 (b5 .args .form .now) (b2 .loop .i) (c .before .end-of .result) (b2 .loop .inv .0) (c .before .end-of .ensures))
+    end-in (b5 .args .form .now) (b2 .loop .i) (c .before .end-of .result) (b2 .loop .inv .0) (c .before .end-of .ensures))
     (λ c. omega (arith, c .before .end-of2 .ensures))
     (λ c. omega (arith, c .before .end-of2 .ensures))
     (λ c.
     let b3 = c .before .before .before in
     let b6 = b3 .before .before .before in
-    end-in 32 (b6 .args .line .now) (b3 .loop .j) (c .before .end-of2 .result) (b3 .loop .inv .1) (c .before .end-of2 .ensures))
+    end-in (b6 .args .line .now) (b3 .loop .j) (c .before .end-of2 .result) (b3 .loop .inv .1) (c .before .end-of2 .ensures))
     (λ c κs. search needs)
     (λ c.
     let b4 = c .before .before .before .before in
@@ -78,17 +78,17 @@ is-like-spec =
     let b7 = c .before .before .before .before .before .before .before in
     let b8 = b7 .before in
     let b11 = b8 .before .before .before in
-    omega (arith, end-in 32 (b11 .args .form .now) (b8 .loop .i) (b7 .end-of .result) (b8 .loop .inv .0) (b7 .end-of .ensures)))
+    omega (arith, end-in (b11 .args .form .now) (b8 .loop .i) (b7 .end-of .result) (b8 .loop .inv .0) (b7 .end-of .ensures)))
     (λ c.
     let b6 = c .before .before .before .before .before .before in
     let b8 = b6 .before .before in
     let b11 = b8 .before .before .before in
-    omega (arith, end-in 32 (b11 .args .line .now) (b8 .loop .j) (b6 .end-of2 .result) (b8 .loop .inv .1) (b6 .end-of2 .ensures)))
+    omega (arith, end-in (b11 .args .line .now) (b8 .loop .j) (b6 .end-of2 .result) (b8 .loop .inv .1) (b6 .end-of2 .ensures)))
     (λ c.
     let b7 = c .before .before .before .before .before .before .before in
     let b8 = b7 .before in
     let b11 = b8 .before .before .before in
-    omega (arith, c .before .if2 .left, b7 .end-of .ensures, end-in 32 (b11 .args .form .now) (b8 .loop .i) (b7 .end-of .result) (b8 .loop .inv .0) (b7 .end-of .ensures)))
+    omega (arith, c .before .if2 .left, b7 .end-of .ensures, end-in (b11 .args .form .now) (b8 .loop .i) (b7 .end-of .result) (b8 .loop .inv .0) (b7 .end-of .ensures)))
     (λ c.
     let b2 = c .before .before in
     let b3 = b2 .before in
@@ -96,8 +96,8 @@ is-like-spec =
     let b7 = b6 .before in
     let b8 = b7 .before in
     let b11 = b8 .before .before .before in (
-      omega (arith, c .before .if2 .left, end-in 32 (b11 .args .form .now) (b8 .loop .i) (b7 .end-of .result) (b8 .loop .inv .0) (b7 .end-of .ensures)),
-      omega (arith, c .if3 .left, end-in 32 (b11 .args .line .now) (b8 .loop .j) (b6 .end-of2 .result) (b8 .loop .inv .1) (b6 .end-of2 .ensures)),
+      omega (arith, c .before .if2 .left, end-in (b11 .args .form .now) (b8 .loop .i) (b7 .end-of .result) (b8 .loop .inv .0) (b7 .end-of .ensures)),
+      omega (arith, c .if3 .left, end-in (b11 .args .line .now) (b8 .loop .j) (b6 .end-of2 .result) (b8 .loop .inv .1) (b6 .end-of2 .ensures)),
       both-next (b11 .args .form .now) (b11 .args .line .now) (b8 .loop .i) (b7 .end-of .result) (b8 .loop .j) (b6 .end-of2 .result)
           (b8 .loop .inv .0) (b8 .loop .inv .1) (b7 .end-of .ensures) (b6 .end-of2 .ensures)
           (passed (b3 .admits .result) _ (b3 .admits .ensures) (b2 .if1 .left))

@@ -13,7 +13,7 @@ use Rattle.forms.proofs.number.Tie as tie
 
 abbrev Inv-loop : tie.InvT-loop
 Inv-loop s v₀ i₀ v i =
-    (i ≤ length s) × (v ≤ 4294967295) × (capped (valueFrom v (firstField 32 (drop i s))) ≡ capped (valueFrom 0 (firstField 32 s)))
+    (i ≤ length s) × (v ≤ 4294967295) × (capped (valueFrom v (firstField (drop i s))) ≡ capped (valueFrom 0 (firstField s)))
 
 abbrev μ-loop : tie.MeasureT-loop
 μ-loop s v₀ i₀ v i = length s - i
@@ -38,7 +38,7 @@ number-spec =
     let s = c .before .before .before .before .before .before .before .args .s .now in (
       omega (arith, c .before .before .before .before .loop-test .taken),
       omega (arith, c .one-more .ensures),
-      ap (λ (v : ℕ). capped (valueFrom v (firstField 32 (drop (l .i + 1) s)))) (c .one-more .ensures)
+      ap (λ (v : ℕ). capped (valueFrom v (firstField (drop (l .i + 1) s)))) (c .one-more .ensures)
           ∙ number-next s (l .i) (l .v) (c .before .before .before .before .loop-test .taken) (c .before .before .if1 .left)
           ∙ l .inv .2,
     ))
