@@ -1,4 +1,4 @@
--- What the fields of a line are written as, and the line of them: "Fields fielded by single spaces". Assumes nothing.
+-- What the fields of a line are written as, and the line of them: "Fields parted by single spaces". Assumes nothing.
 use Prim.Native.Nat.{ℕ, suc}
 use Prim.Native.String.{String}
 use mathlib.Core.Bool.{Bool, true, false}
