@@ -332,10 +332,12 @@ def items(row, column):
 
 
 def stated(row):
-    """The items' labels, what 004 prints and what the collection says that the rule gives; it differs where the row says so."""
+    """The items' labels, what 004 prints and what the collection says that the rule gives. A row that is said to differ does; whether
+    another agrees is seen where the program's answers are compared with what 004 prints."""
     printed, ruled = items(row, "printed"), items(row, "rule")
     assert [p == "-" for p in printed] == [r == "-" for r in ruled], row
-    assert (printed == ruled) == (row["agrees"] == "yes") == (row["class"] == ""), row
+    assert (row["agrees"] == "yes") == (row["class"] == ""), row
+    assert row["class"] == "" or printed != ruled, row
     return IN[asked_as(row)[0]].split(), printed, ruled
 
 
@@ -369,8 +371,7 @@ class Run:
         if kind in ("solstice", "term", "term12"):
             ruled, rounded = held_terms(kind, numbers, ruled)
             word = "ROUNDED" if rounded else word
-        differs = [f"{l}={r}" for l, p, r in zip(labels, printed, ruled) if p != r and l[0] != "["]
-        assert word or not differs, row
+        differs = [f"{l}={r}" for l, p, r in zip(labels, printed, ruled) if word and p != r and l[0] != "["]
         shown = [f"[{l[1:-1]}={p}]" if l[0] == "[" else f"{l}={p}" for l, p in zip(labels, printed)]
         text = f"{row['id']} L{row['lines']} {kind} {inputs}: " + " ".join(shown)
         if word:
@@ -379,7 +380,7 @@ class Run:
             text += "; asked by the program `beside`"
         self.note(text, row["quote"])
         if kind not in BESIDE:
-            self.ask(kind, numbers, list(zip(labels, printed, ruled)))
+            self.ask(kind, numbers, list(zip(labels, ruled if word else printed, ruled)))
         self.found["beside" if kind in BESIDE else "desk"][word if differs else "AGREE"] += 1
 
     def note(self, text, quote):
@@ -387,19 +388,18 @@ class Run:
         self.page.note(whole if len(f"# {whole}".encode()) <= LONGEST else text)
 
     def ask(self, kind, numbers, said):
-        """The queries, with the figures that 004 prints, but for those that the rule gives otherwise."""
+        """The queries, with the figure of each item that must be answered. What the rule gives is held against the calendar."""
         queries, places = getattr(self.asked, kind.replace("-", "_"))(*numbers)
         answers = [fields(self.page.answer(query)[0]) for query in queries]
         figures = [{} for _ in queries]
-        for (label, printed, ruled), place in zip(said, places, strict=True):
+        for (label, figure, ruled), place in zip(said, places, strict=True):
             assert (place is None) == (label[0] == "["), (kind, label)
             if place is None or ruled == "-":
                 continue
             at_query, made = place
             given = {field: make(ruled) for field, make in made.items()}
             assert given.items() <= answers[at_query].items(), (kind, numbers, given, answers)
-            if printed == ruled:
-                figures[at_query] |= {field: make(printed) for field, make in made.items()}
+            figures[at_query] |= {field: make(figure) for field, make in made.items()}
         for query, of_query in zip(queries, figures):
             self.page.ask(query, of_query)
 

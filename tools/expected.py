@@ -1,5 +1,6 @@
 #!/usr/bin/env python3
-"""What the programs `beside`, `uses` and `printed` must write, by the walked calendar of tools/walked.py, which shares nothing with the library.
+"""What the programs `beside`, `uses` and `printed` and the example for C must write, by the walked calendar of tools/walked.py, which
+shares nothing with the library.
 
 A question that the desk has is asked of the walked desk, with any numbers. What 004 prints stands in tools/eras.tsv; where a row
 agrees, what is computed here is held against it.
@@ -320,10 +321,24 @@ def printed():
     return out
 
 
+# The example for C, crates/capi/example.c: of a refusal its number alone, since C has no words of the reasons.
+
+
+def example(desk):
+    out = echoed(desk, """DAY 14989859,DAY 14989860,DATE 1 12 - 1,DATE 11 8 L 1,DATE 11 9 L 30,MOVE 1 11 - 1 27759,MOVE 1 11 - 1 -1,PLACE 9366,MONTH 115830,QUARTER 115830 2,TERM 9366 0,YEAR 11,CONJUNCTION 4 11826,NEXT 4 3453334""".split(","))
+    row, sheet = "27 9 ? 1 ? ? 3600 4000", write_sheet(([11], [], []), 8)
+    for room in (1, 2):
+        answer, days = found(desk, row, room)
+        out += [f"SEARCH {row} INTO {room}", *answer, *(line for d in days for line in desk.day(d))]
+    out += ["WRITE 11,,", f"BYTES {len(sheet)}", "SHEET" + spaced(sheet), "COUNTS" + spaced(map(len, read_sheet(sheet, (1,) * 3)))]
+    out += uses_printed(desk, "YEAR", 11)
+    return [" ".join(line.split()[:2]) if line.startswith("REFUSED") else line for line in out]
+
+
 def main():
     desk = Desk()
-    outputs = {"beside": beside(desk), "uses": uses(desk), "printed": printed()}
-    return hold({ROOT / "crates" / program / "stdout": "".join(line + "\n" for line in lines).encode() for program, lines in outputs.items()})
+    outputs = {"beside/stdout": beside(desk), "uses/stdout": uses(desk), "printed/stdout": printed(), "capi/example.out": example(desk)}
+    return hold({ROOT / "crates" / path: "".join(line + "\n" for line in lines).encode() for path, lines in outputs.items()})
 
 
 if __name__ == "__main__":

@@ -84,6 +84,12 @@ PLACES = {
     "pair": ("years", "conjunctions"),
 }
 
+# A comment of the table that is not true at the desk, which cuts a number down to 32 bits before the call, and what is added to it.
+CUT_DOWN = {
+    "where Saturn's product passes 64 bits for the first time":
+        "in the call itself, which `beside` asks with this count: the desk cuts it down before the call",
+}
+
 
 def figures(text):
     return dict(figure.split("=") for figure in text.split())
@@ -118,9 +124,11 @@ def table_rows():
 
 def planets(page):
     page.note("THE PLANETS: every row of the proved table of request W11")
-    for kind, asked, said in table_rows():
+    rows = list(table_rows())
+    assert CUT_DOWN.keys() <= {kind for kind, asked, _ in rows if asked is None}
+    for kind, asked, said in rows:
         if asked is None:
-            page.note(kind)
+            page.note(f"{kind}, {CUT_DOWN[kind]}" if kind in CUT_DOWN else kind)
         elif kind == "in-month":
             in_month(page, *asked, *said)
         else:

@@ -1,8 +1,10 @@
 """A page for the program that echoes: notes, queries, and the answers that must stand after them. A module, not a program.
 
 An answer is computed by tools/walked.py; then the figures that a source prints (the paper, or 004) are put into their places in it,
-so that the expected line has the source's own figure wherever the source has one. If the calendar and the source differed, the
-source's figure would stand there, and the program would be found to differ from it. A figure without a place stops the tool.
+so that the expected line has the source's own figure wherever the source has one. Where the calendar and the source differ, the
+source's figure stands there, and the program is found to differ from it. So it is with the known dates, and with the rows of 004 that
+are marked as agreeing; where a row is marked as differing, the rule's figure stands there. The planets' proved table is held against
+the calendar first: tools/known.py stops where they differ. A figure without a place stops the tool.
 
 A place has the name that the field has in README's table of queries. `reason` is a whole refusal: its number with its words.
 """

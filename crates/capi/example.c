@@ -1,78 +1,89 @@
-/* An example of the calls for C. What it must print is example.out, written from the paper and not from this program. */
-#include <inttypes.h>
+/* An example of the calls for C: a question on a line, and its answer below it, in the desk's words; of a refusal the number alone.
+ * What it must print is example.out, which tools/expected.py makes, not this program. %u prints a uint32_t, an unsigned int. */
 #include <stdio.h>
 
 #include "oesterwrok.h"
 
-static void show_date(const char *asked, oes_date d)
+/* A date, with the day of its own year, month, mark and day of month. */
+static void date_line(oes_date d)
 {
     if (d.reason != 0) {
-        printf("%s: reason %" PRIu32 "\n", asked, d.reason);
+        printf("REFUSED %u\n", d.reason);
         return;
     }
-    printf("%s: year %" PRIu32 ", %s%" PRIu32 ", day %" PRIu32 ", name %" PRIu32 "\n", asked, d.year,
-           d.leap ? "leap " : "month ", d.number, d.day_of_month, d.day_name);
+    oes_day day = oes_day_of_date(d.year, d.number, d.leap, d.day_of_month);
+    printf("DAY %u %u %u %c %u %u %u %u\n", day.day, d.year, d.number, d.leap ? 'L' : '-', d.day_of_month, d.day_name,
+           d.month_length, d.year_name);
+}
+
+static void show_date(const char *asked, oes_date d)
+{
+    puts(asked);
+    date_line(d);
 }
 
 static void show_day(const char *asked, oes_day d)
 {
+    puts(asked);
     if (d.reason != 0) {
-        printf("%s: reason %" PRIu32 "\n", asked, d.reason);
+        printf("REFUSED %u\n", d.reason);
         return;
     }
-    printf("%s: day %" PRIu32 "\n", asked, d.day);
+    date_line(oes_date_of_day(d.day));
 }
 
 static void dates(void)
 {
-    show_date("day 14989859", oes_date_of_day(14989859));
-    show_date("day 14989860", oes_date_of_day(14989860));
-    show_day("year 1, month 12, day 1", oes_day_of_date(1, 12, false, 1));
-    show_day("year 11, leap 8, day 1", oes_day_of_date(11, 8, true, 1));
-    show_day("year 11, leap 9, day 30", oes_day_of_date(11, 9, true, 30));
-    show_date("27759 days after the first", oes_move_date(1, 11, false, 1, 27759));
-    show_date("the day before the first", oes_move_date(1, 11, false, 1, -1));
+    show_date("DAY 14989859", oes_date_of_day(14989859));
+    show_date("DAY 14989860", oes_date_of_day(14989860));
+    show_day("DATE 1 12 - 1", oes_day_of_date(1, 12, false, 1));
+    show_day("DATE 11 8 L 1", oes_day_of_date(11, 8, true, 1));
+    show_day("DATE 11 9 L 30", oes_day_of_date(11, 9, true, 30));
+    show_date("MOVE 1 11 - 1 27759", oes_move_date(1, 11, false, 1, 27759));
+    show_date("MOVE 1 11 - 1 -1", oes_move_date(1, 11, false, 1, -1));
 }
 
 static void facts(void)
 {
     oes_solstice s = oes_solstice_year(9366);
-    oes_year y = oes_year_facts(11);
     oes_month m = oes_month_facts(115830);
     oes_quarter_told full = oes_quarter(115830, 2);
-    printf("year 9366: ji %" PRIu32 ", bu %" PRIu32 ", year in bu %" PRIu32 ", leap remainder %" PRIu32 "\n", s.ji, s.bu,
-           s.year_in_bu, s.leap_remainder);
-    printf("month %" PRIu32 ": from day %" PRIu32 ", name %" PRIu32 ", full on day %" PRIu32 "\n", s.first_month,
-           m.first_day, m.first_name, full.day);
-    show_day("solstice of year 9366", oes_term(9366, 0));
+    oes_day solstice = oes_term(9366, 0);
+    oes_year y = oes_year_facts(11);
+    printf("PLACE 9366\nPLACE %u %u %u %u %u %u %u\n", s.ji, s.bu, s.year_in_bu, s.head_name, s.first_month, s.leap_remainder,
+           s.months);
+    printf("MONTH 115830\nMONTH 115830 %u %c %u %u %c %u %u\n", m.number, m.leap ? 'L' : '-', m.first_name, m.month_length,
+           m.eclipse ? 'E' : '-', m.first_day, m.small_remainder);
+    printf("QUARTER 115830 2\nQUARTER %u %u\n", full.day, full.parts);
+    printf("TERM 9366 0\nTERM %u\n", solstice.day);
     if (y.has_leap) {
-        printf("year 11: leap %" PRIu32 ", month %" PRIu32 "\n", y.leap_number, y.leap_month);
+        printf("YEAR 11\nYEAR 11 NAME %u MONTHS %u FIRST %u LEAP %u %u\n", y.name, y.months, y.first_month, y.leap_number,
+               y.leap_month);
     }
 }
 
 /* Venus by the end of year 9,455: 11,826 conjunctions, the last of them an evening one. */
 static void planets(void)
 {
-    static const char *const phases[3] = {"neither", "morning", "evening"};
     oes_conjunction_told c = oes_conjunction(4, 11826);
-    oes_next_told n = oes_next_conjunction(4, c.day);
-    printf("conjunction 11826 of Venus: day %" PRIu32 ", %" PRIu32 " parts of %" PRIu32 ", %s\n", c.day, c.parts, c.divisor,
-           phases[c.phase]);
-    printf("the first from that day on: %" PRIu32 "\n", n.k);
+    oes_next_told n = oes_next_conjunction(4, 3453334);
+    printf("CONJUNCTION 4 11826\nCONJUNCTION %u %u %u %c\n", c.day, c.parts, c.divisor, "-ME"[c.phase]);
+    printf("NEXT 4 3453334\nNEXT %u %u %u %u %c\n", n.k, n.day, n.parts, n.divisor, "-ME"[n.phase]);
 }
 
-/* A slip with the leap mark alone, in the days of year 11: its leap month has 29 days, from day 3957 on. */
+/* A slip of the first day of a month 9, in a year of the name 27, its leap mark not read: into a list of one place, and of two. */
 static void search(void)
 {
-    oes_reading slip = {0};
-    uint32_t days[29] = {0};
-    slip.leap_mark = 2;
-    slip.leap_mark_known = true;
-    oes_found few = oes_search(slip, 3632, 4015, days, 8);
-    printf("with 8 places: reason %" PRIu32 ", total %" PRIu32 "\n", few.reason, few.total);
-    oes_found all = oes_search(slip, 3632, 4015, days, 29);
-    printf("with 29 places: reason %" PRIu32 ", total %" PRIu32 ", first %" PRIu32 ", last %" PRIu32 "\n", all.reason,
-           all.total, days[0], days[28]);
+    oes_reading slip = {.year_name = 27, .month_number = 9, .day_of_month = 1};
+    uint32_t days[2] = {0};
+    slip.year_name_known = slip.month_number_known = slip.day_of_month_known = true;
+    oes_found few = oes_search(slip, 3600, 4000, days, 1);
+    printf("SEARCH 27 9 ? 1 ? ? 3600 4000 INTO 1\nREFUSED %u\nTOTAL %u\n", few.reason, few.total);
+    oes_found all = oes_search(slip, 3600, 4000, days, 2);
+    printf("SEARCH 27 9 ? 1 ? ? 3600 4000 INTO 2\nFOUND %u\n", all.total);
+    for (uint32_t i = 0; i < all.total; i++) {
+        date_line(oes_date_of_day(days[i]));
+    }
 }
 
 /* The sheet with year 11 alone, written, read back and printed. */
@@ -86,15 +97,15 @@ static void sheet(void)
     uint32_t days_read[1] = {0};
     uint8_t text[674] = {0};
     oes_length written = oes_write_sheet(years, 1, none, 0, none, 0, bytes, sizeof bytes);
-    printf("sheet:");
+    printf("WRITE 11,,\nBYTES %zu\nSHEET", written.length);
     for (size_t i = 0; i < written.length; i++) {
-        printf(" %02X", bytes[i]);
+        printf(" %u", bytes[i]);
     }
-    printf("\n");
     oes_sheet_counts c = oes_read_sheet(bytes, written.length, years_read, 1, months_read, 1, days_read, 1);
-    printf("counts: %zu %zu %zu\n", c.years, c.months, c.days);
+    printf("\nCOUNTS %zu %zu %zu\n", c.years, c.months, c.days);
     for (size_t i = 0; i < c.years; i++) {
         oes_length printed = oes_print_year(years_read[i], text, sizeof text);
+        printf("PRINT YEAR %u\n", years_read[i]);
         fwrite(text, 1, printed.length, stdout);
     }
 }

@@ -6,8 +6,24 @@ mod printed;
 mod searches;
 mod sheets;
 
+use dates::Date;
 use dates::Dated;
+use dates::DayTold;
 use planets::ConjunctionTold;
+
+// The line of a date, with the day of its own year, month, mark and day of month.
+fn day_line(d: Date) {
+    let m = d.month;
+    let number = rule::number_of(m) as u32;
+    let leap = rule::leap_mark(m);
+    match dates::day_of_date(d.year as u32, number, leap, d.day_of_month as u32) {
+        DayTold::Is(day) => {
+            show::field(b"DAY", day as u64);
+            show::date(d);
+        }
+        DayTold::Refused(why) => show::refused(why),
+    }
+}
 
 fn moved(year: u32, number: u32, leap: bool, day_of_month: u32, days: i64) {
     show::field(b"MOVE", year as u64);
@@ -17,7 +33,7 @@ fn moved(year: u32, number: u32, leap: bool, day_of_month: u32, days: i64) {
     show::signed(days);
     show::text(b"\n");
     match moves::move_date(year, number, leap, day_of_month, days) {
-        Dated::Is(d) => show::date(d),
+        Dated::Is(d) => day_line(d),
         Dated::Refused(why) => show::refused(why),
     }
 }
@@ -26,7 +42,10 @@ fn conjunction(p: u32, k: u64) {
     show::field(b"CONJUNCTION", p as u64);
     show::line(b"", k);
     match planets::kth_conjunction(p, k) {
-        ConjunctionTold::Is(c) => show::conjunction(c),
+        ConjunctionTold::Is(c) => {
+            show::text(b"CONJUNCTION");
+            show::conjunction(c);
+        }
         ConjunctionTold::Refused(why) => show::refused(why),
     }
 }

@@ -20,7 +20,7 @@ fn put_unreadable(out: &mut [u8], at: usize) -> usize
     fields::put_bytes(b"UNREADABLE\n", out, at)
 }
 
-// A line as it stands, a note.
+// A line as it stands: a note, and what echo prints.
 pub fn put_line(line: &[u8], out: &mut [u8], at: usize) -> usize
     requires { ⌜ (length (now line) ≤ 201) × (at + 202 ≤ length (now out)) ⌝ }
     ensures { λ r. ⌜ Put 202 (now (out .entry)) at (now (line .entry) ++ (10 ∷ [])) (now (out .exit)) r ⌝ }

@@ -197,7 +197,10 @@ fn search(first: u32, last: u32) {
             show::line(b"FOUND", n as u64);
             numbers_in_front(&days, n as usize);
         }
-        Found::TooShort(total) => show::line(b"TOTAL", total as u64),
+        Found::TooShort(total) => {
+            show::refused(rule::Reason::LentTooShort);
+            show::line(b"TOTAL", total as u64);
+        }
         Found::Refused(why) => show::refused(why),
     }
 }

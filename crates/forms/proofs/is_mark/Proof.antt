@@ -1,3 +1,4 @@
+-- `forms::is_mark` meets its contract. Assumes nothing.
 use mathlib.Core.Path.{ap₂}
 use mathlib.Core.Bool.{Bool, _||_}
 use Rattle.forms.specs.Forms.{isMark}

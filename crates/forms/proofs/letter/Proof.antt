@@ -1,3 +1,4 @@
+-- `forms::letter` meets its contract. Assumes nothing.
 use Rattle.forms.proofs.Scanning.{no-letter, the-letter}
 use borrow.Author.Needs.{needs}
 use Rattle.forms.proofs.letter.Statement.{statement}

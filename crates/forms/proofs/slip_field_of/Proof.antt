@@ -1,3 +1,4 @@
+-- `forms::slip_field_of` meets its contract. Assumes nothing.
 use mathlib.Core.Path.{refl, ap}
 use Rattle.forms.specs.Forms.{slipFieldOf}
 use Rattle.reading.specs.declared.Field.the-variants.{Known}

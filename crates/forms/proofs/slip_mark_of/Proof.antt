@@ -1,3 +1,4 @@
+-- `forms::slip_mark_of` meets its contract. Assumes nothing.
 use mathlib.Core.Path.{refl, ap}
 use Rattle.forms.specs.Forms.{slipMarkOf}
 use Rattle.forms.specs.declared.Mark.the-variants.{Seen}

@@ -1,3 +1,4 @@
+-- `queries::answer_slip` meets its contract. Assumes nothing.
 use mathlib.Core.Path.{ap}
 use Rattle.fields.proofs.Putting.{put-as}
 use Rattle.reading.specs.declared.Reading.{Reading}

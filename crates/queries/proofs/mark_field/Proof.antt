@@ -1,3 +1,4 @@
+-- `queries::mark_field` meets its contract. Assumes nothing.
 use mathlib.Core.Path.{refl, ap, sym}
 use Rattle.queries.specs.Queries.{markField}
 use borrow.Author.Needs.{needs}

@@ -1,3 +1,4 @@
+-- `queries::put_unreadable` meets its contract. Assumes nothing.
 use Rattle.fields.specs.Fields.{followed}
 use Rattle.queries.specs.Queries.{unreadable}
 use borrow.Author.Needs.{needs}

@@ -1,3 +1,4 @@
+-- `queries::reading_of` meets its contract. Assumes nothing.
 use mathlib.Core.Path.{refl}
 use borrow.Author.Needs.{needs}
 use Rattle.queries.proofs.reading_of.Statement.{statement}
