@@ -36,26 +36,26 @@ form-number-spec =
     (λ c. search needs)
     (λ c κs. search needs)
     (λ c.
-    let b2 = c .before .before in
-    let b4 = b2 .before .before in
-    let b6 = b4 .before .before in
-    let b8 = b6 .before .before in
-    let b10 = b8 .before .before in
-    let b12 = b10 .before .before in
-    let b14 = b12 .before .before in
-    let b16 = b14 .before .before in
-    let b18 = b16 .before .before in
-    let b20 = b18 .before .before in
-    let b22 = b20 .before .before in
-    let e2 = and-past _ _ _ (b22 .past .ensures) (b20 .past2 .ensures) in
-    let e3 = and-past _ _ _ e2 (b18 .past3 .ensures) in
-    let e4 = and-past _ _ _ e3 (b16 .past4 .ensures) in
-    let e5 = and-past _ _ _ e4 (b14 .past5 .ensures) in
-    let e6 = and-past _ _ _ e5 (b12 .past6 .ensures) in
-    let e7 = and-past _ _ _ e6 (b10 .past7 .ensures) in
-    let e8 = and-past _ _ _ e7 (b8 .past8 .ensures) in
-    let e9 = and-past _ _ _ e8 (b6 .past9 .ensures) in
-    let e10 = and-past _ _ _ e9 (b4 .past10 .ensures) in
-    let e11 = and-past _ _ _ e10 (b2 .past11 .ensures) in
+    let c11 = c .before .before in
+    let c10 = c11 .before .before in
+    let c9 = c10 .before .before in
+    let c8 = c9 .before .before in
+    let c7 = c8 .before .before in
+    let c6 = c7 .before .before in
+    let c5 = c6 .before .before in
+    let c4 = c5 .before .before in
+    let c3 = c4 .before .before in
+    let c2 = c3 .before .before in
+    let c1 = c2 .before .before in
+    let e2 = and-past _ _ _ (c1 .past .ensures) (c2 .past2 .ensures) in
+    let e3 = and-past _ _ _ e2 (c3 .past3 .ensures) in
+    let e4 = and-past _ _ _ e3 (c4 .past4 .ensures) in
+    let e5 = and-past _ _ _ e4 (c5 .past5 .ensures) in
+    let e6 = and-past _ _ _ e5 (c6 .past6 .ensures) in
+    let e7 = and-past _ _ _ e6 (c7 .past7 .ensures) in
+    let e8 = and-past _ _ _ e7 (c8 .past8 .ensures) in
+    let e9 = and-past _ _ _ e8 (c9 .past9 .ensures) in
+    let e10 = and-past _ _ _ e9 (c10 .past10 .ensures) in
+    let e11 = and-past _ _ _ e10 (c11 .past11 .ensures) in
     let e12 = and-past _ _ _ e11 (c .past12 .ensures) in
     e12 ∙ past-all _ forms))
