@@ -10,9 +10,11 @@ use lib.ListN.{length, take, length-append, length-take}
 use lib.Seq.{sets, take-all}
 use lib.Dec.{leb}
 use borrow.Author.Tests.{ne-eqb, le-leb, lt-leb}
-use Rattle.fields.specs.Fields.{followed, Put}
+use Rattle.fields.specs.Fields.{word, digits, decimal, followed, Put}
 use Rattle.queries.specs.Queries.{unreadable, answerTo}
 use Rattle.asked.specs.Asked.{hashed}
+use Rattle.told.specs.Answers.{refusedText, wordsNumbered}
+use Rattle.queries.proofs.Cases.{next-day-too-large}
 use Rattle.queries.proofs.Paper.{front-is-enough, note-as-it-stands, too-long}
 use Rattle.held.specs.Held.{lineAfter, lineAfterAll, isNote, echoed, reply, saidAt, saidAtEnd, saidTo, Becomes, Answers}
 use Rattle.held.specs.Paper as Paper
@@ -190,6 +192,23 @@ not-echoed room p =
     other : (t : List ℕ) → 65 ∷ [] ≡ 35 ∷ t → ⊥
     other t j = let o : _≡_ {A = ℕ} 65 35 = cc in omega arith
 
+-- what is said to a line whose day is out of range, into a buffer of nine bytes: the front of reason 6
+day-too-large : (out′ : List ℕ) → Answers (λ l. saidAt false l 10) (word "NEXT 1 99999999999") 18 (word "000000000") out′ → out′ ≡ word "REFUSED 6"
+unfolding saidAt reply refusedText wordsNumbered followed digits decimal
+day-too-large out′ p = p .said (word "NEXT 1 99999999999") refl ∙ ap (sets (word "000000000") 0) next-day-too-large
+
+numbers-exchanged : Answers (λ l. saidAt false l 10) (word "NEXT 1 99999999999") 18 (word "000000000") (word "REFUSED 1") → ⊥
+numbers-exchanged p =
+    let e : _≡_ {A = List ℕ} (word "REFUSED 1") (word "REFUSED 6") = day-too-large (word "REFUSED 1") p in
+    let o : _≡_ {A = ℕ} 49 54 = cc in
+    omega arith
+
+all-unreadable : Answers (λ l. saidAt false l 10) (word "NEXT 1 99999999999") 18 (word "000000000") (word "UNREADABL") → ⊥
+all-unreadable p =
+    let e : _≡_ {A = List ℕ} (word "UNREADABL") (word "REFUSED 6") = day-too-large (word "UNREADABL") p in
+    let o : _≡_ {A = ℕ} 85 82 = cc in
+    omega arith
+
 pub wrong-holdings : Paper.Wrong-holdings
 wrong-holdings =
     record {
@@ -197,6 +216,8 @@ wrong-holdings =
       two-hundred = two-hundred;
       never-ending = never-ending;
       unanswered = unanswered;
+      numbers-exchanged = numbers-exchanged;
+      all-unreadable = all-unreadable;
       note-twice = note-twice;
       not-echoed = not-echoed;
     }

@@ -6,6 +6,7 @@ use mathlib.Core.Bool.{Bool, true, false}
 use mathlib.Core.List.{List, [], _∷_, _++_}
 use lib.ListN.{length, getD, take}
 use Rattle.queries.specs.Queries.{answerTo}
+use Rattle.fields.specs.Fields.{word}
 use Rattle.held.specs.Held.{lineAfter, lineAfterAll, reply, saidAt, saidTo, Holds, Becomes, Answers}
 
 -- no newline stands in it
@@ -40,12 +41,15 @@ One-holding =
     (a b : List ℕ) (m n : ℕ) (l : List ℕ) → length a ≡ 201 → length b ≡ 201 → m ≤ 201 → n ≤ 201 → Holds a m l → Holds b n l →
     (m ≡ n) × (take m a ≡ take n b)
 
--- wrong versions: a byte that is lost, a line of which 200 bytes are held, a newline that ends nothing, a line that is not answered; with
--- echo a note that is printed twice, and a line that is not printed
+-- wrong versions: a byte that is lost, a line of which 200 bytes are held, a newline that ends nothing, a line that is not answered, one that
+-- is answered as if its numbers were exchanged (19 for 6), one that is unreadable; with echo a note that is printed twice, and a line that
+-- is not printed
 pub record Wrong-holdings : Type 0 where
   pub byte-lost : (room room′ : List ℕ) → Becomes (λ l. lineAfter l 65) room 0 (0 ∷ room′) 1 → ⊥
   pub two-hundred : (room room′ : List ℕ) → length room ≡ 201 → Becomes (λ l. lineAfter l 65) room 200 room′ 200 → ⊥
   pub never-ending : (room : List ℕ) → Becomes (λ l. lineAfter l 10) (65 ∷ room) 1 (65 ∷ room) 1 → ⊥
   pub unanswered : (room : List ℕ) → length room ≡ 201 → Answers (λ l. saidAt false l 10) room 201 (0 ∷ []) (0 ∷ []) → ⊥
   pub note-twice : (room : List ℕ) → Answers (λ l. saidAt true l 10) (35 ∷ room) 1 (0 ∷ 0 ∷ 0 ∷ 0 ∷ []) (35 ∷ 10 ∷ 35 ∷ 10 ∷ []) → ⊥
+  pub numbers-exchanged : Answers (λ l. saidAt false l 10) (word "NEXT 1 99999999999") 18 (word "000000000") (word "REFUSED 1") → ⊥
+  pub all-unreadable : Answers (λ l. saidAt false l 10) (word "NEXT 1 99999999999") 18 (word "000000000") (word "UNREADABL") → ⊥
   pub not-echoed : (room : List ℕ) → Answers (λ l. saidAt true l 10) (65 ∷ room) 1 (0 ∷ []) (85 ∷ []) → ⊥

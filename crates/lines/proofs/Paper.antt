@@ -57,8 +57,21 @@ use Rattle.lines.specs.Paper.{inLines, exampleOf11}
 use Rattle.lines.proofs.Printing.{printed-refused}
 use Rattle.lines.specs.Paper as Paper
 
+-- what a year's lines and a sheet are computed with: on an `unfolding` line such a name brings all that its own line names
+year-lines : ℕ
+unfolding inLines yearBlock monthLined monthFacts yearFacts dayName yearName monthStart monthLength firstMonth monthsInYear those digits decimal followed each
+year-lines = 0
+
+month-numbers : ℕ
+unfolding midTermsBefore leap midTermNumber monthNumber monthAt eclipse
+month-numbers = 0
+
+sheets : ℕ
+unfolding number numbers itemsRead countRead sectionRead itemsOf leftAfter listsIn daysRead monthsRead sheetRead readSheet
+sheets = 0
+
 pub example-of-the-paper : Paper.Example-of-the-paper
-unfolding inLines listing listingOf yearBlock monthLined monthFacts yearFacts dayName yearName monthStart monthLength firstMonth monthsInYear midTermsBefore leap midTermNumber monthNumber monthAt eclipse those number numbers itemsRead countRead sectionRead itemsOf leftAfter listsIn daysRead monthsRead sheetRead readSheet digits decimal followed each
+unfolding listing listingOf year-lines month-numbers sheets
 example-of-the-paper = refl
 
 pub empty-listing : Paper.Empty-listing
@@ -198,11 +211,12 @@ unique-printing =
 not-refused : {a : Answer (List ℕ)} {text o o′ : List ℕ} {why : Reason} → a ≡ is text → Printed a o (HowMany'.Refused why) o′ → ⊥
 not-refused {a} {text} {why = why} e p = given-not a text (reasonNumber why) e (refused-of a length (reasonNumber why) (p .answer))
 
-not-so : {a : Answer (List ℕ)} {text o o′ : List ℕ} {r : HowMany} (i x z : ℕ) → a ≡ is text → Printed a o r o′ → getD o′ i 0 ≡ x → getD (placed text o) i 0 ≡ z → x < z → ⊥
+not-so : {a : Answer (List ℕ)} {text o o′ : List ℕ} {r : HowMany} (i x z : ℕ) → a ≡ is text → Printed a o r o′ →
+    getD o′ i 0 ≡ x → getD (placed text o) i 0 ≡ z → x < z → ⊥
 not-so {o = o} i x z e p f g l = unlike i x z (p .buffer ∙ ap (λ (c : Answer (List ℕ)). afterwards c (λ s. s) o) e) f g l
 
 year-11 : yearBlockAt 11 300 ≡ is exampleOf11
-unfolding yearBlockAt inLines yearBlock monthLined monthFacts yearFacts dayName yearName monthStart monthLength firstMonth monthsInYear midTermsBefore leap midTermNumber monthNumber monthAt eclipse those digits decimal followed each
+unfolding yearBlockAt year-lines month-numbers
 year-11 = refl
 
 line-134 : monthLineAt 134 300 ≡ is (inLines (word "134 9 L 58 29 E" ∷ []))

@@ -27,7 +27,9 @@ way-of-requires : tie.Need-way-of-requires
 way-of-requires c κs = search needs
 
 -- the date has a day, which is in range
-found : (c : tie.After-day) → dayOfDate (c .before .before .before .args .year) (c .before .before .before .args .number) (c .before .before .before .args .leap) (c .before .before .before .args .day-of-month) ≡ is (c .day .given .0 .0)
+found : (c : tie.After-day) →
+    let a = c .before .before .before .args in
+    dayOfDate (a .year) (a .number) (a .leap) (a .day-of-month) ≡ is (c .day .given .0 .0)
 found c = sym (c .before .before .day-of-date .ensures) ∙ ap saidDay (c .day .given .1)
 
 in-range : (c : tie.After-day) → DayInRange (c .day .given .0 .0)

@@ -7,10 +7,17 @@ use Rattle.beside.proofs.figures.in_parts.Statement.{statement}
 use Rattle.beside.proofs.figures.in_parts.Tie as tie
 
 mul-result : tie.Need-mul-result
-mul-result c = let d : c .args .days ≤ 4294967295 = search needs in let m : c .args .divisor ≤ 4294967295 = search needs in record { fits = omega (arith, mul-le-mul d m) }
+mul-result c =
+    let d : c .args .days ≤ 4294967295 = search needs in
+    let m : c .args .divisor ≤ 4294967295 = search needs in
+    record { fits = omega (arith, mul-le-mul d m) }
 
 add-result : tie.Need-add-result
-add-result c = let d : c .args .days ≤ 4294967295 = search needs in let m : c .args .divisor ≤ 4294967295 = search needs in let r : c .args .parts ≤ 4294967295 = search needs in record { fits = omega (arith, r, mul-le-mul d m) }
+add-result c =
+    let d : c .args .days ≤ 4294967295 = search needs in
+    let m : c .args .divisor ≤ 4294967295 = search needs in
+    let r : c .args .parts ≤ 4294967295 = search needs in
+    record { fits = omega (arith, r, mul-le-mul d m) }
 
 returns : tie.Need-returns
 returns c = search needs
