@@ -1,4 +1,4 @@
-//! Links capi's archive: `../target/staticlib/libcapi.a`, or the one that the environment variable `OESTERWROK_CAPI` names.
+//! Links capi's archive: `../target/native/libcapi.a`, or the one that the environment variable `OESTERWROK_CAPI` names.
 
 use std::path::{Path, PathBuf};
 use std::{env, fs, process};
@@ -6,8 +6,8 @@ use std::{env, fs, process};
 /// The variable that names another archive, by its whole path or by one that starts at `rust/`.
 const VARIABLE: &str = "OESTERWROK_CAPI";
 
-/// Where `rt staticlib capi` leaves the archive, as seen from `rust/`.
-const USUAL: &str = "../target/staticlib/libcapi.a";
+/// Where `tools/native capi` leaves the archive for the machine at hand, as seen from `rust/`.
+const USUAL: &str = "../target/native/libcapi.a";
 
 fn main() {
     println!("cargo:rerun-if-changed=build.rs");
@@ -16,7 +16,7 @@ fn main() {
     println!("cargo:rerun-if-changed={}", archive.display());
     if !archive.is_file() {
         stop(&format!(
-            "no archive of capi at {}: run `rt staticlib capi` at the repository's root first, or name one by {VARIABLE}",
+            "no archive of capi at {}: run `tools/native capi` at the repository's root first, or name one by {VARIABLE}",
             archive.display()
         ));
     }

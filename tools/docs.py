@@ -1,26 +1,38 @@
 #!/usr/bin/env python3
-"""Whether the docs still say what the crates have: the code of README.md, and the names in docs/PAPER.md and docs/CALLS.md.
+"""Whether the docs still say what the crates have, and whether what they show comes out.
 
-Each piece of code marked `rust` in README.md must stand word for word in crates/uses/src/main.rt, which the gate proves and runs.
-Each name between backticks in the two tables must stand in a crate: as a word of its specs/, proofs/ or src/, as the name of a
-must-fail edit or of a crate, or as a path that exists. (That it stands where the row says is for a reader.)
+- Each piece of code marked `rust` in docs/USES.md must stand word for word in crates/uses/src/main.rt, which the gate proves and runs.
+- Each example of README.md and docs/USES.md, a command that is indented with its output in a block below it, must come out so. What
+  is asked of ./desk is answered by tools/walked.py, which shares nothing with the library; with --run every such command is run, as
+  it stands, and must print the block.
+- README's table of the sixty names is that of the ten stems and twelve branches.
+- Each name between backticks in docs/PAPER.md and docs/CALLS.md must stand in a crate: as a word of its specs/, proofs/ or src/, as
+  the name of a must-fail edit or of a crate, or as a path that exists. (That it stands where the row says is for a reader.)
+- docs/CALLS.md lists every must-fail edit and every `pub fn` of a library, each with its crate: the one whose name the heading above
+  has, or the one that the row begins with (`dates::date_of_day(..)`). Edits are listed in a column `Must-fail edits` or `Edit`, or in
+  a line that begins with `Edits:`; functions in a column `Call` or `Function`, or in a line that begins with `Functions:`. What is
+  listed and stands in no such crate is told too, and a signature that is not the code's.
+- CONTRIBUTING.md's table of the crates names each crate once.
+- With --run, docs/TRUST.md's table of what each program assumes is what rt printed of it (target/log/), and no library assumes any.
 
-docs/CALLS.md lists every must-fail edit and every `pub fn` of a library, each with its crate: the one whose name the heading above
-has, or the one that the row begins with (`dates::date_of_day(..)`). Edits are listed in a column `Must-fail edits` or `Edit`, or in a
-line that begins with `Edits:`; functions in a column `Call` or `Function`, or in a line that begins with `Functions:`. What is listed
-and stands in no such crate is told too, and a signature that is not the code's.
-
-usage: tools/docs.py    exit status 1 if something is not there
+usage: tools/docs.py [--run]    exit status 1 if something is not there, or does not come out; --run is for after `rt check`
 """
 import pathlib
 import re
+import shlex
+import subprocess
 import sys
+
+import walked
 
 ROOT = pathlib.Path(__file__).resolve().parent.parent
 CRATES = ROOT / "crates"
 CALLS = ROOT / "docs" / "CALLS.md"
 COLUMNS = {"Call": "fn", "Function": "fn", "Must-fail edits": "edit", "Edit": "edit"}
 LINES = {"Functions:": "fn", "Edits:": "edit", "Edit:": "edit"}
+SHOWN = (ROOT / "README.md", ROOT / "docs" / "USES.md")
+STEMS = "甲 jia 乙 yi 丙 bing 丁 ding 戊 wu 己 ji 庚 geng 辛 xin 壬 ren 癸 gui".split()
+BRANCHES = "子 zi 丑 chou 寅 yin 卯 mao 辰 chen 巳 si 午 wu 未 wei 申 shen 酉 you 戌 xu 亥 hai".split()
 
 
 def words():
@@ -56,6 +68,75 @@ def strange_code(page, source):
     for code in re.findall(r"```rust\n(.*?)```", page.read_text(encoding="utf8"), re.DOTALL):
         if code not in source:
             yield f"{page.name}: not in crates/uses:\n{code}"
+
+
+def examples(page):
+    """The commands of a page that have a block below them, each with what the block holds."""
+    return re.findall(r"^    (\S[^\n]*)\n\n```\n(.*?)```$", page.read_text(encoding="utf8"), re.DOTALL | re.MULTILINE)
+
+
+def computed(command, desk):
+    """What `printf '..' | ./desk [--echo]` must print, by tools/walked.py; None for any other command."""
+    words = shlex.split(command)
+    if words[0] != "printf" or words[2:4] != ["|", "./desk"]:
+        return None
+    said = desk.echo if words[4:] == ["--echo"] else desk.answer
+    return b"".join(said(line) for line in walked.lines_in(words[1].replace("\\n", "\n").encode())).decode()
+
+
+def strange_examples(page, desk, run):
+    shows = examples(page)
+    if not shows:
+        yield f"{page.name}: no example, where there should be some"
+    for command, shown in shows:
+        by_hand = computed(command, desk)
+        if by_hand is not None and by_hand != shown:
+            yield f"{page.name}: {command}\n    tools/walked.py has:\n{by_hand}"
+        if run:
+            done = subprocess.run(command, shell=True, cwd=ROOT, stdout=subprocess.PIPE, stderr=subprocess.PIPE, check=False)
+            if done.returncode != 0 or done.stdout.decode() != shown:
+                yield f"{page.name}: {command}\n    prints:\n{done.stdout.decode()}{done.stderr.decode()}"
+
+
+def strange_sixty(page):
+    """Each of the sixty names by its number, Chinese and pinyin."""
+    text = page.read_text(encoding="utf8")
+    for n in range(60):
+        stem, branch = n % 10 * 2, n % 12 * 2
+        cell = f"| {n + 1} {STEMS[stem]}{BRANCHES[branch]} {STEMS[stem + 1]}{BRANCHES[branch + 1]} |"
+        if text.count(cell) != 1:
+            yield f"{page.name}: not once in the table of the sixty names: {cell}"
+
+
+def strange_crates(page):
+    """CONTRIBUTING's table of the crates has each of them in one row."""
+    rows = re.findall(r"^\| (`[^|]*) \|", page.read_text(encoding="utf8"), re.MULTILINE)
+    listed = [name for row in rows for name in names(row)]
+    for crate in sorted({path.name for path in CRATES.iterdir()} | set(listed) - {"rust/"}):
+        if listed.count(crate) != 1 or not (CRATES / crate).exists():
+            yield f"{page.name}: the table of the crates has `{crate}` {listed.count(crate)} times"
+
+
+def assumed(crate):
+    """What rt printed as axioms of a crate, as docs/TRUST.md has it: each function of C's by its name, those of `os` by their number."""
+    said = (ROOT / "target" / "log" / f"{crate}.out").read_text(encoding="utf8")
+    by_name = re.findall(r"^axioms libc: (.*) \(", said, re.MULTILINE)
+    by_number = re.findall(r"^axioms os: .*\((\d+) of", said, re.MULTILINE)
+    count = re.findall(r"^logic=proved .*axioms=(\d+)", said, re.MULTILINE)
+    told = ", ".join(f"`{name}`" for name in ", ".join(by_name).split(", ") if name) + "".join(f"; {n} of `os`" for n in by_number)
+    known = told.count("libc::") + sum(map(int, by_number))
+    return told if count == ([str(known)] if known else []) else f"{told} and others"
+
+
+def strange_axioms(page):
+    rows = re.findall(r"^\| (`[^|]*) \| (`libc[^|]*) \|$", page.read_text(encoding="utf8"), re.MULTILINE)
+    told = {name: cell for programs, cell in rows for name in names(programs)}
+    for crate in sorted(path.name for path in CRATES.iterdir()):
+        if (CRATES / crate / "src" / "lib.rt").exists():
+            if assumed(crate):
+                yield f"{page.name}: the library `{crate}` assumes {assumed(crate)}"
+        elif told.get(crate, "").partition(" (")[0] != assumed(crate):
+            yield f"{page.name}: `{crate}` assumes {assumed(crate)}, and the table has {told.get(crate)}"
 
 
 def source(crate):
@@ -108,7 +189,12 @@ def main():
     known = words()
     wrong = [name for page in ("PAPER.md", "CALLS.md") for name in strange_names(ROOT / "docs" / page, known)]
     wrong += strange_listings()
-    wrong += strange_code(ROOT / "README.md", (CRATES / "uses" / "src" / "main.rt").read_text(encoding="utf8"))
+    wrong += strange_code(ROOT / "docs" / "USES.md", (CRATES / "uses" / "src" / "main.rt").read_text(encoding="utf8"))
+    desk = walked.Desk()
+    wrong += [what for page in SHOWN for what in strange_examples(page, desk, "--run" in sys.argv[1:])]
+    wrong += strange_sixty(ROOT / "README.md")
+    wrong += strange_crates(ROOT / "CONTRIBUTING.md")
+    wrong += strange_axioms(ROOT / "docs" / "TRUST.md") if "--run" in sys.argv[1:] else []
     for what in wrong:
         print(what)
     print(f"docs: {'as the crates have it' if not wrong else 'NOT as the crates have it'}")
