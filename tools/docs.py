@@ -5,7 +5,7 @@
 - Each example of README.md and docs/USES.md, a command that is indented with its output in a block below it, must come out so. What
   is asked of ./desk is answered by tools/walked.py, which shares nothing with the library; with --run every such command is run, as
   it stands, and must print the block.
-- README's table of the sixty names is that of the ten stems and twelve branches.
+- README's table of the sixty names is that of the ten stems and twelve branches; its table of reasons is that of tools/walked.py.
 - Each name between backticks in docs/PAPER.md and docs/CALLS.md must stand in a crate: as a word of its specs/, proofs/ or src/, as
   the name of a must-fail edit or of a crate, or as a path that exists. (That it stands where the row says is for a reader.)
 - docs/CALLS.md lists every must-fail edit and every `pub fn` of a library, each with its crate: the one whose name the heading above
@@ -13,7 +13,8 @@
   a line that begins with `Edits:`; functions in a column `Call` or `Function`, or in a line that begins with `Functions:`. What is
   listed and stands in no such crate is told too, and a signature that is not the code's.
 - CONTRIBUTING.md's table of the crates names each crate once.
-- With --run, docs/TRUST.md's table of what each program assumes is what rt printed of it (target/log/), and no library assumes any.
+- With --run, docs/TRUST.md's table of what each program assumes is what rt printed of it (target/log/), and the archive for C, where
+  `tools/native capi` was the last to prove `capi`, assumes nothing.
 
 usage: tools/docs.py [--run]    exit status 1 if something is not there, or does not come out; --run is for after `rt check`
 """
@@ -108,6 +109,13 @@ def strange_sixty(page):
             yield f"{page.name}: not once in the table of the sixty names: {cell}"
 
 
+def strange_reasons(page):
+    """Each reason by its number and its words."""
+    rows = re.findall(r"^\| (\d+) \| (.*) \|$", page.read_text(encoding="utf8"), re.MULTILINE)
+    if {int(number): words for number, words in rows} != walked.WORDS:
+        yield f"{page.name}: the table of reasons is not that of tools/walked.py"
+
+
 def strange_crates(page):
     """CONTRIBUTING's table of the crates has each of them in one row."""
     rows = re.findall(r"^\| (`[^|]*) \|", page.read_text(encoding="utf8"), re.MULTILINE)
@@ -119,7 +127,7 @@ def strange_crates(page):
 
 def assumed(crate):
     """What rt printed as axioms of a crate, as docs/TRUST.md has it: each function of C's by its name, those of `os` by their number."""
-    said = (ROOT / "target" / "log" / f"{crate}.out").read_text(encoding="utf8")
+    said = (ROOT / "target" / "log" / f"{crate}.say").read_text(encoding="utf8")
     by_name = re.findall(r"^axioms libc: (.*) \(", said, re.MULTILINE)
     by_number = re.findall(r"^axioms os: .*\((\d+) of", said, re.MULTILINE)
     count = re.findall(r"^logic=proved .*axioms=(\d+)", said, re.MULTILINE)
@@ -131,11 +139,10 @@ def assumed(crate):
 def strange_axioms(page):
     rows = re.findall(r"^\| (`[^|]*) \| (`libc[^|]*) \|$", page.read_text(encoding="utf8"), re.MULTILINE)
     told = {name: cell for programs, cell in rows for name in names(programs)}
-    for crate in sorted(path.name for path in CRATES.iterdir()):
-        if (CRATES / crate / "src" / "lib.rt").exists():
-            if assumed(crate):
-                yield f"{page.name}: the library `{crate}` assumes {assumed(crate)}"
-        elif told.get(crate, "").partition(" (")[0] != assumed(crate):
+    if assumed("capi"):
+        yield f"{page.name}: the archive for C assumes {assumed('capi')}"
+    for crate in sorted(path.parent.parent.name for path in CRATES.glob("*/src/main.rt")):
+        if told.get(crate, "").partition(" (")[0] != assumed(crate):
             yield f"{page.name}: `{crate}` assumes {assumed(crate)}, and the table has {told.get(crate)}"
 
 
@@ -193,6 +200,7 @@ def main():
     desk = walked.Desk()
     wrong += [what for page in SHOWN for what in strange_examples(page, desk, "--run" in sys.argv[1:])]
     wrong += strange_sixty(ROOT / "README.md")
+    wrong += strange_reasons(ROOT / "README.md")
     wrong += strange_crates(ROOT / "CONTRIBUTING.md")
     wrong += strange_axioms(ROOT / "docs" / "TRUST.md") if "--run" in sys.argv[1:] else []
     for what in wrong:
