@@ -11,7 +11,6 @@ use Rattle.rule.specs.Reasons.{Answer, is, refused, refused-with, guard, andThe
 use Rattle.rule.specs.Counts.{dayName, yearName}
 use Rattle.rule.specs.Lists.{those}
 use Rattle.rule.specs.Rule.{monthStart, monthLength, monthOfDay, termDay, yearOfMonth, midTermsBefore, leap, midTermNumber, monthNumber}
-use Rattle.rule.specs.declared.Quarter.{Quarter}
 use Rattle.rule.specs.declared.Reason.{Reason}
 use Rattle.rule.specs.declared.Reason.the-variants.{NoSuchDay, BadWindow, FieldOutOfRange}
 use Rattle.dates.specs.declared.Date.{Date}
@@ -21,21 +20,15 @@ use Rattle.dates.specs.declared.DayTold.the-variants as DayTold'
 use Rattle.dates.specs.Dates.{dateIn, dateOf, dateAt, namedMonth, dayInMonth, dayOfNamed, dayOfDate}
 use Rattle.dates.specs.Promises.{saidDate, saidDay}
 use Rattle.moves.specs.Moves.{moved}
-use Rattle.facts.specs.declared.SolsticeYear.{SolsticeYear}
 use Rattle.facts.specs.declared.SolsticeYearTold.the-variants as Solstice'
-use Rattle.facts.specs.declared.YearFacts.{YearFacts}
 use Rattle.facts.specs.declared.YearTold.the-variants as Year'
-use Rattle.facts.specs.declared.MonthFacts.{MonthFacts}
 use Rattle.facts.specs.declared.MonthTold.the-variants as Month'
 use Rattle.facts.specs.declared.QuarterTold.the-variants as Quarter'
 use Rattle.facts.specs.declared.TermTold.the-variants as Term'
 use Rattle.facts.specs.Facts.{solsticeYearAt, yearFactsAt, monthFactsAt, quarterAt, termAt}
 use Rattle.facts.specs.Promises.{saidSolsticeYear, saidYear, saidMonth, saidQuarter, saidTerm}
-use Rattle.planets.specs.declared.Conjunction.{Conjunction}
 use Rattle.planets.specs.declared.ConjunctionTold.the-variants as Conjunction'
-use Rattle.planets.specs.declared.Next.{Next}
 use Rattle.planets.specs.declared.NextTold.the-variants as Next'
-use Rattle.planets.specs.declared.Pair.{Pair}
 use Rattle.planets.specs.declared.PairTold.the-variants as Pair'
 use Rattle.planets.specs.Planets.{
   numbersOf,
@@ -81,7 +74,7 @@ use Rattle.sheet.specs.Sheet.{
   writeInto,
 }
 use Rattle.sheet.specs.Promises.{counted, saidCounts, saidHowMany}
-use Rattle.lines.specs.Promises.{yearBlockAt, monthLineAt, monthItemAt, dayItemAt, Printed}
+use Rattle.penned.specs.Promises.{yearBlockAt, monthLineAt, monthItemAt, dayItemAt, Printed}
 use Rattle.flat.specs.declared.CDate.{CDate}
 use Rattle.flat.specs.declared.CDay.{CDay}
 use Rattle.flat.specs.declared.CSolstice.{CSolstice}
@@ -153,7 +146,8 @@ use Rattle.capi.proofs.Sound.{Sound, given, numbered, none-is-0}
 use Rattle.capi.proofs.Texts.{text-said, unwritten, year-11, line-134, month-134, day-0}
 
 -- printed bytes leave one answer and one buffer
-one-printed : {x : Answer (List ℕ)} {o : List ℕ} {a b : CLength} {o₁ o₂ : List ℕ} → CPrinted x o a o₁ → CPrinted x o b o₂ → (a ≡ b) × (o₁ ≡ o₂)
+one-printed :
+    {x : Answer (List ℕ)} {o : List ℕ} {a b : CLength} {o₁ o₂ : List ℕ} → CPrinted x o a o₁ → CPrinted x o b o₂ → (a ≡ b) × (o₁ ≡ o₂)
 one-printed p q = (p .answer ∙ sym (q .answer), p .buffer ∙ sym (q .buffer))
 
 pub unique-exported : Paper.Unique-exported
@@ -192,9 +186,9 @@ module _ {A R : Type 0} (reason : R → ℕ) (gives : A → R) (bare : ℕ → R
 
   -- reason 0: there is an answer x, and what is said is x laid flat
   is-zero :
-      ((k : ℕ) → reason (bare k) ≡ k) → (a : Answer A) → Sound a → (r : R) → r ≡ flat gives bare a →
+      ((k : ℕ) → reason (bare k) ≡ k) → {a : Answer A} → Sound a → (r : R) → r ≡ flat gives bare a →
       (reason r ≡ 0) ↔ ((x : A) × (is x ≡ a) × (r ≡ gives x))
-  is-zero h a s r e = (there a s e, λ z. ap reason (z .2) ∙ nought (z .0))
+  is-zero h {a} s r e = (there a s e, λ z. ap reason (z .2) ∙ nought (z .0))
     where
       there : (a : Answer A) → Sound a → r ≡ flat gives bare a → reason r ≡ 0 → (x : A) × (is x ≡ a) × (r ≡ gives x)
       there a (given x) e z = (x, refl, e)
@@ -207,36 +201,36 @@ module _ {A E : Type 0} (said : E → Answer A) (gives : A → E) (no : Reason �
   there-is (given x) = (gives x, says x)
   there-is (numbered why) = (no why, says-no why)
 
-  as-said : {R : Type 0} (laid : Answer A → R) {a : Answer A} → Sound a → (r : R) → (r ≡ laid a) ↔ ((e : E) × (said e ≡ a) × (r ≡ laid (said e)))
+  as-said :
+      {R : Type 0} (laid : Answer A → R) {a : Answer A} → Sound a → (r : R) →
+      (r ≡ laid a) ↔ ((e : E) × (said e ≡ a) × (r ≡ laid (said e)))
   as-said laid s r = (λ p. (there-is s .0, there-is s .1, p ∙ sym (ap laid (there-is s .1))), λ z. z .2 ∙ ap laid (z .1))
 
 -- a length or counts said of what was answered: the lent memory is as it was where the query comes back
 module _ {A B R : Type 0} (reason : R → ℕ) (gives : B → R) (bare : ℕ → R) (nought : (x : B) → reason (gives x) ≡ 0) (f : A → B) where
-  abbrev said : Answer A → R
-  said a = flat gives bare (andThen a (λ x. is (f x)))
+  untouched :
+      (a : Answer A) (g : A → List ℕ) (old : List ℕ) (r : R) → r ≡ flat gives bare (andThen a (λ x. is (f x))) → reason r ≢ 0 →
+      afterwards a g old ≡ old
+  untouched (is x) g old r e no-zero = absurd (no-zero (ap reason e ∙ nought (f x)))
+  untouched (refused k) g old r e no-zero = refl
+  untouched (refused-with k n) g old r e no-zero = refl
 
-  untouched : (a : Answer A) (g : A → List ℕ) (old : List ℕ) → reason (said a) ≢ 0 → afterwards a g old ≡ old
-  untouched (is x) g old no-zero = absurd (no-zero (nought (f x)))
-  untouched (refused k) g old no-zero = refl
-  untouched (refused-with k n) g old no-zero = refl
-
--- printed bytes
-printed-bare : {a : Answer (List ℕ)} {o : List ℕ} {r : CLength} {o′ : List ℕ} → CPrinted a o r o′ → r .reason ≢ 0 → BareLength r × (o′ ≡ o)
-printed-bare {a} {o} {r} p no-zero = (
-  is-bare (λ (x : CLength). x .reason) givenLength noLength (λ x. refl) BareLength (λ k. refusals-flat .length k .1) (andThen a (λ b. is (length b))) r (p .answer) no-zero,
-  p .buffer ∙ untouched (λ (x : CLength). x .reason) givenLength noLength (λ x. refl) length a (λ b. b) o (λ z. no-zero (ap (λ (x : CLength). x .reason) (p .answer) ∙ z)),
-)
-
--- their length, said
+-- printed bytes: their length is said
 abbrev lengthOf : Answer (List ℕ) → Answer ℕ
 lengthOf a = andThen a (λ b. is (length b))
+
+printed-bare : {a : Answer (List ℕ)} {o : List ℕ} {r : CLength} {o′ : List ℕ} → CPrinted a o r o′ → r .reason ≢ 0 → BareLength r × (o′ ≡ o)
+printed-bare {a} {o} {r} p h = (
+  is-bare (λ (x : CLength). x .reason) givenLength noLength (λ x. refl) BareLength (λ k. refusals-flat .length k .1) (lengthOf a) r (p .answer) h,
+  p .buffer ∙ untouched (λ (x : CLength). x .reason) givenLength noLength (λ x. refl) length a (λ b. b) o r (p .answer) h,
+)
 
 module _ {a : Answer (List ℕ)} (s : Sound a) (r : CLength) where
   length-sound : Sound (lengthOf a)
   length-sound = Sound.sound-then (λ b. is (length b)) s (λ b. given (length b))
 
   length-zero : r ≡ flatLength (lengthOf a) → (r .reason ≡ 0) ↔ ((n : ℕ) × (is n ≡ lengthOf a) × (r ≡ givenLength n))
-  length-zero e = is-zero (λ (x : CLength). x .reason) givenLength noLength (λ x. refl) (λ k. refl) (lengthOf a) length-sound r e
+  length-zero e = is-zero (λ (x : CLength). x .reason) givenLength noLength (λ x. refl) (λ k. refl) length-sound r e
 
   length-said : (r ≡ flatLength (lengthOf a)) ↔ ((h : HowMany) × (saidHowMany h ≡ lengthOf a) × (r ≡ flatLength (saidHowMany h)))
   length-said = as-said saidHowMany HowMany'.Is HowMany'.Refused (λ x. refl) (λ w. refl) flatLength length-sound r
@@ -255,23 +249,23 @@ module _ {a : Answer (List ℕ)} (s : Sound a) {o : List ℕ} {r : CLength} {o�
   )
 
 -- a sheet's counts
-counts-bare :
-    (a : Answer Lists) (r : CSheetCounts) → r ≡ flatCounts (andThen a (λ l. is (counted l))) → r .reason ≢ 0 →
-    BareCounts r × ((g : Lists → List ℕ) (old : List ℕ) → afterwards a g old ≡ old)
-counts-bare a r e no-zero = (
-  is-bare (λ (x : CSheetCounts). x .reason) givenCounts noCounts (λ x. refl) BareCounts (λ k. refusals-flat .counts k .1) (andThen a (λ l. is (counted l))) r e no-zero,
-  λ g old. untouched (λ (x : CSheetCounts). x .reason) givenCounts noCounts (λ x. refl) counted a g old (λ z. no-zero (ap (λ (x : CSheetCounts). x .reason) e ∙ z)),
-)
-
 abbrev countsOf : Answer Lists → Answer Counts.Counted
 countsOf a = andThen a (λ l. is (counted l))
+
+counts-bare :
+    (a : Answer Lists) (r : CSheetCounts) → r ≡ flatCounts (countsOf a) → r .reason ≢ 0 →
+    BareCounts r × ((g : Lists → List ℕ) (old : List ℕ) → afterwards a g old ≡ old)
+counts-bare a r e h = (
+  is-bare (λ (x : CSheetCounts). x .reason) givenCounts noCounts (λ x. refl) BareCounts (λ k. refusals-flat .counts k .1) (countsOf a) r e h,
+  λ g old. untouched (λ (x : CSheetCounts). x .reason) givenCounts noCounts (λ x. refl) counted a g old r e h,
+)
 
 module _ {a : Answer Lists} (s : Sound a) (r : CSheetCounts) where
   counts-sound : Sound (countsOf a)
   counts-sound = Sound.sound-then (λ l. is (counted l)) s (λ l. given (counted l))
 
   counts-zero : r ≡ flatCounts (countsOf a) → (r .reason ≡ 0) ↔ ((c : Counts.Counted) × (is c ≡ countsOf a) × (r ≡ givenCounts c))
-  counts-zero e = is-zero (λ (x : CSheetCounts). x .reason) givenCounts noCounts (λ x. refl) (λ k. refl) (countsOf a) counts-sound r e
+  counts-zero e = is-zero (λ (x : CSheetCounts). x .reason) givenCounts noCounts (λ x. refl) (λ k. refl) counts-sound r e
 
   counts-said : (r ≡ flatCounts (countsOf a)) ↔ ((c : SheetCounts) × (saidCounts c ≡ countsOf a) × (r ≡ flatCounts (saidCounts c)))
   counts-said = as-said saidCounts Counts'.Is Counts'.Refused (λ x. refl) (λ w. refl) flatCounts counts-sound r
@@ -325,75 +319,26 @@ module _ (r : Reading) (first last n : ℕ) where
   unfolding searchAt
   search-found = row-found (leb first 14989859 && leb last 14989859) (windowHolds first last) (inRanges r) (leb (total r first last) n) (total r first last)
 
--- each struct
-date-bare : (a : Answer Date) (r : CDate) → r ≡ flat givenDate noDate a → r .reason ≢ 0 → BareDate r
-date-bare = is-bare (λ (x : CDate). x .reason) givenDate noDate (λ x. refl) BareDate (λ k. refusals-flat .date k .1)
-
-date-zero : (a : Answer Date) → Sound a → (r : CDate) → r ≡ flat givenDate noDate a → (r .reason ≡ 0) ↔ ((x : Date) × (is x ≡ a) × (r ≡ givenDate x))
-date-zero = is-zero (λ (x : CDate). x .reason) givenDate noDate (λ x. refl) (λ k. refl)
-
-day-bare : (a : Answer ℕ) (r : CDay) → r ≡ flat givenDay noDay a → r .reason ≢ 0 → BareDay r
-day-bare = is-bare (λ (x : CDay). x .reason) givenDay noDay (λ x. refl) BareDay (λ k. refusals-flat .day k .1)
-
-day-zero : (a : Answer ℕ) → Sound a → (r : CDay) → r ≡ flat givenDay noDay a → (r .reason ≡ 0) ↔ ((x : ℕ) × (is x ≡ a) × (r ≡ givenDay x))
-day-zero = is-zero (λ (x : CDay). x .reason) givenDay noDay (λ x. refl) (λ k. refl)
-
-solstice-bare : (a : Answer SolsticeYear) (r : CSolstice) → r ≡ flat givenSolstice noSolstice a → r .reason ≢ 0 → BareSolstice r
-solstice-bare = is-bare (λ (x : CSolstice). x .reason) givenSolstice noSolstice (λ x. refl) BareSolstice (λ k. refusals-flat .solstice k .1)
-
-solstice-zero : (a : Answer SolsticeYear) → Sound a → (r : CSolstice) → r ≡ flat givenSolstice noSolstice a → (r .reason ≡ 0) ↔ ((x : SolsticeYear) × (is x ≡ a) × (r ≡ givenSolstice x))
-solstice-zero = is-zero (λ (x : CSolstice). x .reason) givenSolstice noSolstice (λ x. refl) (λ k. refl)
-
-year-bare : (a : Answer YearFacts) (r : CYear) → r ≡ flat givenYear noYear a → r .reason ≢ 0 → BareYear r
-year-bare = is-bare (λ (x : CYear). x .reason) givenYear noYear (λ x. refl) BareYear (λ k. refusals-flat .year k .1)
-
-year-zero : (a : Answer YearFacts) → Sound a → (r : CYear) → r ≡ flat givenYear noYear a → (r .reason ≡ 0) ↔ ((x : YearFacts) × (is x ≡ a) × (r ≡ givenYear x))
-year-zero = is-zero (λ (x : CYear). x .reason) givenYear noYear (λ x. refl) (λ k. refl)
-
-month-bare : (a : Answer MonthFacts) (r : CMonth) → r ≡ flat givenMonth noMonth a → r .reason ≢ 0 → BareMonth r
-month-bare = is-bare (λ (x : CMonth). x .reason) givenMonth noMonth (λ x. refl) BareMonth (λ k. refusals-flat .month k .1)
-
-month-zero : (a : Answer MonthFacts) → Sound a → (r : CMonth) → r ≡ flat givenMonth noMonth a → (r .reason ≡ 0) ↔ ((x : MonthFacts) × (is x ≡ a) × (r ≡ givenMonth x))
-month-zero = is-zero (λ (x : CMonth). x .reason) givenMonth noMonth (λ x. refl) (λ k. refl)
-
-quarter-bare : (a : Answer Quarter) (r : CQuarter) → r ≡ flat givenQuarter noQuarter a → r .reason ≢ 0 → BareQuarter r
-quarter-bare = is-bare (λ (x : CQuarter). x .reason) givenQuarter noQuarter (λ x. refl) BareQuarter (λ k. refusals-flat .quarter k .1)
-
-quarter-zero : (a : Answer Quarter) → Sound a → (r : CQuarter) → r ≡ flat givenQuarter noQuarter a → (r .reason ≡ 0) ↔ ((x : Quarter) × (is x ≡ a) × (r ≡ givenQuarter x))
-quarter-zero = is-zero (λ (x : CQuarter). x .reason) givenQuarter noQuarter (λ x. refl) (λ k. refl)
-
-conjunction-bare : (a : Answer Conjunction) (r : CConjunction) → r ≡ flat givenConjunction noConjunction a → r .reason ≢ 0 → BareConjunction r
-conjunction-bare = is-bare (λ (x : CConjunction). x .reason) givenConjunction noConjunction (λ x. refl) BareConjunction (λ k. refusals-flat .conjunction k .1)
-
-conjunction-zero : (a : Answer Conjunction) → Sound a → (r : CConjunction) → r ≡ flat givenConjunction noConjunction a → (r .reason ≡ 0) ↔ ((x : Conjunction) × (is x ≡ a) × (r ≡ givenConjunction x))
-conjunction-zero = is-zero (λ (x : CConjunction). x .reason) givenConjunction noConjunction (λ x. refl) (λ k. refl)
-
-next-bare : (a : Answer Next) (r : CNext) → r ≡ flat givenNext noNext a → r .reason ≢ 0 → BareNext r
-next-bare = is-bare (λ (x : CNext). x .reason) givenNext noNext (λ x. refl) BareNext (λ k. refusals-flat .next k .1)
-
-next-zero : (a : Answer Next) → Sound a → (r : CNext) → r ≡ flat givenNext noNext a → (r .reason ≡ 0) ↔ ((x : Next) × (is x ≡ a) × (r ≡ givenNext x))
-next-zero = is-zero (λ (x : CNext). x .reason) givenNext noNext (λ x. refl) (λ k. refl)
-
-pair-bare : (a : Answer Pair) (r : CPair) → r ≡ flat givenPair noPair a → r .reason ≢ 0 → BarePair r
-pair-bare = is-bare (λ (x : CPair). x .reason) givenPair noPair (λ x. refl) BarePair (λ k. refusals-flat .pair k .1)
-
-pair-zero : (a : Answer Pair) → Sound a → (r : CPair) → r ≡ flat givenPair noPair a → (r .reason ≡ 0) ↔ ((x : Pair) × (is x ≡ a) × (r ≡ givenPair x))
-pair-zero = is-zero (λ (x : CPair). x .reason) givenPair noPair (λ x. refl) (λ k. refl)
-
 pub refusal-is-bare : Paper.Refusal-is-bare
 refusal-is-bare =
     record {
-      date-of-day = λ d r p h. date-bare (dateAt d) r p h;
-      day-of-date = λ y k l m r p h. day-bare (dayOfDate y k l m) r p h;
-      move-date = λ y k l m n r p h. date-bare (moved y k l m n) r p h;
-      solstice-year = λ y r p h. solstice-bare (solsticeYearAt y) r p h;
-      year-facts = λ y r p h. year-bare (yearFactsAt y) r p h;
-      month-facts = λ n r p h. month-bare (monthFactsAt n) r p h;
-      quarter = λ n q r p h. quarter-bare (quarterAt n q) r p h;
-      term = λ y k r p h. day-bare (termAt y k) r p h;
-      conjunction = λ n k r p h. conjunction-bare (conjunctionAt n k) r p h;
-      next = λ n d r p h. next-bare (nextAt n d) r p h;
-      pair = λ n r p h. pair-bare (pairAt n) r p h;
+      date-of-day = λ d r. is-bare (λ (x : CDate). x .reason) givenDate noDate (λ x. refl) BareDate (λ i. refusals-flat .date i .1) (dateAt d) r;
+      day-of-date = λ y k l m r.
+          is-bare (λ (x : CDay). x .reason) givenDay noDay (λ x. refl) BareDay (λ i. refusals-flat .day i .1) (dayOfDate y k l m) r;
+      move-date = λ y k l m n r.
+          is-bare (λ (x : CDate). x .reason) givenDate noDate (λ x. refl) BareDate (λ i. refusals-flat .date i .1) (moved y k l m n) r;
+      solstice-year = λ y r.
+          is-bare (λ (x : CSolstice). x .reason) givenSolstice noSolstice (λ x. refl) BareSolstice (λ i. refusals-flat .solstice i .1) (solsticeYearAt y) r;
+      year-facts = λ y r. is-bare (λ (x : CYear). x .reason) givenYear noYear (λ x. refl) BareYear (λ i. refusals-flat .year i .1) (yearFactsAt y) r;
+      month-facts = λ n r.
+          is-bare (λ (x : CMonth). x .reason) givenMonth noMonth (λ x. refl) BareMonth (λ i. refusals-flat .month i .1) (monthFactsAt n) r;
+      quarter = λ n q r.
+          is-bare (λ (x : CQuarter). x .reason) givenQuarter noQuarter (λ x. refl) BareQuarter (λ i. refusals-flat .quarter i .1) (quarterAt n q) r;
+      term = λ y k r. is-bare (λ (x : CDay). x .reason) givenDay noDay (λ x. refl) BareDay (λ i. refusals-flat .day i .1) (termAt y k) r;
+      conjunction = λ n k r.
+          is-bare (λ (x : CConjunction). x .reason) givenConjunction noConjunction (λ x. refl) BareConjunction (λ i. refusals-flat .conjunction i .1) (conjunctionAt n k) r;
+      next = λ n d r. is-bare (λ (x : CNext). x .reason) givenNext noNext (λ x. refl) BareNext (λ i. refusals-flat .next i .1) (nextAt n d) r;
+      pair = λ n r. is-bare (λ (x : CPair). x .reason) givenPair noPair (λ x. refl) BarePair (λ i. refusals-flat .pair i .1) (pairAt n) r;
       search = λ r first last old a new p h.
           let b = search-bare (readingOf r) first last (length old) (fitting (readingOf r) first (windowDays first last)) old a (p .answer) h in
           (b .0, p .lent ∙ b .1);
@@ -414,18 +359,19 @@ refusal-is-bare =
 pub reason-0-iff-answered : Paper.Reason-0-iff-answered
 reason-0-iff-answered =
     record {
-      date-of-day = λ d r p. date-zero (dateAt d) (Sound.date-sound d) r p;
-      day-of-date = λ y k l m r p. day-zero (dayOfDate y k l m) (Sound.day-sound y k l m) r p;
-      move-date = λ y k l m n r p. date-zero (moved y k l m n) (Sound.move-sound y k l m n) r p;
-      solstice-year = λ y r p. solstice-zero (solsticeYearAt y) (Sound.solstice-sound y) r p;
-      year-facts = λ y r p. year-zero (yearFactsAt y) (Sound.year-sound y) r p;
-      month-facts = λ n r p. month-zero (monthFactsAt n) (Sound.month-sound n) r p;
-      quarter = λ n q r p. quarter-zero (quarterAt n q) (Sound.quarter-sound n q) r p;
-      term = λ y k r p. day-zero (termAt y k) (Sound.term-sound y k) r p;
-      conjunction = λ n k r p. conjunction-zero (conjunctionAt n k) (Sound.conjunction-sound n k) r p;
-      next = λ n d r p. next-zero (nextAt n d) (Sound.next-sound n d) r p;
+      date-of-day = λ d r. is-zero (λ (x : CDate). x .reason) givenDate noDate (λ x. refl) (λ i. refl) (Sound.date-sound d) r;
+      day-of-date = λ y k l m r. is-zero (λ (x : CDay). x .reason) givenDay noDay (λ x. refl) (λ i. refl) (Sound.day-sound y k l m) r;
+      move-date = λ y k l m n r. is-zero (λ (x : CDate). x .reason) givenDate noDate (λ x. refl) (λ i. refl) (Sound.move-sound y k l m n) r;
+      solstice-year = λ y r. is-zero (λ (x : CSolstice). x .reason) givenSolstice noSolstice (λ x. refl) (λ i. refl) (Sound.solstice-sound y) r;
+      year-facts = λ y r. is-zero (λ (x : CYear). x .reason) givenYear noYear (λ x. refl) (λ i. refl) (Sound.year-sound y) r;
+      month-facts = λ n r. is-zero (λ (x : CMonth). x .reason) givenMonth noMonth (λ x. refl) (λ i. refl) (Sound.month-sound n) r;
+      quarter = λ n q r. is-zero (λ (x : CQuarter). x .reason) givenQuarter noQuarter (λ x. refl) (λ i. refl) (Sound.quarter-sound n q) r;
+      term = λ y k r. is-zero (λ (x : CDay). x .reason) givenDay noDay (λ x. refl) (λ i. refl) (Sound.term-sound y k) r;
+      conjunction = λ n k r.
+          is-zero (λ (x : CConjunction). x .reason) givenConjunction noConjunction (λ x. refl) (λ i. refl) (Sound.conjunction-sound n k) r;
+      next = λ n d r. is-zero (λ (x : CNext). x .reason) givenNext noNext (λ x. refl) (λ i. refl) (Sound.next-sound n d) r;
       pair = λ n r p.
-          let z = pair-zero (pairAt n) (Sound.pair-sound n) r p in (
+          let z = is-zero (λ (x : CPair). x .reason) givenPair noPair (λ x. refl) (λ i. refl) (Sound.pair-sound n) r p in (
             λ e. let w = z .0 e in (w .0, as-printed n (Pair'.Is (w .0)) .1 (w .1), w .2),
             λ w. z .1 (w .0, as-printed n (Pair'.Is (w .0)) .0 (w .1), w .2),
           );
@@ -488,7 +434,8 @@ says-what-the-call-says =
       print-day = λ x o r o′. printed-said (Sound.day-printed-sound x (length o));
     }
   where
-    date-said : {a : Answer Date} → Sound a → (r : CDate) → (r ≡ flatDate a) ↔ ((e : Dated) × (saidDate e ≡ a) × (r ≡ flatDate (saidDate e)))
+    date-said :
+        {a : Answer Date} → Sound a → (r : CDate) → (r ≡ flatDate a) ↔ ((e : Dated) × (saidDate e ≡ a) × (r ≡ flatDate (saidDate e)))
     date-said = as-said saidDate Dated'.Is Dated'.Refused (λ x. refl) (λ w. refl) flatDate
 
 -- an answer that is given is no refusal, and no other is said alike
@@ -503,8 +450,33 @@ module _ {R : Type 0} (reason : R → ℕ) {r s : R} (p : r ≡ s) where
 unlike : (i : ℕ) {xs ys : List ℕ} → xs ≡ ys → getD xs i 0 ≢ getD ys i 0 → ⊥
 unlike i e differ = differ (ap (λ (l : List ℕ). getD l i 0) e)
 
+-- what the named inputs are computed with: on an `unfolding` line such a name brings all that its own line names
+dates : ℕ
+unfolding dateAt dayOfDate dayOfNamed dayInMonth namedMonth moved monthLength monthStart monthOfDay termDay yearOfMonth
+dates = 0
+
+facts : ℕ
+unfolding solsticeYearAt yearFactsAt monthFactsAt quarterAt termAt
+facts = 0
+
+planets : ℕ
+unfolding conjunctionAt numbersOf conjunctionDay nextAt nextCount pairAt
+planets = 0
+
+searches : ℕ
+unfolding searchAt total fitting fits monthFits dayFits inRanges those
+searches = 0
+
+sheets-read : ℕ
+unfolding readInto sheetRead monthsRead daysRead sectionRead countRead itemsRead number numbers listsIn itemsOf leftAfter
+sheets-read = 0
+
+sheets-written : ℕ
+unfolding writeInto listsWritten sectionWritten itemsWritten sheetOf laySection lay layAll
+sheets-written = 0
+
 pub wrong-exported : Paper.Wrong-exported
-unfolding dateAt dateOf dateIn dayOfDate dayOfNamed dayInMonth namedMonth moved solsticeYearAt yearFactsAt monthFactsAt quarterAt termAt conjunctionAt numbersOf conjunctionDay nextAt nextCount pairAt searchAt total fitting fits monthFits dayFits inRanges those readInto sheetRead monthsRead daysRead sectionRead countRead itemsRead number listsIn itemsOf leftAfter numbers writeInto listsWritten sectionWritten itemsWritten sheetOf laySection lay layAll monthLength monthStart monthOfDay yearOfMonth termDay
+unfolding dates dateOf dateIn facts planets searches sheets-read sheets-written
 wrong-exported =
     record {
       refusing-days = λ r p. no-refusal (λ (x : CDate). x .reason) p refl;
@@ -545,7 +517,7 @@ wrong-exported =
     }
 
 pub wrong-low-bits : Paper.Wrong-low-bits
-unfolding dateAt dayOfDate dayOfNamed dayInMonth namedMonth moved solsticeYearAt yearFactsAt monthFactsAt quarterAt termAt conjunctionAt numbersOf conjunctionDay nextAt nextCount pairAt searchAt total fitting fits monthFits dayFits inRanges those yearBlockAt monthLineAt monthItemAt dayItemAt monthLength monthStart monthOfDay termDay yearOfMonth yearName dayName leap monthNumber midTermNumber midTermsBefore
+unfolding dates facts planets searches yearBlockAt monthLineAt monthItemAt dayItemAt yearName dayName leap monthNumber midTermNumber midTermsBefore
 wrong-low-bits =
     record {
       days = λ r p q. not-alike (λ (x : CDate). x .reason) p q (above 6 (omega arith));

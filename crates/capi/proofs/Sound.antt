@@ -70,8 +70,8 @@ use Rattle.sheet.specs.Sheet.{
   listsWritten,
   writeInto,
 }
-use Rattle.lines.specs.Lines.{yearBlock, monthLined, monthItem, dayItem}
-use Rattle.lines.specs.Promises.{yearBlockAt, monthLineAt, monthItemAt, dayItemAt}
+use Rattle.penned.specs.Lines.{yearBlock, monthLined, monthItem, dayItem}
+use Rattle.penned.specs.Promises.{yearBlockAt, monthLineAt, monthItemAt, dayItemAt}
 
 -- what is given, or a refusal for a reason
 pub data Sound {A : Type 0} : Answer A → Type 0 where
@@ -109,7 +109,9 @@ named-sound y k l m = guarded (isThere y k l) NoSuchLeapMonth (in-month-sound (m
 
 pub day-sound : (y k : ℕ) (l : Bool) (m : ℕ) → Sound (dayOfDate y k l m)
 unfolding dayOfDate
-day-sound y k l m = guarded (within 1 41040 y) NoSuchYear (guarded (within 1 12 k) NoSuchMonthNumber (guarded (within 1 30 m) NoSuchDayOfMonth (named-sound y k l m)))
+day-sound y k l m =
+    guarded (within 1 41040 y) NoSuchYear
+    (guarded (within 1 12 k) NoSuchMonthNumber (guarded (within 1 30 m) NoSuchDayOfMonth (named-sound y k l m)))
 
 landed-sound : (n : ℤ) → Sound (landed n)
 landed-sound (pos d) = guarded (leb d 14989859) MoveOutOfRange (given (dateOf d))
@@ -143,14 +145,17 @@ term-sound y k = guarded (within 1 41040 y) NoSuchYear (guarded (leb k 23) NoSuc
 -- planets
 pub conjunction-sound : (p k : ℕ) → Sound (conjunctionAt p k)
 unfolding conjunctionAt
-conjunction-sound p k = guarded (within 1 5 p) NoSuchPlanet (guarded (leb (conjunctionDay (numbersOf p) k) 14989859) NoSuchDay (given (conjunctionOf (numbersOf p) k)))
+conjunction-sound p k =
+    guarded (within 1 5 p) NoSuchPlanet
+    (guarded (leb (conjunctionDay (numbersOf p) k) 14989859) NoSuchDay (given (conjunctionOf (numbersOf p) k)))
 
 pub next-sound : (p d : ℕ) → Sound (nextAt p d)
 unfolding nextAt
 next-sound p d =
+    let k = nextCount (numbersOf p) d in
     guarded (within 1 5 p) NoSuchPlanet
     (guarded (leb d 14989859) NoSuchDay
-    (guarded (leb (conjunctionDay (numbersOf p) (nextCount (numbersOf p) d)) 14989859) NoConjunctionLeft (given (nextOf (numbersOf p) (nextCount (numbersOf p) d)))))
+    (guarded (leb (conjunctionDay (numbersOf p) k) 14989859) NoConjunctionLeft (given (nextOf (numbersOf p) k))))
 
 pub pair-sound : (p : ℕ) → Sound (pairAt p)
 unfolding pairAt

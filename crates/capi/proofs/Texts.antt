@@ -29,8 +29,8 @@ use Rattle.rule.proofs.Answers.{passes}
 use Rattle.dates.specs.Dates.{dateIn, dateOf}
 use Rattle.facts.specs.Facts.{yearFacts, monthFacts}
 use Rattle.fields.specs.Fields.{digits, decimal, followed, each}
-use Rattle.lines.specs.Lines.{yearBlock, monthLined, monthItem, dayItem}
-use Rattle.lines.specs.Promises.{yearBlockAt, monthLineAt, monthItemAt, dayItemAt}
+use Rattle.penned.specs.Lines.{yearBlock, monthLined, monthItem, dayItem}
+use Rattle.penned.specs.Promises.{yearBlockAt, monthLineAt, monthItemAt, dayItemAt}
 use Rattle.flat.specs.declared.CLength.{CLength}
 use Rattle.flat.specs.Flat.{givenLength, flatLength}
 use Rattle.capi.specs.Promises.{CPrinted}
@@ -57,18 +57,23 @@ module _ {a : ℕ → Answer (List ℕ)} {n : ℕ} (t : Text a n) (o : List ℕ)
       t .begins
       (sym (List·getD-append (t .text) (drop (length (t .text)) o) 0 0 (omega (arith, t .has))) ∙ ap (λ (b : List ℕ). getD b 0 0) (sym (text-placed p)) ∙ z)
 
+-- what a line is computed with: on an `unfolding` line such a name brings all that its own line names
+lines : ℕ
+unfolding dayName monthStart monthLength midTermsBefore leap midTermNumber monthNumber monthAt digits decimal followed
+lines = 0
+
 pub year-11 : Text (yearBlockAt 11) 235
-unfolding yearBlockAt yearBlock monthLined monthFacts yearFacts dayName yearName monthStart monthLength firstMonth monthsInYear midTermsBefore leap midTermNumber monthNumber monthAt eclipse those digits decimal followed each
+unfolding yearBlockAt yearBlock monthLined monthFacts yearFacts yearName firstMonth monthsInYear eclipse those each lines
 year-11 = record { text = yearBlock 11; into = λ k. refl; has = refl; begins = λ e. let f : _≡_ {A = ℕ} 89 0 = e in omega arith }
 
 pub line-134 : Text (monthLineAt 134) 16
-unfolding monthLineAt monthLined monthFacts dayName monthStart monthLength midTermsBefore leap midTermNumber monthNumber monthAt eclipse digits decimal followed
+unfolding monthLineAt monthLined monthFacts eclipse lines
 line-134 = record { text = monthLined 134; into = λ k. refl; has = refl; begins = λ e. let f : _≡_ {A = ℕ} 49 0 = e in omega arith }
 
 pub month-134 : Text (monthItemAt 134) 22
-unfolding monthItemAt monthItem monthLined monthFacts dayName monthStart monthLength midTermsBefore leap midTermNumber monthNumber monthAt eclipse digits decimal followed
+unfolding monthItemAt monthItem monthFacts eclipse lines
 month-134 = record { text = monthItem 134; into = λ k. refl; has = refl; begins = λ e. let f : _≡_ {A = ℕ} 77 0 = e in omega arith }
 
 pub day-0 : Text (dayItemAt 0) 17
-unfolding dayItemAt dayItem dateOf dateIn dayName yearName monthStart monthLength monthOfDay yearOfMonth midTermsBefore leap midTermNumber monthNumber monthAt digits decimal followed
+unfolding dayItemAt dayItem dateOf dateIn yearName monthOfDay yearOfMonth lines
 day-0 = record { text = dayItem 0; into = λ k. refl; has = refl; begins = λ e. let f : _≡_ {A = ℕ} 68 0 = e in omega arith }

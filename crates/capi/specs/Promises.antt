@@ -18,7 +18,7 @@ use Rattle.reading.specs.Readings.{windowDays, fitting}
 use Rattle.reading.specs.Search.{searchAt}
 use Rattle.sheet.specs.Sheet.{readInto, writeInto}
 use Rattle.sheet.specs.Promises.{counted}
-use Rattle.lines.specs.Promises.{yearBlockAt, monthLineAt, monthItemAt, dayItemAt}
+use Rattle.penned.specs.Promises.{yearBlockAt, monthLineAt, monthItemAt, dayItemAt}
 use Rattle.flat.specs.declared.CDate.{CDate}
 use Rattle.flat.specs.declared.CDay.{CDay}
 use Rattle.flat.specs.declared.CSolstice.{CSolstice}

@@ -22,7 +22,6 @@ use Rattle.rule.specs.Rule.{
   monthAt,
   eclipse,
 }
-use Rattle.rule.specs.Reasons.{refused-with}
 use Rattle.dates.specs.Dates.{dateIn, dateOf, dateAt, namedMonth, dayOfNamed, dayOfDate}
 use Rattle.facts.specs.Facts.{
   solsticeYear,
@@ -48,7 +47,7 @@ use Rattle.planets.specs.Planets.{
   nextAt,
   pairAt,
 }
-use Rattle.flat.specs.Flat.{flatDate, flatDay, flatSolstice, flatYear, flatMonth, flatQuarter, flatConjunction, flatNext, flatPair, flatFound}
+use Rattle.flat.specs.Flat.{flatDate, flatDay, flatSolstice, flatYear, flatMonth, flatQuarter, flatConjunction, flatNext, flatPair}
 
 -- case 3: the last day, leap 10, and the day after it
 pub last-day :
@@ -162,7 +161,3 @@ none-left = refl
 pub pair-of-venus : flatPair (pairAt 4) ≡ record { reason = 0; years = 4661; conjunctions = 5830 }
 unfolding pairAt numbersOf
 pair-of-venus = refl
-
--- "a search refused with 12 also returns the true total"
-pub true-total : flatFound (refused-with 12 27759) ≡ record { reason = 12; total = 27759 }
-true-total = refl

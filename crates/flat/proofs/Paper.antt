@@ -4,7 +4,6 @@ use mathlib.Core.Path.{_≡_, refl, ap}
 use mathlib.Core.Bool.{Bool, true, false}
 use Rattle.rule.proofs.Leap.{month-again}
 use Rattle.rule.specs.Rule.{marked}
-use Rattle.rule.specs.declared.Month.{Month}
 use Rattle.rule.specs.declared.Quarter.{Quarter}
 use Rattle.rule.proofs.Answers.{one-to-one}
 use Rattle.dates.specs.declared.Date.{Date}
@@ -187,19 +186,14 @@ countsFrom r = record { years = r .years; months = r .months; days = r .days }
 pub nothing-lost : Paper.Nothing-lost
 nothing-lost =
     record {
-      date = one-to-one givenDate dateFrom
-          (λ d. ap (λ (m : Month). record { year = d .year; month = m; «day_of_month» = d .«day_of_month»; «month_length» = d .«month_length»; «day_name» = d .«day_name»; «year_name» = d .«year_name» }) (month-again (d .month)));
+      date = one-to-one givenDate dateFrom (λ d. rw (month-again (d .month)));
       day = λ a b e. ap (λ (r : CDay). r .day) e;
       solstice = one-to-one givenSolstice solsticeFrom (λ s. refl);
-      year = one-to-one givenYear yearFrom
-          (λ y. ap (λ (l : LeapMonth). record { name = y .name; «first_month» = y .«first_month»; months = y .months; «leap_month» = l }) (leap-back (y .«leap_month»)));
-      month = one-to-one givenMonth monthFrom
-          (λ f. ap (λ (m : Month). record { month = m; «first_day» = f .«first_day»; «small_remainder» = f .«small_remainder»; «month_length» = f .«month_length»; «first_name» = f .«first_name»; eclipse = f .eclipse }) (month-again (f .month)));
+      year = one-to-one givenYear yearFrom (λ y. rw (leap-back (y .«leap_month»)));
+      month = one-to-one givenMonth monthFrom (λ f. rw (month-again (f .month)));
       quarter = one-to-one givenQuarter quarterFrom (λ q. refl);
-      conjunction = one-to-one givenConjunction conjunctionFrom
-          (λ c. ap (λ (p : Phase). record { day = c .day; parts = c .parts; divisor = c .divisor; phase = p }) (phase-back (c .phase)));
-      next = one-to-one givenNext nextFrom
-          (λ n. ap (λ (p : Phase). record { k = n .k; conjunction = record { day = n .conjunction .day; parts = n .conjunction .parts; divisor = n .conjunction .divisor; phase = p } }) (phase-back (n .conjunction .phase)));
+      conjunction = one-to-one givenConjunction conjunctionFrom (λ c. rw (phase-back (c .phase)));
+      next = one-to-one givenNext nextFrom (λ n. rw (phase-back (n .conjunction .phase)));
       pair = one-to-one givenPair pairFrom (λ p. refl);
       counts = one-to-one givenCounts countsFrom (λ c. refl);
       length = λ a b e. ap (λ (r : CLength). r .length) e;

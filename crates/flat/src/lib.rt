@@ -8,32 +8,21 @@ ghost use Rattle.reading.specs.Search.{saidFound};
 ghost use Rattle.sheet.specs.Promises.{saidCounts, saidHowMany};
 ghost use Rattle.flat.specs.Flat.{
   givenDate,
-  noDate,
   flatDate,
-  noDay,
   flatDay,
-  noSolstice,
   flatSolstice,
   givenYear,
-  noYear,
   flatYear,
   givenMonth,
-  noMonth,
   flatMonth,
-  noQuarter,
   flatQuarter,
   givenConjunction,
-  noConjunction,
   flatConjunction,
   givenNext,
-  noNext,
   flatNext,
-  noPair,
   flatPair,
   flatFound,
-  noCounts,
   flatCounts,
-  noLength,
   flatLength,
 };
 use dates::Date;
@@ -176,7 +165,7 @@ pub struct CLength {
     pub length: usize,
 }
 
-// A date laid flat, the refusal of one, and an answer.
+// A date laid flat, and an answer.
 fn given_date(d: Date) -> CDate
     ensures { λ r. ⌜ r ≡ givenDate d ⌝ }
 {
@@ -193,46 +182,34 @@ fn given_date(d: Date) -> CDate
     }
 }
 
-fn no_date(reason: u8) -> CDate
-    ensures { λ r. ⌜ r ≡ noDate reason ⌝ }
-{
-    CDate {
-        reason: reason as u32,
-        year: 0,
-        number: 0,
-        leap: false,
-        day_of_month: 0,
-        month_length: 0,
-        day_name: 0,
-        year_name: 0,
-    }
-}
-
 pub fn flat_date(a: Dated) -> CDate
     ensures { λ r. ⌜ r ≡ flatDate (saidDate a) ⌝ }
 {
     match a {
         Dated::Is(d) => given_date(d),
-        Dated::Refused(why) => no_date(rule::reason_number(why)),
+        Dated::Refused(why) => CDate {
+            reason: rule::reason_number(why) as u32,
+            year: 0,
+            number: 0,
+            leap: false,
+            day_of_month: 0,
+            month_length: 0,
+            day_name: 0,
+            year_name: 0,
+        },
     }
 }
 
 // The same of a day: of a date's, and of a term's.
-fn no_day(reason: u8) -> CDay
-    ensures { λ r. ⌜ r ≡ noDay reason ⌝ }
-{
-    CDay {
-        reason: reason as u32,
-        day: 0,
-    }
-}
-
 pub fn flat_day(a: DayTold) -> CDay
     ensures { λ r. ⌜ r ≡ flatDay (saidDay a) ⌝ }
 {
     match a {
         DayTold::Is(d) => CDay { reason: 0, day: d },
-        DayTold::Refused(why) => no_day(rule::reason_number(why)),
+        DayTold::Refused(why) => CDay {
+            reason: rule::reason_number(why) as u32,
+            day: 0,
+        },
     }
 }
 
@@ -241,26 +218,14 @@ pub fn flat_term(a: TermTold) -> CDay
 {
     match a {
         TermTold::Is(d) => CDay { reason: 0, day: d },
-        TermTold::Refused(why) => no_day(rule::reason_number(why)),
+        TermTold::Refused(why) => CDay {
+            reason: rule::reason_number(why) as u32,
+            day: 0,
+        },
     }
 }
 
 // The same of a solstice year.
-fn no_solstice(reason: u8) -> CSolstice
-    ensures { λ r. ⌜ r ≡ noSolstice reason ⌝ }
-{
-    CSolstice {
-        reason: reason as u32,
-        ji: 0,
-        bu: 0,
-        year_in_bu: 0,
-        head_name: 0,
-        first_month: 0,
-        leap_remainder: 0,
-        months: 0,
-    }
-}
-
 pub fn flat_solstice(a: SolsticeYearTold) -> CSolstice
     ensures { λ r. ⌜ r ≡ flatSolstice (saidSolsticeYear a) ⌝ }
 {
@@ -275,7 +240,16 @@ pub fn flat_solstice(a: SolsticeYearTold) -> CSolstice
             leap_remainder: s.leap_remainder as u32,
             months: s.months as u32,
         },
-        SolsticeYearTold::Refused(why) => no_solstice(rule::reason_number(why)),
+        SolsticeYearTold::Refused(why) => CSolstice {
+            reason: rule::reason_number(why) as u32,
+            ji: 0,
+            bu: 0,
+            year_in_bu: 0,
+            head_name: 0,
+            first_month: 0,
+            leap_remainder: 0,
+            months: 0,
+        },
     }
 }
 
@@ -306,26 +280,20 @@ fn given_year(y: YearFacts) -> CYear
     }
 }
 
-fn no_year(reason: u8) -> CYear
-    ensures { λ r. ⌜ r ≡ noYear reason ⌝ }
-{
-    CYear {
-        reason: reason as u32,
-        name: 0,
-        first_month: 0,
-        months: 0,
-        has_leap: false,
-        leap_number: 0,
-        leap_month: 0,
-    }
-}
-
 pub fn flat_year(a: YearTold) -> CYear
     ensures { λ r. ⌜ r ≡ flatYear (saidYear a) ⌝ }
 {
     match a {
         YearTold::Is(y) => given_year(y),
-        YearTold::Refused(why) => no_year(rule::reason_number(why)),
+        YearTold::Refused(why) => CYear {
+            reason: rule::reason_number(why) as u32,
+            name: 0,
+            first_month: 0,
+            months: 0,
+            has_leap: false,
+            leap_number: 0,
+            leap_month: 0,
+        },
     }
 }
 
@@ -346,41 +314,25 @@ fn given_month(f: MonthFacts) -> CMonth
     }
 }
 
-fn no_month(reason: u8) -> CMonth
-    ensures { λ r. ⌜ r ≡ noMonth reason ⌝ }
-{
-    CMonth {
-        reason: reason as u32,
-        number: 0,
-        leap: false,
-        first_day: 0,
-        small_remainder: 0,
-        month_length: 0,
-        first_name: 0,
-        eclipse: false,
-    }
-}
-
 pub fn flat_month(a: MonthTold) -> CMonth
     ensures { λ r. ⌜ r ≡ flatMonth (saidMonth a) ⌝ }
 {
     match a {
         MonthTold::Is(f) => given_month(f),
-        MonthTold::Refused(why) => no_month(rule::reason_number(why)),
+        MonthTold::Refused(why) => CMonth {
+            reason: rule::reason_number(why) as u32,
+            number: 0,
+            leap: false,
+            first_day: 0,
+            small_remainder: 0,
+            month_length: 0,
+            first_name: 0,
+            eclipse: false,
+        },
     }
 }
 
 // The same of a quarter.
-fn no_quarter(reason: u8) -> CQuarter
-    ensures { λ r. ⌜ r ≡ noQuarter reason ⌝ }
-{
-    CQuarter {
-        reason: reason as u32,
-        day: 0,
-        parts: 0,
-    }
-}
-
 pub fn flat_quarter(a: QuarterTold) -> CQuarter
     ensures { λ r. ⌜ r ≡ flatQuarter (saidQuarter a) ⌝ }
 {
@@ -390,7 +342,11 @@ pub fn flat_quarter(a: QuarterTold) -> CQuarter
             day: q.day,
             parts: q.parts as u32,
         },
-        QuarterTold::Refused(why) => no_quarter(rule::reason_number(why)),
+        QuarterTold::Refused(why) => CQuarter {
+            reason: rule::reason_number(why) as u32,
+            day: 0,
+            parts: 0,
+        },
     }
 }
 
@@ -418,24 +374,18 @@ fn given_conjunction(c: Conjunction) -> CConjunction
     }
 }
 
-fn no_conjunction(reason: u8) -> CConjunction
-    ensures { λ r. ⌜ r ≡ noConjunction reason ⌝ }
-{
-    CConjunction {
-        reason: reason as u32,
-        day: 0,
-        parts: 0,
-        divisor: 0,
-        phase: 0,
-    }
-}
-
 pub fn flat_conjunction(a: ConjunctionTold) -> CConjunction
     ensures { λ r. ⌜ r ≡ flatConjunction (saidConjunction a) ⌝ }
 {
     match a {
         ConjunctionTold::Is(c) => given_conjunction(c),
-        ConjunctionTold::Refused(why) => no_conjunction(rule::reason_number(why)),
+        ConjunctionTold::Refused(why) => CConjunction {
+            reason: rule::reason_number(why) as u32,
+            day: 0,
+            parts: 0,
+            divisor: 0,
+            phase: 0,
+        },
     }
 }
 
@@ -453,35 +403,19 @@ fn given_next(n: Next) -> CNext
     }
 }
 
-fn no_next(reason: u8) -> CNext
-    ensures { λ r. ⌜ r ≡ noNext reason ⌝ }
-{
-    CNext {
-        reason: reason as u32,
-        k: 0,
-        day: 0,
-        parts: 0,
-        divisor: 0,
-        phase: 0,
-    }
-}
-
 pub fn flat_next(a: NextTold) -> CNext
     ensures { λ r. ⌜ r ≡ flatNext (saidNext a) ⌝ }
 {
     match a {
         NextTold::Is(n) => given_next(n),
-        NextTold::Refused(why) => no_next(rule::reason_number(why)),
-    }
-}
-
-fn no_pair(reason: u8) -> CPair
-    ensures { λ r. ⌜ r ≡ noPair reason ⌝ }
-{
-    CPair {
-        reason: reason as u32,
-        years: 0,
-        conjunctions: 0,
+        NextTold::Refused(why) => CNext {
+            reason: rule::reason_number(why) as u32,
+            k: 0,
+            day: 0,
+            parts: 0,
+            divisor: 0,
+            phase: 0,
+        },
     }
 }
 
@@ -494,7 +428,11 @@ pub fn flat_pair(a: PairTold) -> CPair
             years: p.years,
             conjunctions: p.conjunctions,
         },
-        PairTold::Refused(why) => no_pair(rule::reason_number(why)),
+        PairTold::Refused(why) => CPair {
+            reason: rule::reason_number(why) as u32,
+            years: 0,
+            conjunctions: 0,
+        },
     }
 }
 
@@ -519,17 +457,6 @@ pub fn flat_found(a: Found) -> CFound
 }
 
 // The same of a sheet's counts.
-fn no_counts(reason: u8) -> CSheetCounts
-    ensures { λ r. ⌜ r ≡ noCounts reason ⌝ }
-{
-    CSheetCounts {
-        reason: reason as u32,
-        years: 0,
-        months: 0,
-        days: 0,
-    }
-}
-
 pub fn flat_counts(a: SheetCounts) -> CSheetCounts
     ensures { λ r. ⌜ r ≡ flatCounts (saidCounts a) ⌝ }
 {
@@ -540,20 +467,16 @@ pub fn flat_counts(a: SheetCounts) -> CSheetCounts
             months: c.months,
             days: c.days,
         },
-        SheetCounts::Refused(why) => no_counts(rule::reason_number(why)),
+        SheetCounts::Refused(why) => CSheetCounts {
+            reason: rule::reason_number(why) as u32,
+            years: 0,
+            months: 0,
+            days: 0,
+        },
     }
 }
 
 // The same of a length.
-fn no_length(reason: u8) -> CLength
-    ensures { λ r. ⌜ r ≡ noLength reason ⌝ }
-{
-    CLength {
-        reason: reason as u32,
-        length: 0,
-    }
-}
-
 pub fn flat_length(a: HowMany) -> CLength
     ensures { λ r. ⌜ r ≡ flatLength (saidHowMany a) ⌝ }
 {
@@ -562,6 +485,9 @@ pub fn flat_length(a: HowMany) -> CLength
             reason: 0,
             length: n,
         },
-        HowMany::Refused(why) => no_length(rule::reason_number(why)),
+        HowMany::Refused(why) => CLength {
+            reason: rule::reason_number(why) as u32,
+            length: 0,
+        },
     }
 }

@@ -18,7 +18,7 @@ use Rattle.sheet.specs.Sheet.{Lists, readSheet}
 use Rattle.sheet.specs.Paper.{RestKept, emptySheet, sheetOf11}
 use Rattle.rule.specs.Lists.{placed}
 use Rattle.fields.specs.Fields.{word, decimal, mark, each, letterL, letterE}
-use Rattle.lines.specs.Lines.{
+use Rattle.penned.specs.Lines.{
   monthLine,
   monthLined,
   yearBlock,
@@ -26,7 +26,7 @@ use Rattle.lines.specs.Lines.{
   dayItem,
   listing,
 }
-use Rattle.lines.specs.Promises.{PrintYear, PrintMonthLine, PrintMonth, PrintDay}
+use Rattle.penned.specs.Promises.{PrintYear, PrintMonthLine, PrintMonth, PrintDay}
 
 -- lines, each with its newline
 unfoldable pub inLines : List (List ℕ) → List ℕ

@@ -8,7 +8,7 @@ use lib.ListN.{length}
 use Rattle.rule.specs.Reasons.{Answer, is, guard, within, andThen, intoRoom, afterwards}
 use Rattle.sheet.specs.declared.HowMany.{HowMany}
 use Rattle.sheet.specs.Promises.{saidHowMany}
-use Rattle.lines.specs.Lines.{monthLined, yearBlock, monthItem, dayItem}
+use Rattle.penned.specs.Lines.{monthLined, yearBlock, monthItem, dayItem}
 
 -- what does not exist comes first, 12 last
 unfoldable pub yearBlockAt : ℕ → ℕ → Answer (List ℕ)

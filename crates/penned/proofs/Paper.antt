@@ -38,7 +38,7 @@ use Rattle.sheet.specs.Sheet.{
   readSheet,
 }
 use Rattle.fields.specs.Fields.{word, digits, decimal, followed, joined, each}
-use Rattle.lines.specs.Lines.{
+use Rattle.penned.specs.Lines.{
   fieldsOfYear,
   monthLine,
   monthLined,
@@ -52,10 +52,10 @@ use Rattle.lines.specs.Lines.{
   listing,
 }
 use Rattle.fields.proofs.Paper.{first-tells}
-use Rattle.lines.specs.Promises.{yearBlockAt, monthLineAt, monthItemAt, dayItemAt, Printed}
-use Rattle.lines.specs.Paper.{inLines, exampleOf11}
-use Rattle.lines.proofs.Printing.{printed-refused}
-use Rattle.lines.specs.Paper as Paper
+use Rattle.penned.specs.Promises.{yearBlockAt, monthLineAt, monthItemAt, dayItemAt, Printed}
+use Rattle.penned.specs.Paper.{inLines, exampleOf11}
+use Rattle.penned.proofs.Refusing.{printed-refused}
+use Rattle.penned.specs.Paper as Paper
 
 -- what a year's lines and a sheet are computed with: on an `unfolding` line such a name brings all that its own line names
 year-lines : ℕ

@@ -6,8 +6,8 @@ use Rattle.rule.specs.Lists.{those}
 use Rattle.rule.specs.Reasons.{refused}
 use Rattle.facts.specs.Facts.{yearFacts}
 use Rattle.fields.specs.Fields.{digits, decimal, followed, each}
-use Rattle.lines.specs.Lines.{yearBlock}
-use Rattle.lines.specs.Promises.{yearBlockAt}
+use Rattle.penned.specs.Lines.{yearBlock}
+use Rattle.penned.specs.Promises.{yearBlockAt}
 
 -- the year 0 into no bytes at all: 1 comes before 12
 pub one-first : yearBlockAt 0 0 ≡ refused 1
