@@ -8,9 +8,8 @@ use mathlib.Core.Logic.{_↔_, inl, inr, ⊎-elim, Iff·trans}
 use lib.Dec.{leb}
 use lib.ListN.{length, getD}
 use borrow.Author.Tests.{leb-true}
-use Rattle.rule.specs.Counts.{dayName, yearName}
-use Rattle.rule.specs.Rule.{monthStart, monthLength, monthOfDay, yearOfMonth, firstMonth, monthsInYear, midTermsBefore, leap, midTermNumber, monthNumber, monthAt, eclipse}
-use Rattle.rule.specs.Lists.{those, placed}
+use Rattle.rule.specs.Rule.{monthOfDay}
+use Rattle.rule.specs.Lists.{placed}
 use Rattle.rule.specs.Reasons.{Answer, is, refused, guard, within, andThen, reasonNumber, intoRoom, afterwards}
 use Rattle.rule.specs.declared.Reason.{Reason}
 use Rattle.rule.specs.declared.Reason.the-variants.{NoSuchYear, NoSuchMonth, NoSuchDay, LentTooShort}
@@ -37,7 +36,7 @@ use Rattle.sheet.specs.Sheet.{
   sheetRead,
   readSheet,
 }
-use Rattle.fields.specs.Fields.{word, digits, decimal, followed, joined, each}
+use Rattle.fields.specs.Fields.{followed, joined, each}
 use Rattle.penned.specs.Lines.{
   fieldsOfYear,
   monthLine,
@@ -53,29 +52,22 @@ use Rattle.penned.specs.Lines.{
 }
 use Rattle.fields.proofs.Paper.{first-tells}
 use Rattle.penned.specs.Promises.{yearBlockAt, monthLineAt, monthItemAt, dayItemAt, Printed}
-use Rattle.penned.specs.Paper.{inLines, exampleOf11}
+use Rattle.penned.specs.Paper.{inLines}
+use Rattle.penned.proofs.Cases.{year-lines, year-11, line-134, month-134, day-0}
 use Rattle.penned.proofs.Refusing.{printed-refused}
 use Rattle.penned.specs.Paper as Paper
 
--- what a year's lines and a sheet are computed with: on an `unfolding` line such a name brings all that its own line names
-year-lines : ℕ
-unfolding inLines yearBlock monthLined monthFacts yearFacts dayName yearName monthStart monthLength firstMonth monthsInYear those digits decimal followed each
-year-lines = 0
-
-month-numbers : ℕ
-unfolding midTermsBefore leap midTermNumber monthNumber monthAt eclipse
-month-numbers = 0
-
+-- what a sheet is computed with: on an `unfolding` line such a name brings all that its own line names
 sheets : ℕ
 unfolding number numbers itemsRead countRead sectionRead itemsOf leftAfter listsIn daysRead monthsRead sheetRead readSheet
 sheets = 0
 
 pub example-of-the-paper : Paper.Example-of-the-paper
-unfolding listing listingOf year-lines month-numbers sheets
+unfolding listing listingOf year-lines sheets
 example-of-the-paper = refl
 
 pub empty-listing : Paper.Empty-listing
-unfolding listing listingOf number numbers itemsRead countRead sectionRead itemsOf leftAfter listsIn daysRead monthsRead sheetRead readSheet each
+unfolding listing listingOf sheets each
 empty-listing = refl
 
 pub refused-listing : Paper.Refused-listing
@@ -119,13 +111,16 @@ two-months-two-lines n m e = first-tells n m _ _ (sym (month-line-literally n) �
 
 -- an answered call: the whole text, in a buffer with room for it
 module _ (t : Bool) (k : ℕ) (text o : List ℕ) where
-  text-given : {n : ℕ} {o′ : List ℕ} → Printed (guard t k (intoRoom (length o) text)) o (HowMany'.Is n) o′ → guard t k (intoRoom (length o) text) ≡ is text
+  abbrev inRoom : Answer (List ℕ)
+  inRoom = guard t k (intoRoom (length o) text)
+
+  text-given : {n : ℕ} {o′ : List ℕ} → Printed inRoom o (HowMany'.Is n) o′ → inRoom ≡ is text
   text-given {n} p =
-      let w = made-of (guard t k (intoRoom (length o) text)) length n (p .answer) in
+      let w = made-of inRoom length n (p .answer) in
       let r = holds-all t k (intoRoom (length o) text) (w .0) .0 (w .1) in
       w .1 ∙ sym (holds-all (leb (length text) (length o)) 12 (is text) (w .0) .0 (r .1) .1)
 
-  text-in-front : (o′ : List ℕ) (n : ℕ) → Printed (guard t k (intoRoom (length o) text)) o (HowMany'.Is n) o′ → RestKept n o o′
+  text-in-front : (o′ : List ℕ) (n : ℕ) → Printed inRoom o (HowMany'.Is n) o′ → RestKept n o o′
   text-in-front o′ n p =
       let g = text-given p in
       let r = holds-all t k (intoRoom (length o) text) text .0 g in
@@ -178,13 +173,16 @@ reasons-of-printing =
         record {
           absent = Iff·trans (refusal (guard t k (intoRoom (length o) text)) o why) (two-first t s k 12 l text e f);
           short = Iff·trans (refusal (guard t k (intoRoom (length o) text)) o LentTooShort) (two-second t s k 12 l text e f);
-          only = λ other o′ p. ⊎-elim (λ e. inl (e ∙ reason-back why)) inr (two-only other t s k 12 text (sym (refused-of _ length (reasonNumber other) (p .answer))));
+          only = λ other o′ p.
+              let r = refused-of _ length (reasonNumber other) (p .answer) in
+              ⊎-elim (λ e. inl (e ∙ reason-back why)) inr (two-only other t s k 12 text (sym r));
           given = Iff·trans (text-given t k text o, λ h. record { answer = rw (h); buffer = rw (h) }) (two-given t s k 12 l text e f);
         }
 
 -- whatever the answer is that was to be printed
 printed-kept : (a : Answer (List ℕ)) (o o′ : List ℕ) (why : Reason) → Printed a o (HowMany'.Refused why) o′ → o′ ≡ o
-printed-kept a o o′ why p = p .buffer ∙ ap (λ (c : Answer (List ℕ)). afterwards c (λ b. b) o) (refused-of a length (reasonNumber why) (p .answer))
+printed-kept a o o′ why p =
+    p .buffer ∙ ap (λ (c : Answer (List ℕ)). afterwards c (λ b. b) o) (refused-of a length (reasonNumber why) (p .answer))
 
 pub refusal-changes-nothing : Paper.Refusal-changes-nothing
 refusal-changes-nothing =
@@ -195,7 +193,9 @@ refusal-changes-nothing =
       day = λ d o. printed-kept (dayItemAt d (length o)) o;
     }
 
-printed-once : (x : Answer (List ℕ)) (o : List ℕ) (a b : HowMany) (o₁ o₂ : List ℕ) → Printed x o a o₁ → Printed x o b o₂ → (a ≡ b) × (o₁ ≡ o₂)
+printed-once :
+    (x : Answer (List ℕ)) (o : List ℕ) (a b : HowMany) (o₁ o₂ : List ℕ) →
+    Printed x o a o₁ → Printed x o b o₂ → (a ≡ b) × (o₁ ≡ o₂)
 printed-once x o a b o₁ o₂ p q = (how-many-once a b (p .answer ∙ sym (q .answer)), p .buffer ∙ sym (q .buffer))
 
 pub unique-printing : Paper.Unique-printing
@@ -214,22 +214,6 @@ not-refused {a} {text} {why = why} e p = given-not a text (reasonNumber why) e (
 not-so : {a : Answer (List ℕ)} {text o o′ : List ℕ} {r : HowMany} (i x z : ℕ) → a ≡ is text → Printed a o r o′ →
     getD o′ i 0 ≡ x → getD (placed text o) i 0 ≡ z → x < z → ⊥
 not-so {o = o} i x z e p f g l = unlike i x z (p .buffer ∙ ap (λ (c : Answer (List ℕ)). afterwards c (λ s. s) o) e) f g l
-
-year-11 : yearBlockAt 11 300 ≡ is exampleOf11
-unfolding yearBlockAt year-lines month-numbers
-year-11 = refl
-
-line-134 : monthLineAt 134 300 ≡ is (inLines (word "134 9 L 58 29 E" ∷ []))
-unfolding monthLineAt inLines monthLined monthFacts dayName monthStart monthLength midTermsBefore leap midTermNumber monthNumber monthAt eclipse digits decimal followed
-line-134 = refl
-
-month-134 : monthItemAt 134 300 ≡ is (inLines (word "MONTH 134 9 L 58 29 E" ∷ []))
-unfolding monthItemAt inLines monthItem monthFacts dayName monthStart monthLength midTermsBefore leap midTermNumber monthNumber monthAt eclipse digits decimal followed
-month-134 = refl
-
-day-0 : dayItemAt 0 300 ≡ is (inLines (word "DAY 0 1 11 - 1 1" ∷ []))
-unfolding dayItemAt inLines dayItem dateOf dateIn monthOfDay yearOfMonth yearName dayName monthStart monthLength midTermsBefore leap midTermNumber monthNumber monthAt digits decimal followed
-day-0 = refl
 
 pub wrong-printings : Paper.Wrong-printings
 unfolding inLines

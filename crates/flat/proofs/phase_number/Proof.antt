@@ -1,4 +1,5 @@
 -- `flat::phase_number` meets its contract: each phase its own number. Assumes nothing.
+use mathlib.Core.Path.{refl}
 use borrow.Author.Needs.{needs}
 use Rattle.flat.proofs.phase_number.Statement.{statement}
 use Rattle.flat.proofs.phase_number.Tie as tie
@@ -10,6 +11,6 @@ phase-number-spec =
     (λ c. search needs)
     (λ c. search needs)
     (λ c. search needs)
-    (λ c. rw (c .enum-told .given .1))
-    (λ c. rw (c .enum-told2 .given .1))
-    (λ c. rw (c .enum-told3 .given .1)))
+    (λ c. rw (c .enum-told .given .1) refl)
+    (λ c. rw (c .enum-told2 .given .1) refl)
+    (λ c. rw (c .enum-told3 .given .1) refl))
