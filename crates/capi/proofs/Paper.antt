@@ -336,7 +336,8 @@ refusal-is-bare =
           is-bare (λ (x : CQuarter). x .reason) givenQuarter noQuarter (λ x. refl) BareQuarter (λ i. refusals-flat .quarter i .1) (quarterAt n q) r;
       term = λ y k r. is-bare (λ (x : CDay). x .reason) givenDay noDay (λ x. refl) BareDay (λ i. refusals-flat .day i .1) (termAt y k) r;
       conjunction = λ n k r.
-          is-bare (λ (x : CConjunction). x .reason) givenConjunction noConjunction (λ x. refl) BareConjunction (λ i. refusals-flat .conjunction i .1) (conjunctionAt n k) r;
+          is-bare (λ (x : CConjunction). x .reason) givenConjunction noConjunction (λ x. refl) BareConjunction
+          (λ i. refusals-flat .conjunction i .1) (conjunctionAt n k) r;
       next = λ n d r. is-bare (λ (x : CNext). x .reason) givenNext noNext (λ x. refl) BareNext (λ i. refusals-flat .next i .1) (nextAt n d) r;
       pair = λ n r. is-bare (λ (x : CPair). x .reason) givenPair noPair (λ x. refl) BarePair (λ i. refusals-flat .pair i .1) (pairAt n) r;
       search = λ r first last old a new p h.

@@ -16,7 +16,9 @@ oes-day-of-date-spec =
     (λ c κs. search needs)
     (λ c κs. search needs)
     (λ c.
-    let c1 = c .before .before .before .before in
+    let c3 = c .before .before in
+    let c2 = c3 .before in
+    let c1 = c2 .before in
     let s = c1 .before .args in
-    let asked = day-asked (s .year) (s .number) (s .leap) (s .day-of-month) (c1 .cap .ensures) (c .before .before .before .cap2 .ensures) (c .before .before .cap3 .ensures) in
+    let asked = day-asked (s .year) (s .number) (s .leap) (s .day-of-month) (c1 .cap .ensures) (c2 .cap2 .ensures) (c3 .cap3 .ensures) in
     c .flat-day .ensures ∙ ap flatDay (c .before .day-of-date .ensures ∙ asked)))

@@ -19,9 +19,11 @@ oes-move-date-spec =
     (λ c κs. search needs)
     (λ c κs. search needs)
     (λ c.
-    let c1 = c .before .before .before .before in
+    let c3 = c .before .before in
+    let c2 = c3 .before in
+    let c1 = c2 .before in
     let s = c1 .before .args in
-    let asked = move-asked (s .year) (s .number) (s .leap) (s .day-of-month) (c1 .cap .ensures) (c .before .before .before .cap2 .ensures) (c .before .before .cap3 .ensures) in
+    let asked = move-asked (s .year) (s .number) (s .leap) (s .day-of-month) (c1 .cap .ensures) (c2 .cap2 .ensures) (c3 .cap3 .ensures) in
     let days = toZ-ofZ w64 (s .days) (c1 .before .fits .days) in
     c .flat-date .ensures
     ∙ ap flatDate (c .before .move-date .ensures ∙ asked _ ∙ ap (moved (s .year) (s .number) (s .leap) (s .day-of-month)) days)))

@@ -14,4 +14,6 @@ oes-solstice-year-spec =
     (λ c κs. search needs)
     (λ c κs. search needs)
     (λ c κs. search needs)
-    (λ c. asked-one flatSolstice solsticeYearAt (capped-alike .solstice) (c .before .before .cap .ensures) (c .before .solstice-year .ensures) (c .flat-solstice .ensures)))
+    (λ c.
+    asked-one flatSolstice solsticeYearAt (capped-alike .solstice) (c .before .before .cap .ensures) (c .before .solstice-year .ensures)
+    (c .flat-solstice .ensures)))

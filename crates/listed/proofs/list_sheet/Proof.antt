@@ -52,11 +52,12 @@ list-sheet-spec =
     (λ c. search needs)
     (λ c.
     let q = c .before .before .before .before .before in
-    wide (omega arith)
-    (put-as (sym (ap printed (sheet-refused (q .before .before .before .before .before .read-sheet .ensures) (q .why .given .1) (omega arith) (omega arith) (omega arith))))
-    (c .before .before .put-refused .ensures)))
+    let p = q .before .before .before .before .before .read-sheet in
+    let back = sheet-refused (p .ensures) (q .why .given .1) (omega arith) (omega arith) (omega arith) in
+    wide (omega arith) (put-as (sym (ap printed back)) (c .before .before .put-refused .ensures)))
     (λ c. search needs)
     (λ c.
     let q = c .before .before .before .before .before .before .before .before in
     let p = q .before .before .before .before .before .read-sheet in
-    put-as (ap listingOf (all-there (p .ensures) (q .c .given .1)) ∙ sym (ap printed (sheet-says (p .ensures) (q .c .given .1)))) (c .before .before .put-lists .ensures)))
+    let read = sheet-says (p .ensures) (q .c .given .1) in
+    put-as (ap listingOf (all-there (p .ensures) (q .c .given .1)) ∙ sym (ap printed read)) (c .before .before .put-lists .ensures)))

@@ -26,7 +26,8 @@ put-day-items-spec =
     (λ c κs.
     let l = c .before .before .before in
     let h = c .before .before .loop-test .taken in
-    (c .before .before .before .before .before .before .pre .0 .items (l .loop .i) h .1, room-for-item (l .loop .inv) h (c .before .before .before .before .before .before .pre .1)))
+    let asked = l .before .before .before .pre in
+    (asked .0 .items (l .loop .i) h .1, room-for-item (l .loop .inv) h (asked .1)))
     (λ c. omega arith)
     (λ c. omega arith)
     (λ c.
