@@ -21,11 +21,11 @@ use Rattle.penned.specs.Promises.{yearBlockAt, monthLineAt, monthItemAt, dayIte
 use Rattle.capped.specs.Capped.{capped, cappedReading}
 use Rattle.capped.specs.Paper.{AlikeSearch, whole, both}
 use Rattle.capped.proofs.Paper.{behind-a-test, at-most, from-one, capped-alike, capped-search}
-use Rattle.flat.specs.declared.CFound.{CFound}
-use Rattle.flat.specs.declared.CLength.{CLength}
-use Rattle.flat.specs.Flat.{flatFound, flatLength}
-use Rattle.capi.specs.declared.CReading.{CReading}
-use Rattle.capi.specs.Promises.{readingOf, CSearch, CPrinted}
+use Rattle.offered.specs.declared.CFound.{CFound}
+use Rattle.offered.specs.declared.CLength.{CLength}
+use Rattle.offered.specs.Flat.{flatFound, flatLength}
+use Rattle.offered.specs.declared.CReading.{CReading}
+use Rattle.offered.specs.Promises.{readingOf, CSearch, CPrinted}
 
 -- an answer of one number, and of two, that is the same of capped ones: what is said of these, laid flat
 pub asked-one :

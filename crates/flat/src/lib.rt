@@ -1,4 +1,4 @@
-// Answers laid flat for C: one struct each, with the reason in front. Numbers are widened, nothing is decided here.
+// Answers laid flat for C, each into its struct. Numbers are widened, nothing is decided here.
 ghost use mathlib.Core.Path.{_≡_};
 ghost use Rattle.dates.specs.Promises.{saidDate, saidDay};
 ghost use Rattle.facts.specs.Promises.{saidSolsticeYear, saidYear, saidMonth, saidQuarter, saidTerm};
@@ -6,7 +6,7 @@ ghost use Rattle.planets.specs.Planets.{phaseNumber};
 ghost use Rattle.planets.specs.Promises.{saidConjunction, saidNext, saidPair};
 ghost use Rattle.reading.specs.Search.{saidFound};
 ghost use Rattle.sheet.specs.Promises.{saidCounts, saidHowMany};
-ghost use Rattle.flat.specs.Flat.{
+ghost use Rattle.offered.specs.Flat.{
   givenDate,
   flatDate,
   flatDay,
@@ -36,6 +36,18 @@ use facts::SolsticeYearTold;
 use facts::TermTold;
 use facts::YearFacts;
 use facts::YearTold;
+use offered::CConjunction;
+use offered::CDate;
+use offered::CDay;
+use offered::CFound;
+use offered::CLength;
+use offered::CMonth;
+use offered::CNext;
+use offered::CPair;
+use offered::CQuarter;
+use offered::CSheetCounts;
+use offered::CSolstice;
+use offered::CYear;
 use planets::Conjunction;
 use planets::ConjunctionTold;
 use planets::Next;
@@ -45,125 +57,6 @@ use planets::Phase;
 use reading::Found;
 use sheet::HowMany;
 use sheet::SheetCounts;
-
-// A date. `number` is the month's, `leap` whether it is the leap month of that number.
-#[repr(C)]
-pub struct CDate {
-    pub reason: u32,
-    pub year: u32,
-    pub number: u32,
-    pub leap: bool,
-    pub day_of_month: u32,
-    pub month_length: u32,
-    pub day_name: u32,
-    pub year_name: u32,
-}
-
-// A day.
-#[repr(C)]
-pub struct CDay {
-    pub reason: u32,
-    pub day: u32,
-}
-
-// A solstice year: its place, its bu's head name, its months.
-#[repr(C)]
-pub struct CSolstice {
-    pub reason: u32,
-    pub ji: u32,
-    pub bu: u32,
-    pub year_in_bu: u32,
-    pub head_name: u32,
-    pub first_month: u32,
-    pub leap_remainder: u32,
-    pub months: u32,
-}
-
-// A year's own; without a leap month, `has_leap` is false and the two numbers after it are 0.
-#[repr(C)]
-pub struct CYear {
-    pub reason: u32,
-    pub name: u32,
-    pub first_month: u32,
-    pub months: u32,
-    pub has_leap: bool,
-    pub leap_number: u32,
-    pub leap_month: u32,
-}
-
-// A month by its count.
-#[repr(C)]
-pub struct CMonth {
-    pub reason: u32,
-    pub number: u32,
-    pub leap: bool,
-    pub first_day: u32,
-    pub small_remainder: u32,
-    pub month_length: u32,
-    pub first_name: u32,
-    pub eclipse: bool,
-}
-
-// A quarter of a month: its day and the parts that are left.
-#[repr(C)]
-pub struct CQuarter {
-    pub reason: u32,
-    pub day: u32,
-    pub parts: u32,
-}
-
-// A conjunction of a planet: its day, its remainder in parts of the divisor; `phase` is 1 for a morning one, 2 for an evening one,
-// 0 for neither.
-#[repr(C)]
-pub struct CConjunction {
-    pub reason: u32,
-    pub day: u32,
-    pub parts: u32,
-    pub divisor: u32,
-    pub phase: u32,
-}
-
-// The same with its count.
-#[repr(C)]
-pub struct CNext {
-    pub reason: u32,
-    pub k: u32,
-    pub day: u32,
-    pub parts: u32,
-    pub divisor: u32,
-    pub phase: u32,
-}
-
-// A planet's pair: so many years, and the conjunctions in them.
-#[repr(C)]
-pub struct CPair {
-    pub reason: u32,
-    pub years: u64,
-    pub conjunctions: u64,
-}
-
-// How many days a search found; where the lent list was too short, how many there are.
-#[repr(C)]
-pub struct CFound {
-    pub reason: u32,
-    pub total: u32,
-}
-
-// How many items each of a sheet's lists has.
-#[repr(C)]
-pub struct CSheetCounts {
-    pub reason: u32,
-    pub years: usize,
-    pub months: usize,
-    pub days: usize,
-}
-
-// How many bytes were written.
-#[repr(C)]
-pub struct CLength {
-    pub reason: u32,
-    pub length: usize,
-}
 
 // A date laid flat, and an answer.
 fn given_date(d: Date) -> CDate

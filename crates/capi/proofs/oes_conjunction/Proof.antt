@@ -1,7 +1,7 @@
 -- `capi::oes_conjunction` meets its contract. Assumes nothing.
 use Rattle.planets.specs.Planets.{conjunctionAt}
 use Rattle.capped.proofs.Paper.{capped-alike}
-use Rattle.flat.specs.Flat.{flatConjunction}
+use Rattle.offered.specs.Flat.{flatConjunction}
 use Rattle.capi.proofs.Asked.{asked-one}
 use borrow.Author.Needs.{needs}
 use Rattle.capi.proofs.oes_conjunction.Statement.{statement}

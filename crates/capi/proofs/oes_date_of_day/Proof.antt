@@ -1,7 +1,7 @@
 -- `capi::oes_date_of_day` meets its contract. Assumes nothing.
 use Rattle.dates.specs.Dates.{dateAt}
 use Rattle.capped.proofs.Paper.{capped-alike}
-use Rattle.flat.specs.Flat.{flatDate}
+use Rattle.offered.specs.Flat.{flatDate}
 use Rattle.capi.proofs.Asked.{asked-one}
 use borrow.Author.Needs.{needs}
 use Rattle.capi.proofs.oes_date_of_day.Statement.{statement}

@@ -1,6 +1,6 @@
 -- `capi::oes_day_of_date` meets its contract. Assumes nothing.
 use mathlib.Core.Path.{ap, _∙_}
-use Rattle.flat.specs.Flat.{flatDay}
+use Rattle.offered.specs.Flat.{flatDay}
 use Rattle.capi.proofs.Asked.{day-asked}
 use borrow.Author.Needs.{needs}
 use Rattle.capi.proofs.oes_day_of_date.Statement.{statement}

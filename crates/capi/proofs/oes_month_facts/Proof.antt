@@ -1,7 +1,7 @@
 -- `capi::oes_month_facts` meets its contract. Assumes nothing.
 use Rattle.facts.specs.Facts.{monthFactsAt}
 use Rattle.capped.proofs.Paper.{capped-alike}
-use Rattle.flat.specs.Flat.{flatMonth}
+use Rattle.offered.specs.Flat.{flatMonth}
 use Rattle.capi.proofs.Asked.{asked-one}
 use borrow.Author.Needs.{needs}
 use Rattle.capi.proofs.oes_month_facts.Statement.{statement}

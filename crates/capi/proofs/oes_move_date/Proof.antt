@@ -3,7 +3,7 @@ use mathlib.Core.Path.{ap, _∙_}
 use mir.Syntax.{w64}
 use mir.ValLaws.{toZ-ofZ}
 use Rattle.moves.specs.Moves.{moved}
-use Rattle.flat.specs.Flat.{flatDate}
+use Rattle.offered.specs.Flat.{flatDate}
 use Rattle.capi.proofs.Asked.{move-asked}
 use borrow.Author.Needs.{needs}
 use Rattle.capi.proofs.oes_move_date.Statement.{statement}

@@ -1,7 +1,7 @@
 -- `capi::oes_next_conjunction` meets its contract. Assumes nothing.
 use Rattle.planets.specs.Planets.{nextAt}
 use Rattle.capped.proofs.Paper.{capped-alike}
-use Rattle.flat.specs.Flat.{flatNext}
+use Rattle.offered.specs.Flat.{flatNext}
 use Rattle.capi.proofs.Asked.{asked-two}
 use borrow.Author.Needs.{needs}
 use Rattle.capi.proofs.oes_next_conjunction.Statement.{statement}

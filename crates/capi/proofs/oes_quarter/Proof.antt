@@ -1,7 +1,7 @@
 -- `capi::oes_quarter` meets its contract. Assumes nothing.
 use Rattle.facts.specs.Facts.{quarterAt}
 use Rattle.capped.proofs.Paper.{capped-alike}
-use Rattle.flat.specs.Flat.{flatQuarter}
+use Rattle.offered.specs.Flat.{flatQuarter}
 use Rattle.capi.proofs.Asked.{asked-two}
 use borrow.Author.Needs.{needs}
 use Rattle.capi.proofs.oes_quarter.Statement.{statement}

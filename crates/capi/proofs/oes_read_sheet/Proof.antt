@@ -1,6 +1,6 @@
 -- `capi::oes_read_sheet` meets its contract. Assumes nothing.
 use mathlib.Core.Path.{ap, _∙_}
-use Rattle.flat.specs.Flat.{flatCounts}
+use Rattle.offered.specs.Flat.{flatCounts}
 use borrow.Author.Needs.{needs}
 use Rattle.capi.proofs.oes_read_sheet.Statement.{statement}
 use Rattle.capi.proofs.oes_read_sheet.Tie as tie

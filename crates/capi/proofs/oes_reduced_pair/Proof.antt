@@ -2,7 +2,7 @@
 use Rattle.planets.specs.Planets.{pairAt}
 use Rattle.planets.proofs.Reducing.{as-printed}
 use Rattle.capped.proofs.Paper.{capped-alike}
-use Rattle.flat.specs.Flat.{flatPair}
+use Rattle.offered.specs.Flat.{flatPair}
 use Rattle.capi.proofs.Asked.{asked-one}
 use borrow.Author.Needs.{needs}
 use Rattle.capi.proofs.oes_reduced_pair.Statement.{statement}

@@ -1,7 +1,7 @@
 -- `capi::oes_solstice_year` meets its contract. Assumes nothing.
 use Rattle.facts.specs.Facts.{solsticeYearAt}
 use Rattle.capped.proofs.Paper.{capped-alike}
-use Rattle.flat.specs.Flat.{flatSolstice}
+use Rattle.offered.specs.Flat.{flatSolstice}
 use Rattle.capi.proofs.Asked.{asked-one}
 use borrow.Author.Needs.{needs}
 use Rattle.capi.proofs.oes_solstice_year.Statement.{statement}

@@ -1,7 +1,7 @@
 -- `capi::oes_term` meets its contract. Assumes nothing.
 use Rattle.facts.specs.Facts.{termAt}
 use Rattle.capped.proofs.Paper.{capped-alike}
-use Rattle.flat.specs.Flat.{flatDay}
+use Rattle.offered.specs.Flat.{flatDay}
 use Rattle.capi.proofs.Asked.{asked-two}
 use borrow.Author.Needs.{needs}
 use Rattle.capi.proofs.oes_term.Statement.{statement}

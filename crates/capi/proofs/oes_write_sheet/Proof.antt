@@ -1,6 +1,6 @@
 -- `capi::oes_write_sheet` meets its contract. Assumes nothing.
 use mathlib.Core.Path.{ap, _∙_}
-use Rattle.flat.specs.Flat.{flatLength}
+use Rattle.offered.specs.Flat.{flatLength}
 use borrow.Author.Needs.{needs}
 use Rattle.capi.proofs.oes_write_sheet.Statement.{statement}
 use Rattle.capi.proofs.oes_write_sheet.Tie as tie

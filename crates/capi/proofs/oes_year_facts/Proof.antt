@@ -1,7 +1,7 @@
 -- `capi::oes_year_facts` meets its contract. Assumes nothing.
 use Rattle.facts.specs.Facts.{yearFactsAt}
 use Rattle.capped.proofs.Paper.{capped-alike}
-use Rattle.flat.specs.Flat.{flatYear}
+use Rattle.offered.specs.Flat.{flatYear}
 use Rattle.capi.proofs.Asked.{asked-one}
 use borrow.Author.Needs.{needs}
 use Rattle.capi.proofs.oes_year_facts.Statement.{statement}

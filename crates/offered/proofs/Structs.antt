@@ -19,18 +19,18 @@ use Rattle.planets.specs.declared.Next.{Next}
 use Rattle.planets.specs.declared.Pair.{Pair}
 use Rattle.planets.specs.Planets.{phaseNumber}
 use Rattle.sheet.specs.declared.Counted.{Counted}
-use Rattle.flat.specs.declared.CDate.{CDate}
-use Rattle.flat.specs.declared.CDay.{CDay}
-use Rattle.flat.specs.declared.CSolstice.{CSolstice}
-use Rattle.flat.specs.declared.CYear.{CYear}
-use Rattle.flat.specs.declared.CMonth.{CMonth}
-use Rattle.flat.specs.declared.CQuarter.{CQuarter}
-use Rattle.flat.specs.declared.CConjunction.{CConjunction}
-use Rattle.flat.specs.declared.CNext.{CNext}
-use Rattle.flat.specs.declared.CPair.{CPair}
-use Rattle.flat.specs.declared.CSheetCounts.{CSheetCounts}
-use Rattle.flat.specs.declared.CLength.{CLength}
-use Rattle.flat.specs.Flat.{
+use Rattle.offered.specs.declared.CDate.{CDate}
+use Rattle.offered.specs.declared.CDay.{CDay}
+use Rattle.offered.specs.declared.CSolstice.{CSolstice}
+use Rattle.offered.specs.declared.CYear.{CYear}
+use Rattle.offered.specs.declared.CMonth.{CMonth}
+use Rattle.offered.specs.declared.CQuarter.{CQuarter}
+use Rattle.offered.specs.declared.CConjunction.{CConjunction}
+use Rattle.offered.specs.declared.CNext.{CNext}
+use Rattle.offered.specs.declared.CPair.{CPair}
+use Rattle.offered.specs.declared.CSheetCounts.{CSheetCounts}
+use Rattle.offered.specs.declared.CLength.{CLength}
+use Rattle.offered.specs.Flat.{
   givenDate,
   givenSolstice,
   hasLeap,
@@ -44,9 +44,9 @@ use Rattle.flat.specs.Flat.{
   givenPair,
   givenCounts,
 }
-use Rattle.flat.specs.Paper as Paper
+use Rattle.offered.specs.Structs as Structs
 
-pub refusals-flat : Paper.Refusals-flat
+pub refusals-flat : Structs.Refusals-flat
 refusals-flat =
     record {
       date = λ k. (
@@ -183,7 +183,7 @@ pairFrom r = record { years = r .years; conjunctions = r .conjunctions }
 abbrev countsFrom : CSheetCounts → Counted
 countsFrom r = record { years = r .years; months = r .months; days = r .days }
 
-pub nothing-lost : Paper.Nothing-lost
+pub nothing-lost : Structs.Nothing-lost
 nothing-lost =
     record {
       date = one-to-one givenDate dateFrom (λ d. rw (month-again (d .month)));

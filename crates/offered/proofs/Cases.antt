@@ -1,4 +1,4 @@
--- The paper's known dates laid flat, at which a wrong definition shows at once. Assumes nothing.
+-- The paper's known dates laid flat and a slip, at which a wrong definition shows at once. Assumes nothing.
 use mathlib.Core.Path.{_≡_, refl}
 use mathlib.Core.Bool.{true, false}
 use Rattle.rule.specs.Counts.{dayName, yearName, ji, bu, yearInBu, headName}
@@ -47,7 +47,9 @@ use Rattle.planets.specs.Planets.{
   nextAt,
   pairAt,
 }
-use Rattle.flat.specs.Flat.{flatDate, flatDay, flatSolstice, flatYear, flatMonth, flatQuarter, flatConjunction, flatNext, flatPair}
+use Rattle.reading.specs.declared.Field.the-variants.{Known, Unread}
+use Rattle.offered.specs.Flat.{flatDate, flatDay, flatSolstice, flatYear, flatMonth, flatQuarter, flatConjunction, flatNext, flatPair}
+use Rattle.offered.specs.Promises.{readingOf}
 
 -- case 3: the last day, leap 10, and the day after it
 pub last-day :
@@ -161,3 +163,30 @@ none-left = refl
 pub pair-of-venus : flatPair (pairAt 4) ≡ record { reason = 0; years = 4661; conjunctions = 5830 }
 unfolding pairAt numbersOf
 pair-of-venus = refl
+
+-- the solstice day of case 6, of a slip on which the leap mark and the day of month were not read: what stands there is not taken
+pub solstice-slip :
+    readingOf
+    (record {
+      «year_name» = 22;
+      «month_number» = 11;
+      «leap_mark» = 2;
+      «day_of_month» = 30;
+      «day_name» = 27;
+      «first_name» = 19;
+      «year_name_known» = true;
+      «month_number_known» = true;
+      «leap_mark_known» = false;
+      «day_of_month_known» = false;
+      «day_name_known» = true;
+      «first_name_known» = true;
+    })
+    ≡ record {
+      «year_name» = Known 22;
+      «month_number» = Known 11;
+      «leap_mark» = Unread;
+      «day_of_month» = Unread;
+      «day_name» = Known 27;
+      «first_name» = Known 19;
+    }
+solstice-slip = refl

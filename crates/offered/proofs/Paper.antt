@@ -75,19 +75,19 @@ use Rattle.sheet.specs.Sheet.{
 }
 use Rattle.sheet.specs.Promises.{counted, saidCounts, saidHowMany}
 use Rattle.penned.specs.Promises.{yearBlockAt, monthLineAt, monthItemAt, dayItemAt, Printed}
-use Rattle.flat.specs.declared.CDate.{CDate}
-use Rattle.flat.specs.declared.CDay.{CDay}
-use Rattle.flat.specs.declared.CSolstice.{CSolstice}
-use Rattle.flat.specs.declared.CYear.{CYear}
-use Rattle.flat.specs.declared.CMonth.{CMonth}
-use Rattle.flat.specs.declared.CQuarter.{CQuarter}
-use Rattle.flat.specs.declared.CConjunction.{CConjunction}
-use Rattle.flat.specs.declared.CNext.{CNext}
-use Rattle.flat.specs.declared.CPair.{CPair}
-use Rattle.flat.specs.declared.CFound.{CFound}
-use Rattle.flat.specs.declared.CSheetCounts.{CSheetCounts}
-use Rattle.flat.specs.declared.CLength.{CLength}
-use Rattle.flat.specs.Flat.{
+use Rattle.offered.specs.declared.CDate.{CDate}
+use Rattle.offered.specs.declared.CDay.{CDay}
+use Rattle.offered.specs.declared.CSolstice.{CSolstice}
+use Rattle.offered.specs.declared.CYear.{CYear}
+use Rattle.offered.specs.declared.CMonth.{CMonth}
+use Rattle.offered.specs.declared.CQuarter.{CQuarter}
+use Rattle.offered.specs.declared.CConjunction.{CConjunction}
+use Rattle.offered.specs.declared.CNext.{CNext}
+use Rattle.offered.specs.declared.CPair.{CPair}
+use Rattle.offered.specs.declared.CFound.{CFound}
+use Rattle.offered.specs.declared.CSheetCounts.{CSheetCounts}
+use Rattle.offered.specs.declared.CLength.{CLength}
+use Rattle.offered.specs.Flat.{
   flat,
   givenDate,
   noDate,
@@ -124,7 +124,7 @@ use Rattle.flat.specs.Flat.{
   noLength,
   flatLength,
 }
-use Rattle.flat.specs.Paper.{
+use Rattle.offered.specs.Structs.{
   BareDate,
   BareDay,
   BareSolstice,
@@ -138,12 +138,12 @@ use Rattle.flat.specs.Paper.{
   BareCounts,
   BareLength,
 }
-use Rattle.flat.proofs.Paper.{refusals-flat}
-use Rattle.capi.specs.Promises.{readingOf, CPrinted}
-use Rattle.capi.specs.Paper as Paper
-use Rattle.capi.proofs.Sound as Sound
-use Rattle.capi.proofs.Sound.{Sound, given, numbered, none-is-0}
-use Rattle.capi.proofs.Texts.{text-said, unwritten, year-11, line-134, month-134, day-0}
+use Rattle.offered.proofs.Structs.{refusals-flat}
+use Rattle.offered.specs.Promises.{readingOf, CPrinted}
+use Rattle.offered.specs.Paper as Paper
+use Rattle.offered.proofs.Sound as Sound
+use Rattle.offered.proofs.Sound.{Sound, given, numbered, none-is-0}
+use Rattle.offered.proofs.Texts.{text-said, unwritten, year-11, line-134, month-134, day-0}
 
 -- printed bytes leave one answer and one buffer
 one-printed :

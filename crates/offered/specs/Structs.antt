@@ -1,5 +1,5 @@
--- What holds of answers laid flat, as statements. proofs/Paper.antt proves each under the same name in small letters.
--- Assumes nothing.
+-- What holds of the structs into which answers are laid flat, as statements. proofs/Structs.antt proves each under the same name in
+-- small letters. Assumes nothing.
 use Prim.Native.Nat.{ℕ}
 use mathlib.Core.Path.{_≡_}
 use mathlib.Core.Logic.{_≢_}
@@ -14,19 +14,19 @@ use Rattle.planets.specs.declared.Conjunction.{Conjunction}
 use Rattle.planets.specs.declared.Next.{Next}
 use Rattle.planets.specs.declared.Pair.{Pair}
 use Rattle.sheet.specs.declared.Counted.{Counted}
-use Rattle.flat.specs.declared.CDate.{CDate}
-use Rattle.flat.specs.declared.CDay.{CDay}
-use Rattle.flat.specs.declared.CSolstice.{CSolstice}
-use Rattle.flat.specs.declared.CYear.{CYear}
-use Rattle.flat.specs.declared.CMonth.{CMonth}
-use Rattle.flat.specs.declared.CQuarter.{CQuarter}
-use Rattle.flat.specs.declared.CConjunction.{CConjunction}
-use Rattle.flat.specs.declared.CNext.{CNext}
-use Rattle.flat.specs.declared.CPair.{CPair}
-use Rattle.flat.specs.declared.CFound.{CFound}
-use Rattle.flat.specs.declared.CSheetCounts.{CSheetCounts}
-use Rattle.flat.specs.declared.CLength.{CLength}
-use Rattle.flat.specs.Flat.{
+use Rattle.offered.specs.declared.CDate.{CDate}
+use Rattle.offered.specs.declared.CDay.{CDay}
+use Rattle.offered.specs.declared.CSolstice.{CSolstice}
+use Rattle.offered.specs.declared.CYear.{CYear}
+use Rattle.offered.specs.declared.CMonth.{CMonth}
+use Rattle.offered.specs.declared.CQuarter.{CQuarter}
+use Rattle.offered.specs.declared.CConjunction.{CConjunction}
+use Rattle.offered.specs.declared.CNext.{CNext}
+use Rattle.offered.specs.declared.CPair.{CPair}
+use Rattle.offered.specs.declared.CFound.{CFound}
+use Rattle.offered.specs.declared.CSheetCounts.{CSheetCounts}
+use Rattle.offered.specs.declared.CLength.{CLength}
+use Rattle.offered.specs.Flat.{
   givenDate,
   noDate,
   givenDay,

@@ -31,9 +31,9 @@ use Rattle.facts.specs.Facts.{yearFacts, monthFacts}
 use Rattle.fields.specs.Fields.{digits, decimal, followed, each}
 use Rattle.penned.specs.Lines.{yearBlock, monthLined, monthItem, dayItem}
 use Rattle.penned.specs.Promises.{yearBlockAt, monthLineAt, monthItemAt, dayItemAt}
-use Rattle.flat.specs.declared.CLength.{CLength}
-use Rattle.flat.specs.Flat.{givenLength, flatLength}
-use Rattle.capi.specs.Promises.{CPrinted}
+use Rattle.offered.specs.declared.CLength.{CLength}
+use Rattle.offered.specs.Flat.{givenLength, flatLength}
+use Rattle.offered.specs.Promises.{CPrinted}
 
 -- what is printed into any room is a text of n bytes, the first of which is no nought
 pub record Text (a : ℕ → Answer (List ℕ)) (n : ℕ) : Type 0 where

@@ -62,19 +62,19 @@ use Rattle.sheet.specs.declared.HowMany.the-variants as HowMany'
 use Rattle.sheet.specs.Promises.{saidCounts, saidHowMany, ReadSheet, WriteSheet}
 use Rattle.sheet.specs.Paper.{emptySheet, sheetOf11, sheetOfTwos}
 use Rattle.penned.specs.Promises.{PrintYear, PrintMonthLine, PrintMonth, PrintDay}
-use Rattle.flat.specs.declared.CDate.{CDate}
-use Rattle.flat.specs.declared.CDay.{CDay}
-use Rattle.flat.specs.declared.CSolstice.{CSolstice}
-use Rattle.flat.specs.declared.CYear.{CYear}
-use Rattle.flat.specs.declared.CMonth.{CMonth}
-use Rattle.flat.specs.declared.CQuarter.{CQuarter}
-use Rattle.flat.specs.declared.CConjunction.{CConjunction}
-use Rattle.flat.specs.declared.CNext.{CNext}
-use Rattle.flat.specs.declared.CPair.{CPair}
-use Rattle.flat.specs.declared.CFound.{CFound}
-use Rattle.flat.specs.declared.CSheetCounts.{CSheetCounts}
-use Rattle.flat.specs.declared.CLength.{CLength}
-use Rattle.flat.specs.Flat.{
+use Rattle.offered.specs.declared.CDate.{CDate}
+use Rattle.offered.specs.declared.CDay.{CDay}
+use Rattle.offered.specs.declared.CSolstice.{CSolstice}
+use Rattle.offered.specs.declared.CYear.{CYear}
+use Rattle.offered.specs.declared.CMonth.{CMonth}
+use Rattle.offered.specs.declared.CQuarter.{CQuarter}
+use Rattle.offered.specs.declared.CConjunction.{CConjunction}
+use Rattle.offered.specs.declared.CNext.{CNext}
+use Rattle.offered.specs.declared.CPair.{CPair}
+use Rattle.offered.specs.declared.CFound.{CFound}
+use Rattle.offered.specs.declared.CSheetCounts.{CSheetCounts}
+use Rattle.offered.specs.declared.CLength.{CLength}
+use Rattle.offered.specs.Flat.{
   givenDate,
   flatDate,
   givenDay,
@@ -99,7 +99,7 @@ use Rattle.flat.specs.Flat.{
   givenLength,
   flatLength,
 }
-use Rattle.flat.specs.Paper.{
+use Rattle.offered.specs.Structs.{
   BareDate,
   BareDay,
   BareSolstice,
@@ -113,8 +113,8 @@ use Rattle.flat.specs.Paper.{
   BareCounts,
   BareLength,
 }
-use Rattle.capi.specs.declared.CReading.{CReading}
-use Rattle.capi.specs.Promises.{
+use Rattle.offered.specs.declared.CReading.{CReading}
+use Rattle.offered.specs.Promises.{
   readingOf,
   CDateOfDay,
   CDayOfDate,

@@ -19,19 +19,19 @@ use Rattle.reading.specs.Search.{searchAt}
 use Rattle.sheet.specs.Sheet.{readInto, writeInto}
 use Rattle.sheet.specs.Promises.{counted}
 use Rattle.penned.specs.Promises.{yearBlockAt, monthLineAt, monthItemAt, dayItemAt}
-use Rattle.flat.specs.declared.CDate.{CDate}
-use Rattle.flat.specs.declared.CDay.{CDay}
-use Rattle.flat.specs.declared.CSolstice.{CSolstice}
-use Rattle.flat.specs.declared.CYear.{CYear}
-use Rattle.flat.specs.declared.CMonth.{CMonth}
-use Rattle.flat.specs.declared.CQuarter.{CQuarter}
-use Rattle.flat.specs.declared.CConjunction.{CConjunction}
-use Rattle.flat.specs.declared.CNext.{CNext}
-use Rattle.flat.specs.declared.CPair.{CPair}
-use Rattle.flat.specs.declared.CFound.{CFound}
-use Rattle.flat.specs.declared.CSheetCounts.{CSheetCounts}
-use Rattle.flat.specs.declared.CLength.{CLength}
-use Rattle.flat.specs.Flat.{
+use Rattle.offered.specs.declared.CDate.{CDate}
+use Rattle.offered.specs.declared.CDay.{CDay}
+use Rattle.offered.specs.declared.CSolstice.{CSolstice}
+use Rattle.offered.specs.declared.CYear.{CYear}
+use Rattle.offered.specs.declared.CMonth.{CMonth}
+use Rattle.offered.specs.declared.CQuarter.{CQuarter}
+use Rattle.offered.specs.declared.CConjunction.{CConjunction}
+use Rattle.offered.specs.declared.CNext.{CNext}
+use Rattle.offered.specs.declared.CPair.{CPair}
+use Rattle.offered.specs.declared.CFound.{CFound}
+use Rattle.offered.specs.declared.CSheetCounts.{CSheetCounts}
+use Rattle.offered.specs.declared.CLength.{CLength}
+use Rattle.offered.specs.Flat.{
   flatDate,
   flatDay,
   flatSolstice,
@@ -45,7 +45,7 @@ use Rattle.flat.specs.Flat.{
   flatCounts,
   flatLength,
 }
-use Rattle.capi.specs.declared.CReading.{CReading}
+use Rattle.offered.specs.declared.CReading.{CReading}
 
 -- day to date
 abbrev pub CDateOfDay : ℕ → CDate → Type 0
