@@ -65,7 +65,7 @@ def alike(declared, exported):
 
 def main():
     declared = of_header((HERE / "oesterwrok.h").read_text(encoding="utf8"))
-    exported = of_code("\n".join((HERE.parent / crate / "src/lib.rt").read_text(encoding="utf8") for crate in ("flat", "capi")))
+    exported = of_code("\n".join((HERE.parent / crate / "src/lib.rt").read_text(encoding="utf8") for crate in ("offered", "capi")))
     wrong = sorted(set(declared) ^ set(exported))
     wrong += [name for name in declared if name in exported and not alike(declared[name], exported[name])]
     for name in wrong:

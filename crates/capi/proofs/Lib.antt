@@ -1,7 +1,2 @@
--- Figures; what is asked with capped numbers is answered as of the numbers themselves; every refusal is one of the reasons; four
--- printed texts; and the proofs of the statements.
-pub mod Cases
+-- What is asked with capped numbers is answered as of the numbers themselves.
 pub mod Asked
-pub mod Sound
-pub mod Texts
-pub mod Paper

@@ -2,7 +2,7 @@
 // public call takes as it is), asks the public call and lays the answer flat. Nothing is decided here.
 ghost use mathlib.Core.Path.{_≡_};
 ghost use Rattle.capped.specs.Capped.{cappedField, cappedReading};
-ghost use Rattle.capi.specs.Promises.{
+ghost use Rattle.offered.specs.Promises.{
   fieldOf,
   readingOf,
   CDateOfDay,
@@ -24,37 +24,21 @@ ghost use Rattle.capi.specs.Promises.{
   CPrintMonth,
   CPrintDay,
 };
-use flat::CConjunction;
-use flat::CDate;
-use flat::CDay;
-use flat::CFound;
-use flat::CLength;
-use flat::CMonth;
-use flat::CNext;
-use flat::CPair;
-use flat::CQuarter;
-use flat::CSheetCounts;
-use flat::CSolstice;
-use flat::CYear;
+use offered::CConjunction;
+use offered::CDate;
+use offered::CDay;
+use offered::CFound;
+use offered::CLength;
+use offered::CMonth;
+use offered::CNext;
+use offered::CPair;
+use offered::CQuarter;
+use offered::CReading;
+use offered::CSheetCounts;
+use offered::CSolstice;
+use offered::CYear;
 use reading::Field;
 use reading::Reading;
-
-// A reading of a slip: six values, and whether each was read. A leap mark is 1 for ordinary and 2 for leap.
-#[repr(C)]
-pub struct CReading {
-    pub year_name: u64,
-    pub month_number: u64,
-    pub leap_mark: u64,
-    pub day_of_month: u64,
-    pub day_name: u64,
-    pub first_name: u64,
-    pub year_name_known: bool,
-    pub month_number_known: bool,
-    pub leap_mark_known: bool,
-    pub day_of_month_known: bool,
-    pub day_name_known: bool,
-    pub first_name_known: bool,
-}
 
 // Day to date.
 #[no_mangle]

@@ -73,7 +73,9 @@ pub from-one : (m : ℕ) → m < 4294967295 → Settled (within 1 m)
 from-one m s = none-behind (within 1 m) (λ n h. and-false (leb 1 n) (leb n m) (lt-leb n m (omega arith)))
 
 -- two tests, one behind the other
-two : (A : Type 0) (b d : ℕ → Bool) → Settled b → Settled d → (k j : ℕ) (f : ℕ → ℕ → Answer A) (n m : ℕ) → guard {A = A} (b (capped n)) k (guard (d (capped m)) j (f (capped n) (capped m))) ≡ guard (b n) k (guard (d m) j (f n m))
+two :
+    (A : Type 0) (b d : ℕ → Bool) → Settled b → Settled d → (k j : ℕ) (f : ℕ → ℕ → Answer A) (n m : ℕ) →
+    guard {A = A} (b (capped n)) k (guard (d (capped m)) j (f (capped n) (capped m))) ≡ guard (b n) k (guard (d m) j (f n m))
 two A b d s t k j f n m =
     behind-a-test A b s k (λ i. guard (d (capped m)) j (f i (capped m))) n
     ∙ ap (guard (b n) k) (behind-a-test A d t j (f n) m)
@@ -87,8 +89,10 @@ year-settled = from-one 41040 (omega arith)
 day-capped : (y k : ℕ) (l : Bool) (m : ℕ) → dayOfDate (capped y) (capped k) l (capped m) ≡ dayOfDate y k l m
 unfolding dayOfDate
 day-capped y k l m =
-    two ℕ (within 1 41040) (within 1 12) year-settled (from-one 12 (omega arith)) 1 2 (λ i j. guard (within 1 30 (capped m)) 3 (dayOfNamed i j l (capped m))) y k
-    ∙ ap (λ (a : Answer ℕ). guard (within 1 41040 y) 1 (guard (within 1 12 k) 2 a)) (behind-a-test ℕ (within 1 30) (from-one 30 (omega arith)) 3 (dayOfNamed y k l) m)
+    two ℕ (within 1 41040) (within 1 12) year-settled (from-one 12 (omega arith)) 1 2
+    (λ i j. guard (within 1 30 (capped m)) 3 (dayOfNamed i j l (capped m))) y k
+    ∙ ap (λ (a : Answer ℕ). guard (within 1 41040 y) 1 (guard (within 1 12 k) 2 a))
+    (behind-a-test ℕ (within 1 30) (from-one 30 (omega arith)) 3 (dayOfNamed y k l) m)
 
 -- a move so far lands nowhere, from any day in range
 far-lands : (d : ℕ) (n : ℤ) → d ≤ 14989859 → landed (pos d +ℤ cappedMove n) ≡ landed (pos d +ℤ n)
@@ -158,7 +162,9 @@ next-capped : (p d : ℕ) → nextAt (capped p) (capped d) ≡ nextAt p d
 unfolding nextAt
 next-capped p d =
     two Next (within 1 5) (λ i. leb i 14989859) (from-one 5 (omega arith)) (at-most 14989859 (omega arith)) 19 6
-    (λ i j. guard (leb (conjunctionDay (numbersOf i) (nextCount (numbersOf i) j)) 14989859) 20 (is (nextOf (numbersOf i) (nextCount (numbersOf i) j)))) p d
+    (λ i j.
+    guard (leb (conjunctionDay (numbersOf i) (nextCount (numbersOf i) j)) 14989859) 20 (is (nextOf (numbersOf i) (nextCount (numbersOf i) j))))
+    p d
 
 pub capped-alike : Capped-alike
 unfolding dateAt solsticeYearAt yearFactsAt monthFactsAt quarterAt termAt
@@ -180,7 +186,9 @@ capped-alike =
     }
 
 -- a field, and a reading
-field-settled : (f : Field) (m : ℕ) → m < 4294967295 → (fieldInRange (cappedField f) m ≡ fieldInRange f m) × (fieldInRange f m ≡ true → cappedField f ≡ f)
+field-settled :
+    (f : Field) (m : ℕ) → m < 4294967295 →
+    (fieldInRange (cappedField f) m ≡ fieldInRange f m) × (fieldInRange f m ≡ true → cappedField f ≡ f)
 field-settled (Known n) m s = (from-one m s n .0, λ e. ap Known (from-one m s n .1 e))
 field-settled Unread m s = (refl, λ e. refl)
 
@@ -211,7 +219,8 @@ module _ (r : Reading) where
   reading-same : inRanges r ≡ true → cappedReading r ≡ r
   unfolding inRanges
   reading-same h =
-      let t : (fieldInRange (r .«year_name») 60 ≡ true) × (fieldInRange (r .«month_number») 12 ≡ true) × (fieldInRange (r .«leap_mark») 2 ≡ true) × (fieldInRange (r .«day_of_month») 30 ≡ true) × (fieldInRange (r .«day_name») 60 ≡ true) × (fieldInRange (r .«first_name») 60 ≡ true) = six (fieldInRange (r .«year_name») 60) (fieldInRange (r .«month_number») 12) (fieldInRange (r .«leap_mark») 2) (fieldInRange (r .«day_of_month») 30) (fieldInRange (r .«day_name») 60) (fieldInRange (r .«first_name») 60) h in
+      let t = six (fieldInRange (r .«year_name») 60) (fieldInRange (r .«month_number») 12) (fieldInRange (r .«leap_mark») 2)
+      (fieldInRange (r .«day_of_month») 30) (fieldInRange (r .«day_name») 60) (fieldInRange (r .«first_name») 60) h in
       rw (
         field-settled (r .«year_name») 60 (omega arith) .1 (t .0),
         field-settled (r .«month_number») 12 (omega arith) .1 (t .1),
@@ -235,7 +244,9 @@ module _ (first last : ℕ) where
   unfolding searchAt
   thirteen-said s room e w = rw (e, w) refl
 
-  fourteen-said : (s : Reading) (room : ℕ) → ends ≡ true → windowHolds first last ≡ true → inRanges s ≡ false → searchAt s first last room ≡ refused 14
+  fourteen-said :
+      (s : Reading) (room : ℕ) → ends ≡ true → windowHolds first last ≡ true → inRanges s ≡ false →
+      searchAt s first last room ≡ refused 14
   unfolding searchAt
   fourteen-said s room e w h = rw (e, w, h) refl
 
@@ -248,17 +259,23 @@ capped-search r first last = at-ends (ends first last) refl
     ends-same : ends (capped first) (capped last) ≡ ends first last
     ends-same = ap₂ (λ (a b : Bool). a && b) (end first .0) (end last .0)
 
-    whole-ends : capped first ≡ first → capped last ≡ last → (k : ℕ) → ((s : Reading) (room : ℕ) → inRanges s ≡ inRanges r → searchAt s first last room ≡ refused k) → AlikeSearch r first last
+    whole-ends :
+        capped first ≡ first → capped last ≡ last → (k : ℕ) →
+        ((s : Reading) (room : ℕ) → inRanges s ≡ inRanges r → searchAt s first last room ≡ refused k) → AlikeSearch r first last
     whole-ends a b k h =
         both k
         (λ room. ap₂ (λ (i j : ℕ). searchAt (cappedReading r) i j room) a b ∙ h (cappedReading r) room (ranges-same r))
         (λ room. h r room refl)
 
-    at-ranges : capped first ≡ first → capped last ≡ last → ends first last ≡ true → windowHolds first last ≡ true → (t : Bool) → inRanges r ≡ t → AlikeSearch r first last
+    at-ranges :
+        capped first ≡ first → capped last ≡ last → ends first last ≡ true → windowHolds first last ≡ true →
+        (t : Bool) → inRanges r ≡ t → AlikeSearch r first last
     at-ranges a b e w true h = whole (reading-same r h) a b
     at-ranges a b e w false h = whole-ends a b 14 (λ s room i. fourteen-said first last s room e w (i ∙ h))
 
-    at-window : capped first ≡ first → capped last ≡ last → ends first last ≡ true → (t : Bool) → windowHolds first last ≡ t → AlikeSearch r first last
+    at-window :
+        capped first ≡ first → capped last ≡ last → ends first last ≡ true → (t : Bool) → windowHolds first last ≡ t →
+        AlikeSearch r first last
     at-window a b e true w = at-ranges a b e w (inRanges r) refl
     at-window a b e false w = whole-ends a b 13 (λ s room i. thirteen-said first last s room e w)
 

@@ -1,4 +1,4 @@
-// Answers laid flat for C: one struct each, with the reason in front. Numbers are widened, nothing is decided here.
+// Answers laid flat for C, each into its struct. Numbers are widened, nothing is decided here.
 ghost use mathlib.Core.Path.{_≡_};
 ghost use Rattle.dates.specs.Promises.{saidDate, saidDay};
 ghost use Rattle.facts.specs.Promises.{saidSolsticeYear, saidYear, saidMonth, saidQuarter, saidTerm};
@@ -6,34 +6,23 @@ ghost use Rattle.planets.specs.Planets.{phaseNumber};
 ghost use Rattle.planets.specs.Promises.{saidConjunction, saidNext, saidPair};
 ghost use Rattle.reading.specs.Search.{saidFound};
 ghost use Rattle.sheet.specs.Promises.{saidCounts, saidHowMany};
-ghost use Rattle.flat.specs.Flat.{
+ghost use Rattle.offered.specs.Flat.{
   givenDate,
-  noDate,
   flatDate,
-  noDay,
   flatDay,
-  noSolstice,
   flatSolstice,
   givenYear,
-  noYear,
   flatYear,
   givenMonth,
-  noMonth,
   flatMonth,
-  noQuarter,
   flatQuarter,
   givenConjunction,
-  noConjunction,
   flatConjunction,
   givenNext,
-  noNext,
   flatNext,
-  noPair,
   flatPair,
   flatFound,
-  noCounts,
   flatCounts,
-  noLength,
   flatLength,
 };
 use dates::Date;
@@ -47,6 +36,18 @@ use facts::SolsticeYearTold;
 use facts::TermTold;
 use facts::YearFacts;
 use facts::YearTold;
+use offered::CConjunction;
+use offered::CDate;
+use offered::CDay;
+use offered::CFound;
+use offered::CLength;
+use offered::CMonth;
+use offered::CNext;
+use offered::CPair;
+use offered::CQuarter;
+use offered::CSheetCounts;
+use offered::CSolstice;
+use offered::CYear;
 use planets::Conjunction;
 use planets::ConjunctionTold;
 use planets::Next;
@@ -57,126 +58,7 @@ use reading::Found;
 use sheet::HowMany;
 use sheet::SheetCounts;
 
-// A date. `number` is the month's, `leap` whether it is the leap month of that number.
-#[repr(C)]
-pub struct CDate {
-    pub reason: u32,
-    pub year: u32,
-    pub number: u32,
-    pub leap: bool,
-    pub day_of_month: u32,
-    pub month_length: u32,
-    pub day_name: u32,
-    pub year_name: u32,
-}
-
-// A day.
-#[repr(C)]
-pub struct CDay {
-    pub reason: u32,
-    pub day: u32,
-}
-
-// A solstice year: its place, its bu's head name, its months.
-#[repr(C)]
-pub struct CSolstice {
-    pub reason: u32,
-    pub ji: u32,
-    pub bu: u32,
-    pub year_in_bu: u32,
-    pub head_name: u32,
-    pub first_month: u32,
-    pub leap_remainder: u32,
-    pub months: u32,
-}
-
-// A year's own; without a leap month, `has_leap` is false and the two numbers after it are 0.
-#[repr(C)]
-pub struct CYear {
-    pub reason: u32,
-    pub name: u32,
-    pub first_month: u32,
-    pub months: u32,
-    pub has_leap: bool,
-    pub leap_number: u32,
-    pub leap_month: u32,
-}
-
-// A month by its count.
-#[repr(C)]
-pub struct CMonth {
-    pub reason: u32,
-    pub number: u32,
-    pub leap: bool,
-    pub first_day: u32,
-    pub small_remainder: u32,
-    pub month_length: u32,
-    pub first_name: u32,
-    pub eclipse: bool,
-}
-
-// A quarter of a month: its day and the parts that are left.
-#[repr(C)]
-pub struct CQuarter {
-    pub reason: u32,
-    pub day: u32,
-    pub parts: u32,
-}
-
-// A conjunction of a planet: its day, its remainder in parts of the divisor; `phase` is 1 for a morning one, 2 for an evening one,
-// 0 for neither.
-#[repr(C)]
-pub struct CConjunction {
-    pub reason: u32,
-    pub day: u32,
-    pub parts: u32,
-    pub divisor: u32,
-    pub phase: u32,
-}
-
-// The same with its count.
-#[repr(C)]
-pub struct CNext {
-    pub reason: u32,
-    pub k: u32,
-    pub day: u32,
-    pub parts: u32,
-    pub divisor: u32,
-    pub phase: u32,
-}
-
-// A planet's pair: so many years, and the conjunctions in them.
-#[repr(C)]
-pub struct CPair {
-    pub reason: u32,
-    pub years: u64,
-    pub conjunctions: u64,
-}
-
-// How many days a search found; where the lent list was too short, how many there are.
-#[repr(C)]
-pub struct CFound {
-    pub reason: u32,
-    pub total: u32,
-}
-
-// How many items each of a sheet's lists has.
-#[repr(C)]
-pub struct CSheetCounts {
-    pub reason: u32,
-    pub years: usize,
-    pub months: usize,
-    pub days: usize,
-}
-
-// How many bytes were written.
-#[repr(C)]
-pub struct CLength {
-    pub reason: u32,
-    pub length: usize,
-}
-
-// A date laid flat, the refusal of one, and an answer.
+// A date laid flat, and an answer.
 fn given_date(d: Date) -> CDate
     ensures { λ r. ⌜ r ≡ givenDate d ⌝ }
 {
@@ -193,46 +75,34 @@ fn given_date(d: Date) -> CDate
     }
 }
 
-fn no_date(reason: u8) -> CDate
-    ensures { λ r. ⌜ r ≡ noDate reason ⌝ }
-{
-    CDate {
-        reason: reason as u32,
-        year: 0,
-        number: 0,
-        leap: false,
-        day_of_month: 0,
-        month_length: 0,
-        day_name: 0,
-        year_name: 0,
-    }
-}
-
 pub fn flat_date(a: Dated) -> CDate
     ensures { λ r. ⌜ r ≡ flatDate (saidDate a) ⌝ }
 {
     match a {
         Dated::Is(d) => given_date(d),
-        Dated::Refused(why) => no_date(rule::reason_number(why)),
+        Dated::Refused(why) => CDate {
+            reason: rule::reason_number(why) as u32,
+            year: 0,
+            number: 0,
+            leap: false,
+            day_of_month: 0,
+            month_length: 0,
+            day_name: 0,
+            year_name: 0,
+        },
     }
 }
 
 // The same of a day: of a date's, and of a term's.
-fn no_day(reason: u8) -> CDay
-    ensures { λ r. ⌜ r ≡ noDay reason ⌝ }
-{
-    CDay {
-        reason: reason as u32,
-        day: 0,
-    }
-}
-
 pub fn flat_day(a: DayTold) -> CDay
     ensures { λ r. ⌜ r ≡ flatDay (saidDay a) ⌝ }
 {
     match a {
         DayTold::Is(d) => CDay { reason: 0, day: d },
-        DayTold::Refused(why) => no_day(rule::reason_number(why)),
+        DayTold::Refused(why) => CDay {
+            reason: rule::reason_number(why) as u32,
+            day: 0,
+        },
     }
 }
 
@@ -241,26 +111,14 @@ pub fn flat_term(a: TermTold) -> CDay
 {
     match a {
         TermTold::Is(d) => CDay { reason: 0, day: d },
-        TermTold::Refused(why) => no_day(rule::reason_number(why)),
+        TermTold::Refused(why) => CDay {
+            reason: rule::reason_number(why) as u32,
+            day: 0,
+        },
     }
 }
 
 // The same of a solstice year.
-fn no_solstice(reason: u8) -> CSolstice
-    ensures { λ r. ⌜ r ≡ noSolstice reason ⌝ }
-{
-    CSolstice {
-        reason: reason as u32,
-        ji: 0,
-        bu: 0,
-        year_in_bu: 0,
-        head_name: 0,
-        first_month: 0,
-        leap_remainder: 0,
-        months: 0,
-    }
-}
-
 pub fn flat_solstice(a: SolsticeYearTold) -> CSolstice
     ensures { λ r. ⌜ r ≡ flatSolstice (saidSolsticeYear a) ⌝ }
 {
@@ -275,7 +133,16 @@ pub fn flat_solstice(a: SolsticeYearTold) -> CSolstice
             leap_remainder: s.leap_remainder as u32,
             months: s.months as u32,
         },
-        SolsticeYearTold::Refused(why) => no_solstice(rule::reason_number(why)),
+        SolsticeYearTold::Refused(why) => CSolstice {
+            reason: rule::reason_number(why) as u32,
+            ji: 0,
+            bu: 0,
+            year_in_bu: 0,
+            head_name: 0,
+            first_month: 0,
+            leap_remainder: 0,
+            months: 0,
+        },
     }
 }
 
@@ -306,26 +173,20 @@ fn given_year(y: YearFacts) -> CYear
     }
 }
 
-fn no_year(reason: u8) -> CYear
-    ensures { λ r. ⌜ r ≡ noYear reason ⌝ }
-{
-    CYear {
-        reason: reason as u32,
-        name: 0,
-        first_month: 0,
-        months: 0,
-        has_leap: false,
-        leap_number: 0,
-        leap_month: 0,
-    }
-}
-
 pub fn flat_year(a: YearTold) -> CYear
     ensures { λ r. ⌜ r ≡ flatYear (saidYear a) ⌝ }
 {
     match a {
         YearTold::Is(y) => given_year(y),
-        YearTold::Refused(why) => no_year(rule::reason_number(why)),
+        YearTold::Refused(why) => CYear {
+            reason: rule::reason_number(why) as u32,
+            name: 0,
+            first_month: 0,
+            months: 0,
+            has_leap: false,
+            leap_number: 0,
+            leap_month: 0,
+        },
     }
 }
 
@@ -346,41 +207,25 @@ fn given_month(f: MonthFacts) -> CMonth
     }
 }
 
-fn no_month(reason: u8) -> CMonth
-    ensures { λ r. ⌜ r ≡ noMonth reason ⌝ }
-{
-    CMonth {
-        reason: reason as u32,
-        number: 0,
-        leap: false,
-        first_day: 0,
-        small_remainder: 0,
-        month_length: 0,
-        first_name: 0,
-        eclipse: false,
-    }
-}
-
 pub fn flat_month(a: MonthTold) -> CMonth
     ensures { λ r. ⌜ r ≡ flatMonth (saidMonth a) ⌝ }
 {
     match a {
         MonthTold::Is(f) => given_month(f),
-        MonthTold::Refused(why) => no_month(rule::reason_number(why)),
+        MonthTold::Refused(why) => CMonth {
+            reason: rule::reason_number(why) as u32,
+            number: 0,
+            leap: false,
+            first_day: 0,
+            small_remainder: 0,
+            month_length: 0,
+            first_name: 0,
+            eclipse: false,
+        },
     }
 }
 
 // The same of a quarter.
-fn no_quarter(reason: u8) -> CQuarter
-    ensures { λ r. ⌜ r ≡ noQuarter reason ⌝ }
-{
-    CQuarter {
-        reason: reason as u32,
-        day: 0,
-        parts: 0,
-    }
-}
-
 pub fn flat_quarter(a: QuarterTold) -> CQuarter
     ensures { λ r. ⌜ r ≡ flatQuarter (saidQuarter a) ⌝ }
 {
@@ -390,7 +235,11 @@ pub fn flat_quarter(a: QuarterTold) -> CQuarter
             day: q.day,
             parts: q.parts as u32,
         },
-        QuarterTold::Refused(why) => no_quarter(rule::reason_number(why)),
+        QuarterTold::Refused(why) => CQuarter {
+            reason: rule::reason_number(why) as u32,
+            day: 0,
+            parts: 0,
+        },
     }
 }
 
@@ -418,24 +267,18 @@ fn given_conjunction(c: Conjunction) -> CConjunction
     }
 }
 
-fn no_conjunction(reason: u8) -> CConjunction
-    ensures { λ r. ⌜ r ≡ noConjunction reason ⌝ }
-{
-    CConjunction {
-        reason: reason as u32,
-        day: 0,
-        parts: 0,
-        divisor: 0,
-        phase: 0,
-    }
-}
-
 pub fn flat_conjunction(a: ConjunctionTold) -> CConjunction
     ensures { λ r. ⌜ r ≡ flatConjunction (saidConjunction a) ⌝ }
 {
     match a {
         ConjunctionTold::Is(c) => given_conjunction(c),
-        ConjunctionTold::Refused(why) => no_conjunction(rule::reason_number(why)),
+        ConjunctionTold::Refused(why) => CConjunction {
+            reason: rule::reason_number(why) as u32,
+            day: 0,
+            parts: 0,
+            divisor: 0,
+            phase: 0,
+        },
     }
 }
 
@@ -453,35 +296,19 @@ fn given_next(n: Next) -> CNext
     }
 }
 
-fn no_next(reason: u8) -> CNext
-    ensures { λ r. ⌜ r ≡ noNext reason ⌝ }
-{
-    CNext {
-        reason: reason as u32,
-        k: 0,
-        day: 0,
-        parts: 0,
-        divisor: 0,
-        phase: 0,
-    }
-}
-
 pub fn flat_next(a: NextTold) -> CNext
     ensures { λ r. ⌜ r ≡ flatNext (saidNext a) ⌝ }
 {
     match a {
         NextTold::Is(n) => given_next(n),
-        NextTold::Refused(why) => no_next(rule::reason_number(why)),
-    }
-}
-
-fn no_pair(reason: u8) -> CPair
-    ensures { λ r. ⌜ r ≡ noPair reason ⌝ }
-{
-    CPair {
-        reason: reason as u32,
-        years: 0,
-        conjunctions: 0,
+        NextTold::Refused(why) => CNext {
+            reason: rule::reason_number(why) as u32,
+            k: 0,
+            day: 0,
+            parts: 0,
+            divisor: 0,
+            phase: 0,
+        },
     }
 }
 
@@ -494,7 +321,11 @@ pub fn flat_pair(a: PairTold) -> CPair
             years: p.years,
             conjunctions: p.conjunctions,
         },
-        PairTold::Refused(why) => no_pair(rule::reason_number(why)),
+        PairTold::Refused(why) => CPair {
+            reason: rule::reason_number(why) as u32,
+            years: 0,
+            conjunctions: 0,
+        },
     }
 }
 
@@ -519,17 +350,6 @@ pub fn flat_found(a: Found) -> CFound
 }
 
 // The same of a sheet's counts.
-fn no_counts(reason: u8) -> CSheetCounts
-    ensures { λ r. ⌜ r ≡ noCounts reason ⌝ }
-{
-    CSheetCounts {
-        reason: reason as u32,
-        years: 0,
-        months: 0,
-        days: 0,
-    }
-}
-
 pub fn flat_counts(a: SheetCounts) -> CSheetCounts
     ensures { λ r. ⌜ r ≡ flatCounts (saidCounts a) ⌝ }
 {
@@ -540,20 +360,16 @@ pub fn flat_counts(a: SheetCounts) -> CSheetCounts
             months: c.months,
             days: c.days,
         },
-        SheetCounts::Refused(why) => no_counts(rule::reason_number(why)),
+        SheetCounts::Refused(why) => CSheetCounts {
+            reason: rule::reason_number(why) as u32,
+            years: 0,
+            months: 0,
+            days: 0,
+        },
     }
 }
 
 // The same of a length.
-fn no_length(reason: u8) -> CLength
-    ensures { λ r. ⌜ r ≡ noLength reason ⌝ }
-{
-    CLength {
-        reason: reason as u32,
-        length: 0,
-    }
-}
-
 pub fn flat_length(a: HowMany) -> CLength
     ensures { λ r. ⌜ r ≡ flatLength (saidHowMany a) ⌝ }
 {
@@ -562,6 +378,9 @@ pub fn flat_length(a: HowMany) -> CLength
             reason: 0,
             length: n,
         },
-        HowMany::Refused(why) => no_length(rule::reason_number(why)),
+        HowMany::Refused(why) => CLength {
+            reason: rule::reason_number(why) as u32,
+            length: 0,
+        },
     }
 }

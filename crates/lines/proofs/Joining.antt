@@ -17,7 +17,8 @@ pub number-and-mark : {w v a b d : ℕ} {o o′ o″ : List ℕ} (k m : ℕ) {re
 number-and-mark k m {rest} p q = put-as (ap (λ (l : List ℕ). 32 ∷ l) (append-assoc (decimal k) (32 ∷ m ∷ []) rest)) (then p q)
 
 -- a year lists months in range, 13 at most
-pub months-listed : (y : ℕ) → YearInRange y → (f : YearFacts) → f ≡ yearFacts y → (f .«first_month» + f .months ≤ 507600) × (f .months ≤ 13)
+pub months-listed :
+    (y : ℕ) → YearInRange y → (f : YearFacts) → f ≡ yearFacts y → (f .«first_month» + f .months ≤ 507600) × (f .months ≤ 13)
 unfolding yearFacts
 months-listed y h f e =
     let a = ap (λ (g : YearFacts). g .«first_month») e in

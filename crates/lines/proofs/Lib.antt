@@ -1,5 +1,3 @@
--- Laws of the printed lines, and the proofs of the statements.
-pub mod Cases
+-- Laws of texts put one after the other, and of a text handed over.
 pub mod Joining
 pub mod Printing
-pub mod Paper

@@ -1,7 +1,7 @@
 -- Laws of a text made in a space of one's own and handed over: what does not exist first, 12 last. Assumes nothing.
 use Prim.Native.Nat.{ℕ, _≤_, _<_}
 use native.Mathlib.Omega.{arith}
-use mathlib.Core.Path.{_≡_, refl, ap, sym, _∙_, subst}
+use mathlib.Core.Path.{_≡_, ap, sym, _∙_}
 use mathlib.Core.Bool.{Bool, true, false}
 use mathlib.Core.List.{List}
 use lib.Dec.{leb}
@@ -9,7 +9,7 @@ use lib.ListN.{length, take, drop}
 use lib.Seq.{take-append-seam}
 use borrow.Author.Tests.{le-leb, lt-leb}
 use Rattle.rule.specs.Lists.{placed}
-use Rattle.rule.specs.Reasons.{Answer, is, refused, guard, reasonNumber, intoRoom}
+use Rattle.rule.specs.Reasons.{is, guard, reasonNumber, intoRoom}
 use Rattle.rule.specs.declared.Reason.{Reason}
 use Rattle.rule.specs.declared.Reason.the-variants.{LentTooShort}
 use Rattle.rule.proofs.Answers.{stops, passes}
@@ -17,14 +17,8 @@ use Rattle.rule.proofs.Stores.{from-front}
 use Rattle.sheet.specs.declared.HowMany.{HowMany}
 use Rattle.sheet.specs.declared.HowMany.the-variants as HowMany'
 use Rattle.fields.specs.Fields.{Put}
-use Rattle.lines.specs.Promises.{Printed}
-
-printed-as : {a b : Answer (List ℕ)} {o o′ : List ℕ} {r : HowMany} → a ≡ b → Printed a o r o′ → Printed b o r o′
-printed-as {o = o} {o′} {r} e p = subst (λ (x : Answer (List ℕ)). Printed x o r o′) e p
-
--- a refusal, and nothing changed
-pub printed-refused : {a : Answer (List ℕ)} (o : List ℕ) (r : Reason) → a ≡ refused (reasonNumber r) → Printed a o (HowMany'.Refused r) o
-printed-refused o r e = printed-as (sym e) (record { answer = refl; buffer = refl })
+use Rattle.penned.specs.Promises.{Printed}
+use Rattle.penned.proofs.Refusing.{printed-as, printed-refused}
 
 -- 12, or the whole text at the front of the buffer
 pub too-short : (s o : List ℕ) → length o < length s → Printed (intoRoom (length o) s) o (HowMany'.Refused LentTooShort) o
@@ -52,5 +46,7 @@ module _ (t : Bool) (text o : List ℕ) where
   pub not-there : (r : Reason) → t ≡ false → Printed (guard t (reasonNumber r) (intoRoom (length o) text)) o (HowMany'.Refused r) o
   not-there r e = printed-refused o r (stops t (reasonNumber r) (intoRoom (length o) text) e)
 
-  pub there : (k : ℕ) → t ≡ true → {s o′ : List ℕ} {r : HowMany} → s ≡ text → Printed (intoRoom (length o) s) o r o′ → Printed (guard t k (intoRoom (length o) text)) o r o′
+  pub there :
+      (k : ℕ) → t ≡ true → {s o′ : List ℕ} {r : HowMany} → s ≡ text →
+      Printed (intoRoom (length o) s) o r o′ → Printed (guard t k (intoRoom (length o) text)) o r o′
   there k e f p = printed-as (ap (intoRoom (length o)) f ∙ sym (passes t k (intoRoom (length o) text) e)) p

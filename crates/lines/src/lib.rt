@@ -8,7 +8,7 @@ ghost use Rattle.rule.specs.Reasons.{reasonNumber, intoRoom};
 ghost use Rattle.rule.specs.Lists.{those};
 ghost use Rattle.rule.specs.Rule.{numberOf, leapMark};
 ghost use Rattle.fields.specs.Fields.{Put, decimal, leapText, joined, each};
-ghost use Rattle.lines.specs.Lines.{
+ghost use Rattle.penned.specs.Lines.{
   fieldsOfMonth,
   fieldsOfYear,
   fieldsOfDay,
@@ -18,7 +18,7 @@ ghost use Rattle.lines.specs.Lines.{
   dayItem,
   refusedLine,
 };
-ghost use Rattle.lines.specs.Promises.{Printed, PrintYear, PrintMonthLine, PrintMonth, PrintDay};
+ghost use Rattle.penned.specs.Promises.{Printed, PrintYear, PrintMonthLine, PrintMonth, PrintDay};
 use dates::Date;
 use facts::MonthFacts;
 use facts::YearFacts;

@@ -8,7 +8,7 @@ use lib.ListN.{length, take, drop, take-append-drop}
 use lib.Seq.{take-all, length-take-le}
 use Rattle.rule.specs.Reasons.{is}
 use Rattle.sheet.specs.Sheet.{listsIn, readSheet}
-use Rattle.lines.specs.Lines.{printed, listing}
+use Rattle.penned.specs.Lines.{printed, listing}
 use Rattle.listed.proofs.Fronts.{sheet-front}
 use Rattle.listed.specs.Paper as Paper
 

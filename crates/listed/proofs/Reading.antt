@@ -98,8 +98,12 @@ module _ {s y m d y′ m′ d′ : List ℕ} {r : SheetCounts} (p : ReadSheet s 
       subst GoodLists e (good-lists s (g .sections))
 
 -- a sheet that came back from lists of 1,000 places comes back for its own fault: such lists are never too short
-module _ {s y m d y′ m′ d′ : List ℕ} {a : SheetCounts} (p : ReadSheet s y m d a y′ m′ d′) {r : Reason} (e : a ≡ Counts'.Refused r) (hy : 1000 ≤ length y) (hm : 1000 ≤ length m) (hd : 1000 ≤ length d) where
-  back : (a : Answer Lists) → readInto s (length y) (length m) (length d) ≡ a → _≡_ {A = Answer Counted} (refused (reasonNumber r)) (andThen a (λ l. is (counted l)))
+module _
+    {s y m d y′ m′ d′ : List ℕ} {a : SheetCounts} (p : ReadSheet s y m d a y′ m′ d′) {r : Reason} (e : a ≡ Counts'.Refused r)
+    (hy : 1000 ≤ length y) (hm : 1000 ≤ length m) (hd : 1000 ≤ length d) where
+  back :
+      (a : Answer Lists) → readInto s (length y) (length m) (length d) ≡ a →
+      _≡_ {A = Answer Counted} (refused (reasonNumber r)) (andThen a (λ l. is (counted l)))
   back b f = ap saidCounts (sym e) ∙ p .answer ∙ ap (λ (b : Answer Lists). andThen b (λ l. is (counted l))) f
 
   no-list : (l : Lists) → readSheet s ≡ is l → readInto s (length y) (length m) (length d) ≡ is l
@@ -112,11 +116,13 @@ module _ {s y m d y′ m′ d′ : List ℕ} {a : SheetCounts} (p : ReadSheet s 
       (omega (arith, ap (λ (c : Counted). c .months) f, a .0 .months .few, hm))
       (omega (arith, ap (λ (c : Counted). c .days) f, a .0 .days .few, hd))
 
-  then-back : (a : Answer Lists) → readSheet s ≡ a → readInto s (length y) (length m) (length d) ≡ andThen a (λ z. guard (room (listsIn s) (length y) (length m) (length d)) 12 (is (listsIn s)))
+  -- what is read, where there is room for it
+  abbrev roomFor : Answer Lists
+  roomFor = guard (room (listsIn s) (length y) (length m) (length d)) 12 (is (listsIn s))
+
+  then-back : (a : Answer Lists) → readSheet s ≡ a → readInto s (length y) (length m) (length d) ≡ andThen a (λ z. roomFor)
   unfolding readSheet readInto
-  then-back a e =
-      sheet-then s (listsIn s) (guard (room (listsIn s) (length y) (length m) (length d)) 12 (is (listsIn s)))
-      ∙ ap (λ (b : Answer Lists). andThen b (λ z. guard (room (listsIn s) (length y) (length m) (length d)) 12 (is (listsIn s)))) e
+  then-back a e = sheet-then s (listsIn s) roomFor ∙ ap (λ (b : Answer Lists). andThen b (λ z. roomFor)) e
 
   go : (a : Answer Lists) → readSheet s ≡ a → readSheet s ≡ refused (reasonNumber r)
   go (is l) e =

@@ -5,7 +5,7 @@ use mathlib.Core.Path.{_≡_}
 use mathlib.Core.List.{List}
 use lib.ListN.{length, take}
 use Rattle.fields.specs.Fields.{Put}
-use Rattle.lines.specs.Lines.{listing}
+use Rattle.penned.specs.Lines.{listing}
 
 -- so many bytes of an input the listing program holds
 abbrev pub inputHeld : ℕ

@@ -5,7 +5,7 @@ ghost use lib.ListN.{length};
 ghost use Rattle.sheet.specs.Sheet.{yearItems, monthItems, dayItems};
 ghost use Rattle.sheet.specs.Paper.{GoodList, GoodLists};
 ghost use Rattle.fields.specs.Fields.{Put, each};
-ghost use Rattle.lines.specs.Lines.{yearBlock, monthItem, dayItem, listingOf, listing};
+ghost use Rattle.penned.specs.Lines.{yearBlock, monthItem, dayItem, listingOf, listing};
 ghost use Rattle.listed.specs.Paper.{inputHeld, InputListed};
 use sheet::SheetCounts;
 

@@ -47,7 +47,7 @@ use Rattle.reading.specs.Readings.{monthFits, dayFits, fits, inRanges, fitting}
 use Rattle.reading.specs.Search.{total, searchAt}
 use Rattle.reading.specs.Paper.{allUnread}
 use Rattle.fields.specs.Fields.{word, digits, decimal, followed, each}
-use Rattle.lines.specs.Paper.{inLines}
+use Rattle.penned.specs.Paper.{inLines}
 use Rattle.told.specs.Answers.{
   wordsNumbered,
   refusedText,

@@ -23,7 +23,7 @@ use Rattle.planets.proofs.Reducing.{reduction}
 use Rattle.fields.specs.Fields.{word, decimal, joined, lined, Put}
 use Rattle.fields.proofs.Putting.{wide, then, put-as}
 use Rattle.fields.proofs.Paper.{joined-more}
-use Rattle.lines.specs.Lines.{wordsOf}
+use Rattle.penned.specs.Lines.{wordsOf}
 use Rattle.told.specs.Answers.{wordsNumbered, refusedText, told}
 
 -- the text of what a call said is the text of what it promised to say; v bytes are room for it if w are

@@ -26,7 +26,7 @@ use Rattle.reading.specs.declared.Reading.{Reading}
 use Rattle.reading.specs.Readings.{windowDays, fitting}
 use Rattle.reading.specs.Search.{searchAt}
 use Rattle.fields.specs.Fields.{word, decimal, lined, each}
-use Rattle.lines.specs.Lines.{fieldsOfMonth, fieldsOfYear, fieldsOfDay, wordsOf}
+use Rattle.penned.specs.Lines.{fieldsOfMonth, fieldsOfYear, fieldsOfDay, wordsOf}
 
 -- the words of the reason with number k (Paper, Words-of-a-number)
 unfoldable pub wordsNumbered : ℕ → List ℕ

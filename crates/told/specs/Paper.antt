@@ -41,7 +41,7 @@ use Rattle.reading.specs.Readings.{windowDays, fitting}
 use Rattle.reading.specs.Search.{searchAt}
 use Rattle.reading.specs.Paper.{FieldsInRange, IsWindow}
 use Rattle.fields.specs.Fields.{word, decimal, mark, each, letterL, letterE}
-use Rattle.lines.specs.Lines.{wordsOf}
+use Rattle.penned.specs.Lines.{wordsOf}
 use Rattle.told.specs.Answers.{
   places,
   wordsNumbered,

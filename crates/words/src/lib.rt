@@ -2,7 +2,7 @@
 ghost use Prim.Native.Nat.{_+_, _≤_};
 ghost use lib.ListN.{length};
 ghost use Rattle.fields.specs.Fields.{Put};
-ghost use Rattle.lines.specs.Lines.{wordsOf};
+ghost use Rattle.penned.specs.Lines.{wordsOf};
 use rule::Reason;
 
 // The words of a reason.

@@ -3,7 +3,7 @@ use native.Mathlib.Omega.{arith}
 use mathlib.Core.List.{[], _∷_}
 use Rattle.fields.specs.Fields.{decimal, followed}
 use Rattle.fields.proofs.Putting.{then}
-use Rattle.lines.specs.Lines.{fieldsOfDay}
+use Rattle.penned.specs.Lines.{fieldsOfDay}
 use Rattle.told.specs.Answers.{dayLineOf}
 use Rattle.told.proofs.Telling.{more-fields}
 use borrow.Author.Needs.{needs}

@@ -3,7 +3,7 @@ use native.Mathlib.Omega.{arith}
 use mathlib.Core.List.{_∷_}
 use Rattle.fields.specs.Fields.{word, decimal, followed}
 use Rattle.fields.proofs.Putting.{then}
-use Rattle.lines.specs.Lines.{fieldsOfYear}
+use Rattle.penned.specs.Lines.{fieldsOfYear}
 use Rattle.told.specs.Answers.{fieldsOfLeap, yearLine}
 use Rattle.told.proofs.Telling.{more-fields}
 use borrow.Author.Needs.{needs}

@@ -6,17 +6,10 @@ use borrow.Author.Needs.{needs}
 use Rattle.fields.proofs.put_decimal.Statement.{statement}
 use Rattle.fields.proofs.put_decimal.Tie as tie
 
--- src/lib.rt:49:5
-put-digits-requires : tie.Need-put-digits-requires
-put-digits-requires c κs = omega (arith, decimal-short 9 (c .before .before .args .n) (omega arith))
-
--- src/lib.rt:45:1
-same-length : tie.Need-same-length
-same-length c = search needs
-
--- src/lib.rt:45:1
-returns : tie.Need-returns
-returns c = wide (decimal-short 9 (c .before .before .before .before .before .args .n) (omega arith)) (c .before .before .put-digits .ensures)
-
 pub put-decimal-spec : {M : Type 1} → statement M
-put-decimal-spec = tie.close (tie.spec put-digits-requires same-length returns)
+put-decimal-spec =
+    tie.close
+    (tie.spec
+    (λ c κs. omega (arith, decimal-short 9 (c .before .before .args .n) (omega arith)))
+    (λ c. search needs)
+    (λ c. wide (decimal-short 9 (c .before .before .before .before .before .args .n) (omega arith)) (c .before .before .put-digits .ensures)))

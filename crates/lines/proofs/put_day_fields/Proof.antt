@@ -8,35 +8,21 @@ use borrow.Author.Needs.{needs}
 use Rattle.lines.proofs.put_day_fields.Statement.{statement}
 use Rattle.lines.proofs.put_day_fields.Tie as tie
 
-slice-aggregate-put-bytes : tie.Need-slice-aggregate-put-bytes
-slice-aggregate-put-bytes c = search needs
-
-put-bytes-requires : tie.Need-put-bytes-requires
-put-bytes-requires c κs = search needs
-
-put-next-requires : tie.Need-put-next-requires
-put-next-requires c κs = search needs
-
-cast-put-next : tie.Need-cast-put-next
-cast-put-next c = search needs
-
-put-next-requires-2 : tie.Need-put-next-requires-2
-put-next-requires-2 c κs = search needs
-
-put-number-and-mark-requires : tie.Need-put-number-and-mark-requires
-put-number-and-mark-requires c κs = search needs
-
-cast-put-next-2 : tie.Need-cast-put-next-2
-cast-put-next-2 c = search needs
-
-put-next-requires-3 : tie.Need-put-next-requires-3
-put-next-requires-3 c κs = search needs
-
-cast-put-next-3 : tie.Need-cast-put-next-3
-cast-put-next-3 c = search needs
-
-put-next-requires-4 : tie.Need-put-next-requires-4
-put-next-requires-4 c κs =
+pub put-day-fields-spec : {M : Type 1} → statement M
+unfolding followed
+put-day-fields-spec =
+    tie.close
+    (tie.spec
+    (λ c. search needs)
+    (λ c κs. search needs)
+    (λ c κs. search needs)
+    (λ c. search needs)
+    (λ c κs. search needs)
+    (λ c κs. search needs)
+    (λ c. search needs)
+    (λ c κs. search needs)
+    (λ c. search needs)
+    (λ c κs.
     let p5 = c .before .before .before .before in
     let p4 = p5 .before .before .before .before .before in
     let p3 = p4 .before .before .before .before in
@@ -54,39 +40,18 @@ put-next-requires-4 c κs =
       p4 .put-number-and-mark .ensures .few,
       put-kept (p5 .put-next3 .ensures),
       p5 .put-next3 .ensures .few,
-    )
-
-same-length : tie.Need-same-length
-same-length c = search needs
-
-returns : tie.Need-returns
-unfolding followed
-returns c =
+    ))
+    (λ c. search needs)
+    (λ c.
     let p6 = c .before .before in
     let p5 = p6 .before .before .before .before .before in
     let p4 = p5 .before .before .before .before .before in
     let p3 = p4 .before .before .before .before in
     let p2 = p3 .before .before .before .before .before in
     let p1 = p2 .before .before .before .before in
-    let m = c .before .before .before .before .before .before .before .before .before .before .before .before .before .before .before .before .before .before .before .before .before .before .before .before .before .before .before .before .before .args .d .month in
+    let m = p1 .before .before .before .before .args .d .month in
     then (p1 .put-bytes .ensures)
     (then (p2 .put-next .ensures)
     (then (p3 .put-next2 .ensures)
-    (number-and-mark (numberOf m) (mark (leapMark m) letterL) (p4 .put-number-and-mark .ensures) (then (p5 .put-next3 .ensures) (p6 .put-next4 .ensures)))))
-
-pub put-day-fields-spec : {M : Type 1} → statement M
-put-day-fields-spec =
-    tie.close
-    (tie.spec
-    slice-aggregate-put-bytes
-    put-bytes-requires
-    put-next-requires
-    cast-put-next
-    put-next-requires-2
-    put-number-and-mark-requires
-    cast-put-next-2
-    put-next-requires-3
-    cast-put-next-3
-    put-next-requires-4
-    same-length
-    returns)
+    (number-and-mark (numberOf m) (mark (leapMark m) letterL) (p4 .put-number-and-mark .ensures)
+    (then (p5 .put-next3 .ensures) (p6 .put-next4 .ensures)))))))

@@ -6,7 +6,7 @@ use mathlib.Core.Bool.{true}
 use Rattle.rule.specs.Lists.{those}
 use Rattle.fields.specs.Fields.{each, Put}
 use Rattle.fields.proofs.Putting.{put-kept, wide, put-none, put-as, each-count, turn}
-use Rattle.lines.specs.Lines.{monthLined}
+use Rattle.penned.specs.Lines.{monthLined}
 use Rattle.lines.proofs.put_months.Statement.{statement}
 use Rattle.lines.proofs.put_months.Tie as tie
 
@@ -17,49 +17,27 @@ Inv-loop first months out₀ at to₀ i₀ out to i =
 abbrev μ-loop : tie.MeasureT-loop
 μ-loop first months out₀ at to₀ i₀ out to i = months - i
 
-loop-holds : tie.Need-loop-holds Inv-loop μ-loop
-unfolding those each
-loop-holds c = (omega arith, put-none (c .before .args .out .now) (c .before .args .at))
-
-add-put-month-line : tie.Need-add-put-month-line Inv-loop μ-loop
-add-put-month-line c = omega arith
-
-put-month-line-requires : tie.Need-put-month-line-requires Inv-loop μ-loop
-put-month-line-requires c κs =
-    let inv = c .before .before .loop .inv in
-    (omega arith, omega (arith, put-kept (inv .1), inv .1 .few))
-
-add-i : tie.Need-add-i Inv-loop μ-loop
-add-i c = omega arith
-
-loop-less : tie.Need-loop-less Inv-loop μ-loop
-loop-less c = omega arith
-
-loop-again : tie.Need-loop-again Inv-loop μ-loop
-loop-again c =
-    let l = c .before .before .before .before .before in
-    (omega arith, turn (l .loop .i) (each-count monthLined (l .before .before .args .first) (l .loop .i)) (l .loop .inv .1) (c .before .before .put-month-line .ensures))
-
-same-length : tie.Need-same-length Inv-loop μ-loop
-same-length c = put-kept (c .before .loop .inv .1)
-
-returns : tie.Need-returns Inv-loop μ-loop
-returns c =
-    let inv = c .before .loop .inv in
-    let e : c .before .loop .i ≡ c .before .before .before .args .months = omega (arith, inv .0, c .loop-test .left) in
-    wide (omega (arith, e)) (put-as (ap (λ (i : ℕ). each monthLined (those (λ n. true) (c .before .before .before .args .first) i)) e) (inv .1))
-
 pub put-months-spec : {M : Type 1} → statement M
+unfolding those each
 put-months-spec =
     tie.close
     (tie.spec
     Inv-loop
     μ-loop
-    loop-holds
-    add-put-month-line
-    put-month-line-requires
-    add-i
-    loop-less
-    loop-again
-    same-length
-    returns)
+    (λ c. (omega arith, put-none (c .before .args .out .now) (c .before .args .at)))
+    (λ c. omega arith)
+    (λ c κs.
+    let inv = c .before .before .loop .inv in
+    (omega arith, omega (arith, put-kept (inv .1), inv .1 .few)))
+    (λ c. omega arith)
+    (λ c. omega arith)
+    (λ c.
+    let l = c .before .before .before .before .before in
+    let more = each-count monthLined (l .before .before .args .first) (l .loop .i) in
+    (omega arith, turn (l .loop .i) more (l .loop .inv .1) (c .before .before .put-month-line .ensures)))
+    (λ c. put-kept (c .before .loop .inv .1))
+    (λ c.
+    let l = c .before .loop in
+    let s = c .before .before .before .args in
+    let e : l .i ≡ s .months = omega (arith, l .inv .0, c .loop-test .left) in
+    wide (omega (arith, e)) (put-as (ap (λ (i : ℕ). each monthLined (those (λ n. true) (s .first) i)) e) (l .inv .1))))

@@ -3,7 +3,7 @@ use Prim.Native.Nat.{_-_}
 use native.Mathlib.Omega.{arith}
 use lib.ListN.{length}
 use Rattle.fields.proofs.Putting.{put-kept}
-use Rattle.lines.specs.Lines.{dayItem}
+use Rattle.penned.specs.Lines.{dayItem}
 use Rattle.listed.proofs.Items.{ItemsPut, no-item, room-for-item, next-item, all-items}
 use Rattle.listed.proofs.put_day_items.Statement.{statement}
 use Rattle.listed.proofs.put_day_items.Tie as tie
@@ -14,51 +14,25 @@ Inv-loop days out₀ at to₀ i₀ out to i = ItemsPut 61 dayItem days out₀ at
 abbrev μ-loop : tie.MeasureT-loop
 μ-loop days out₀ at to₀ i₀ out to i = length days - i
 
-loop-holds : tie.Need-loop-holds Inv-loop μ-loop
-loop-holds c = no-item 61 dayItem (c .before .before .args .days .now) (c .before .before .args .out .now) (c .before .before .args .at)
-
-mul-put-day : tie.Need-mul-put-day Inv-loop μ-loop
-mul-put-day c = omega arith
-
-shared-slice-read-put-day : tie.Need-shared-slice-read-put-day Inv-loop μ-loop
-shared-slice-read-put-day c = omega arith
-
-put-day-requires : tie.Need-put-day-requires Inv-loop μ-loop
-put-day-requires c κs =
-    let l = c .before .before .before in
-    let h = c .before .before .loop-test .taken in
-    (c .before .before .before .before .before .before .pre .0 .items (l .loop .i) h .1, room-for-item (l .loop .inv) h (c .before .before .before .before .before .before .pre .1))
-
-add-i : tie.Need-add-i Inv-loop μ-loop
-add-i c = omega arith
-
-loop-less : tie.Need-loop-less Inv-loop μ-loop
-loop-less c = omega arith
-
-loop-again : tie.Need-loop-again Inv-loop μ-loop
-loop-again c =
-    let p = c .before .before in
-    let l = p .before .before .before in
-    next-item (l .before .loop .inv) (l .loop-test .taken) _ (p .put-day .ensures) (omega arith)
-
-same-length : tie.Need-same-length Inv-loop μ-loop
-same-length c = put-kept (c .before .loop .inv .put)
-
-returns : tie.Need-returns Inv-loop μ-loop
-returns c = all-items (c .before .loop .inv) (c .loop-test .left)
-
 pub put-day-items-spec : {M : Type 1} → statement M
 put-day-items-spec =
     tie.close
     (tie.spec
     Inv-loop
     μ-loop
-    loop-holds
-    mul-put-day
-    shared-slice-read-put-day
-    put-day-requires
-    add-i
-    loop-less
-    loop-again
-    same-length
-    returns)
+    (λ c. no-item 61 dayItem (c .before .before .args .days .now) (c .before .before .args .out .now) (c .before .before .args .at))
+    (λ c. omega arith)
+    (λ c. omega arith)
+    (λ c κs.
+    let l = c .before .before .before in
+    let h = c .before .before .loop-test .taken in
+    let asked = l .before .before .before .pre in
+    (asked .0 .items (l .loop .i) h .1, room-for-item (l .loop .inv) h (asked .1)))
+    (λ c. omega arith)
+    (λ c. omega arith)
+    (λ c.
+    let p = c .before .before in
+    let l = p .before .before .before in
+    next-item (l .before .loop .inv) (l .loop-test .taken) _ (p .put-day .ensures) (omega arith))
+    (λ c. put-kept (c .before .loop .inv .put))
+    (λ c. all-items (c .before .loop .inv) (c .loop-test .left)))

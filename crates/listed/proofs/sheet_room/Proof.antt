@@ -3,8 +3,8 @@ use mathlib.Core.Path.{refl}
 use Rattle.listed.proofs.sheet_room.Statement.{statement}
 use Rattle.listed.proofs.sheet_room.Tie as tie
 
-returns : tie.Need-returns
-returns c = refl
-
 pub sheet-room-spec : {M : Type 1} → statement M
-sheet-room-spec = tie.close (tie.spec returns)
+sheet-room-spec =
+    tie.close
+    (tie.spec
+    (λ c. refl))

@@ -2,7 +2,7 @@
 use native.Mathlib.Omega.{arith}
 use mathlib.Core.Path.{refl, ap, sym}
 use Rattle.fields.proofs.Putting.{put-kept, wide, put-as}
-use Rattle.lines.specs.Lines.{wordsOf}
+use Rattle.penned.specs.Lines.{wordsOf}
 use borrow.Author.Needs.{needs}
 use Rattle.words.proofs.put_words.Statement.{statement}
 use Rattle.words.proofs.put_words.Tie as tie

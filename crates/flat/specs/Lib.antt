@@ -1,3 +1,0 @@
--- Answers laid flat: definitions, and statements.
-pub mod Flat
-pub mod Paper

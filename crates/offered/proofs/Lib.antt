@@ -1,0 +1,7 @@
+-- Figures of the paper laid flat; a refusal is bare, and nothing is lost; every refusal is one of the reasons; four printed texts; and
+-- the proofs of the statements.
+pub mod Cases
+pub mod Structs
+pub mod Sound
+pub mod Texts
+pub mod Paper

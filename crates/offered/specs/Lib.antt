@@ -1,0 +1,5 @@
+-- What C is offered: answers laid flat, what the calls promise, and statements of both.
+pub mod Flat
+pub mod Structs
+pub mod Promises
+pub mod Paper

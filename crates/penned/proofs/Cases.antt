@@ -1,0 +1,62 @@
+-- Four texts, and a case of two reasons, at which a wrong definition shows at once. Assumes nothing.
+use Prim.Native.Nat.{ℕ}
+use mathlib.Core.Path.{_≡_, refl}
+use mathlib.Core.List.{[], _∷_}
+use Rattle.rule.specs.Counts.{dayName, yearName}
+use Rattle.rule.specs.Rule.{
+  monthStart,
+  monthLength,
+  monthOfDay,
+  yearOfMonth,
+  firstMonth,
+  monthsInYear,
+  midTermsBefore,
+  leap,
+  midTermNumber,
+  monthNumber,
+  monthAt,
+  eclipse,
+}
+use Rattle.rule.specs.Lists.{those}
+use Rattle.rule.specs.Reasons.{is, refused}
+use Rattle.dates.specs.Dates.{dateIn, dateOf}
+use Rattle.facts.specs.Facts.{monthFacts, yearFacts}
+use Rattle.fields.specs.Fields.{word, digits, decimal, followed, each}
+use Rattle.penned.specs.Lines.{monthLined, yearBlock, monthItem, dayItem}
+use Rattle.penned.specs.Promises.{yearBlockAt, monthLineAt, monthItemAt, dayItemAt}
+use Rattle.penned.specs.Paper.{inLines, exampleOf11}
+
+-- what lines are computed with: on an `unfolding` line such a name brings all that its own line names
+month-numbers : ℕ
+unfolding midTermsBefore leap midTermNumber monthNumber monthAt eclipse
+month-numbers = 0
+
+month-lines : ℕ
+unfolding inLines monthFacts dayName monthStart monthLength digits decimal followed month-numbers
+month-lines = 0
+
+unfoldable pub year-lines : ℕ
+unfolding yearBlock monthLined yearFacts yearName firstMonth monthsInYear those each month-lines
+year-lines = 0
+
+-- the year 0 into no bytes at all: 1 comes before 12
+pub one-first : yearBlockAt 0 0 ≡ refused 1
+unfolding yearBlockAt year-lines
+one-first = refl
+
+-- case 10 and the listing's example; the leap month of year 11; day 0
+pub line-134 : monthLineAt 134 300 ≡ is (inLines (word "134 9 L 58 29 E" ∷ []))
+unfolding monthLineAt monthLined month-lines
+line-134 = refl
+
+pub month-134 : monthItemAt 134 300 ≡ is (inLines (word "MONTH 134 9 L 58 29 E" ∷ []))
+unfolding monthItemAt monthItem month-lines
+month-134 = refl
+
+pub day-0 : dayItemAt 0 300 ≡ is (inLines (word "DAY 0 1 11 - 1 1" ∷ []))
+unfolding dayItemAt dayItem dateOf dateIn monthOfDay yearOfMonth yearName month-lines
+day-0 = refl
+
+pub year-11 : yearBlockAt 11 300 ≡ is exampleOf11
+unfolding yearBlockAt year-lines
+year-11 = refl
