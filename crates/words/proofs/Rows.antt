@@ -2,7 +2,7 @@
 use Prim.Native.Nat.{ℕ, zero, suc, _+_, _-_, _≤_, _<_}
 use native.Mathlib.Nat.{not-suc-le-zero}
 use native.Mathlib.Omega.{arith}
-use mathlib.Core.Path.{_≡_, refl, ap, _∙_}
+use mathlib.Core.Path.{_≡_, ap, _∙_}
 use mathlib.Core.Bool.{Bool, true, _&&_}
 use mathlib.Core.List.{List, map}
 use lib.Dec.{ltb, leb}
@@ -12,7 +12,9 @@ use Rattle.rule.specs.Reasons.{reasonNumber, reasonsInOrder}
 use Rattle.rule.specs.declared.Reason.{Reason}
 use Rattle.rule.proofs.Answers.{both-true, each-reason}
 use Rattle.lines.specs.Lines.{wordsOf}
-use Rattle.words.specs.Rows.{behind, rowOf, wholeTo}
+use Rattle.fields.specs.Fields.{Put}
+use Rattle.fields.proofs.Putting.{put-as}
+use Rattle.words.specs.Rows.{behind, rowOf, wholeTo, hasRow}
 
 -- of two tests, both of which hold, each does
 both : (p q : Bool) → (p && q) ≡ true → (p ≡ true) × (q ≡ true)
@@ -37,16 +39,17 @@ unfolding rowOf
 row-first zero t l = ap (λ (n : ℕ). take n (drop 1 t)) {x = 1 + getD t 0 0 - 1} {y = getD t 0 0} (omega arith)
 row-first (suc k) t l = absurd (not-suc-le-zero l)
 
+-- a row that is there
+pub has-row : (k : ℕ) (t : List ℕ) → hasRow k t ≡ true → (wholeTo k t ≡ true) × (length (rowOf k t) ≤ 64)
+unfolding hasRow
+has-row k t h = let b = both (wholeTo k t) (leb (length (rowOf k t)) 64) h in (b .0, leb-true (length (rowOf k t)) 64 (b .1))
+
 -- a table with the words of every reason in the row of its number, which is computed for all of them; k is the number of one
-module _ (why : Reason) (k : ℕ) (t : List ℕ) (e : k ≡ reasonNumber why) where
-  pub words-whole : map (λ r. wholeTo (reasonNumber r) t) reasonsInOrder ≡ map (λ r. true) reasonsInOrder → wholeTo k t ≡ true
-  words-whole h = ap (λ (n : ℕ). wholeTo n t) e ∙ each-reason (λ r. wholeTo (reasonNumber r) t) (λ r. true) h why
+module _ (why : Reason) (k : ℕ) (t : List ℕ) where
+  pub words-row : k ≡ reasonNumber why → map (λ r. hasRow (reasonNumber r) t) reasonsInOrder ≡ map (λ r. true) reasonsInOrder → hasRow k t ≡ true
+  words-row e h = ap (λ (n : ℕ). hasRow n t) e ∙ each-reason (λ r. hasRow (reasonNumber r) t) (λ r. true) h why
 
-  module _ (h : map (λ r. rowOf (reasonNumber r) t) reasonsInOrder ≡ map wordsOf reasonsInOrder) where
-    pub words-there : rowOf k t ≡ wordsOf why
-    words-there = ap (λ (n : ℕ). rowOf n t) e ∙ each-reason (λ r. rowOf (reasonNumber r) t) wordsOf h why
-
-    pub words-few : length (rowOf k t) ≤ 64
-    words-few =
-        let few = leb-true (length (wordsOf why)) 64 (each-reason (λ r. leb (length (wordsOf r)) 64) (λ r. true) refl why) in
-        omega (arith, few, ap length words-there)
+  pub words-put : {o o′ : List ℕ} {at to : ℕ} →
+      Put 64 o at (rowOf k t) o′ to → k ≡ reasonNumber why →
+      map (λ r. rowOf (reasonNumber r) t) reasonsInOrder ≡ map wordsOf reasonsInOrder → Put 64 o at (wordsOf why) o′ to
+  words-put p e h = put-as (ap (λ (n : ℕ). rowOf n t) e ∙ each-reason (λ r. rowOf (reasonNumber r) t) wordsOf h why) p

@@ -2,7 +2,7 @@
 use Prim.Native.Nat.{ℕ, zero, suc, _+_}
 use mathlib.Core.Bool.{Bool, _&&_}
 use mathlib.Core.List.{List}
-use lib.Dec.{ltb}
+use lib.Dec.{ltb, leb}
 use lib.ListN.{length, getD, take, drop}
 
 -- what stands behind the first row
@@ -18,3 +18,7 @@ rowOf (suc k) t = rowOf k (behind t)
 unfoldable pub wholeTo : ℕ → List ℕ → Bool
 wholeTo zero t = ltb (getD t 0 0) (length t)
 wholeTo (suc k) t = ltb (getD t 0 0) (length t) && wholeTo k (behind t)
+
+-- row k is there, and has 64 bytes at most
+unfoldable pub hasRow : ℕ → List ℕ → Bool
+hasRow k t = wholeTo k t && leb (length (rowOf k t)) 64

@@ -5,12 +5,12 @@ ghost use Prim.Native.Nat.{_+_, _≤_};
 ghost use lib.ListN.{length};
 ghost use Rattle.fields.specs.Fields.{Put};
 ghost use Rattle.lines.specs.Lines.{wordsOf};
-ghost use Rattle.words.specs.Rows.{rowOf, wholeTo};
+ghost use Rattle.words.specs.Rows.{rowOf, hasRow};
 use rule::Reason;
 
 // Row k of a table whose rows have each their length in front, 64 bytes at most.
 fn put_row(k: u8, rows: &[u8], out: &mut [u8], at: usize) -> usize
-    requires { ⌜ (wholeTo k (now rows) ≡ true) × (length (rowOf k (now rows)) ≤ 64) × (at + 64 ≤ length (now out)) ⌝ }
+    requires { ⌜ (hasRow k (now rows) ≡ true) × (at + 64 ≤ length (now out)) ⌝ }
     ensures { λ r. ⌜ Put 64 (now (out .entry)) at (rowOf k (now (rows .entry))) (now (out .exit)) r ⌝ }
 {
     let mut t = rows;
