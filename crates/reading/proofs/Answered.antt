@@ -58,10 +58,10 @@ module _ (r : Reading) (first last room : ℕ) where
       room-enough n e h = rw (ends, w, i, ← e, le-leb n room h)
 
 -- the promise, from what is answered
-pub made : {r : Reading} {first last : ℕ} {old : List ℕ} {x : Answer ℕ} {a : Found} {new : List ℕ} →
+pub made : {r : Reading} {first last : ℕ} {old : List ℕ} {x : Answer ℕ} (a : Found) {new : List ℕ} →
     searchAt r first last (length old) ≡ x → saidFound a ≡ x →
     new ≡ afterwards x (λ n. fitting r first (windowDays first last)) old → Searched r first last old a new
-made {r} {first} {last} {old} e f g =
+made {r} {first} {last} {old} a e f g =
     record {
       answered = f ∙ sym e;
       lent = g ∙ ap (λ (y : Answer ℕ). afterwards y (λ n. fitting r first (windowDays first last)) old) (sym e);

@@ -208,7 +208,7 @@ search-lists r first last n old new = (there, λ h. back (h .0) (h .1))
     back : GoodSearch r first last → SearchAnswered r first last n old new → Searched r first last old (Is n) new
     back g h =
         let t = the-total r first last (h .days) (h .exactly) n (h .counted) in
-        Answered.made (gives r first last (length old) g (omega (arith, t, h .room)) ∙ ap is t) refl
+        Answered.made (Is n) (gives r first last (length old) g (omega (arith, t, h .room)) ∙ ap is t) refl
         (h .filled ∙ ap (λ (l : List ℕ). placed l old) (the-days r first last (h .days) (h .exactly)))
 
 pub too-short-says-the-total : Paper.Too-short-says-the-total
@@ -231,13 +231,13 @@ too-short-says-the-total r first last n old new = (there, λ h. back (h .0) (h .
     back : GoodSearch r first last → SearchTooShort r first last n old new → Searched r first last old (TooShort n) new
     back g h =
         let t = the-total r first last (h .days) (h .exactly) n (h .counted) in
-        Answered.made
+        Answered.made (TooShort n)
         (tells r first last (length old) g (omega (arith, t, h .short)) ∙ ap (refused-with 12) t) refl (h .unchanged)
 
 pub reasons-of-a-search : Paper.Reasons-of-a-search
 reasons-of-a-search r first last old new why = (
   λ s. (there s, lent-after r first last old new (Refused why) s),
-  λ h. Answered.made (refuses r first last (length old) why (h .0)) refl (h .1),
+  λ h. Answered.made (Refused why) (refuses r first last (length old) why (h .0)) refl (h .1),
 )
   where
     there : Searched r first last old (Refused why) new → SearchFault r first last why

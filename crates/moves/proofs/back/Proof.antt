@@ -9,6 +9,9 @@ use borrow.Author.Needs.{needs}
 use Rattle.moves.proofs.back.Statement.{statement}
 use Rattle.moves.proofs.back.Tie as tie
 
+returns : tie.Need-returns
+returns c = sym (back-out (c .before .args .day) (c .before .args .n) (omega arith))
+
 returns-2 : tie.Need-returns-2
 returns-2 c =
     let a = c .before .before .args in
@@ -20,7 +23,7 @@ pub back-spec : {M : Type 1} → statement M
 back-spec =
     tie.close
     (tie.spec
-    (λ c. sym (back-out (c .before .args .day) (c .before .args .n) (omega arith)))
+    returns
     (λ c. search needs)
     (λ c. search needs)
     (λ c. search needs)

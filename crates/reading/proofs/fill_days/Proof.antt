@@ -56,12 +56,12 @@ loop-again c =
     let fit = sym (c .before .day-fits .ensures) in
     let more = counted-more p (a .from) (l .day) (omega arith) in
     ⊎-elim
-    (λ w. (
+    (λ w. let now : _≡_ {A = List ℕ} _ (set (l .out) (l .k) (l .day)) = w .1 in (
       omega arith,
       omega arith,
       omega (arith, w .2, more, ap bit (fit ∙ w .0 .taken)),
-      ap length (w .1) ∙ length-set (l .out) (l .k) (l .day) ∙ l .inv .3,
-      w .1
+      ap length now ∙ length-set (l .out) (l .k) (l .day) ∙ l .inv .3,
+      now
           ∙ ap₂ (λ (o : List ℕ) (n : ℕ). set o n (l .day)) (l .inv .4) (l .inv .2)
           ∙ filled-more p (a .from) (l .day) (omega arith) (a .out .now) (a .at) (fit ∙ w .0 .taken),
     ))

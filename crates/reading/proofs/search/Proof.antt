@@ -2,7 +2,9 @@
 use native.Mathlib.Omega.{arith}
 use mathlib.Core.Path.{_≡_, refl}
 use mathlib.Core.Bool.{true}
+use Rattle.rule.specs.declared.Reason.the-variants.{NoSuchDay, BadWindow, FieldOutOfRange}
 use Rattle.rule.proofs.Answers.{failed, passed}
+use Rattle.reading.specs.declared.Found.the-variants.{Is, TooShort, Refused}
 use Rattle.reading.specs.Readings.{inRanges, windowHolds}
 use Rattle.reading.proofs.Answered.{
   window-true,
@@ -18,11 +20,16 @@ use borrow.Author.Needs.{needs}
 use Rattle.reading.proofs.search.Statement.{statement}
 use Rattle.reading.proofs.search.Tie as tie
 
+returns : tie.Need-returns
+returns c =
+    let first = c .before .before .args .first in
+    made (Refused NoSuchDay) (first-outside _ first _ _ (omega (arith, c .if1 .taken))) refl refl
+
 returns-3 : tie.Need-returns-3
 returns-3 c =
     let holds = c .before .window-holds in
     let bad = failed (holds .result) _ (holds .ensures) (c .if3 .taken) in
-    made (bad-window _ _ _ _ (omega arith) (omega arith) bad) refl refl
+    made (Refused BadWindow) (bad-window _ _ _ _ (omega arith) (omega arith) bad) refl refl
 
 -- the window is one, and the known fields are in their ranges
 a-window : (c : tie.Else3) → let a = c .before .before .before .before .before .args in windowHolds (a .first) (a .last) ≡ true
@@ -39,7 +46,7 @@ returns-4 : tie.Need-returns-4
 returns-4 c =
     let good = c .before .in-ranges in
     let bad = failed (good .result) _ (good .ensures) (c .if4 .taken) in
-    made (bad-field _ _ _ _ (omega arith) (omega arith) (a-window (c .before .before)) bad) refl refl
+    made (Refused FieldOutOfRange) (bad-field _ _ _ _ (omega arith) (omega arith) (a-window (c .before .before)) bad) refl refl
 
 count-window-requires : tie.Need-count-window-requires
 count-window-requires c κs =
@@ -51,7 +58,7 @@ returns-5 : tie.Need-returns-5
 returns-5 c =
     let count = c .before .count-window in
     let g = c .before .before in
-    made
+    made (TooShort (count .result))
     (too-short _ _ _ _ (omega arith) (omega arith) (a-window (g .before .before)) (good-fields g)
     (count .result) (count .ensures) (omega arith))
     refl refl
@@ -66,7 +73,7 @@ returns-6 : tie.Need-returns-6
 returns-6 c =
     let count = c .before .before .before .before .before .count-window in
     let g = c .before .before .before .before .before .before in
-    made
+    made (Is (count .result))
     (room-enough _ _ _ _ (omega arith) (omega arith) (a-window (g .before .before)) (good-fields g)
     (count .result) (count .ensures) (omega arith))
     refl (c .before .before .fill-window .ensures)
@@ -75,8 +82,8 @@ pub search-spec : {M : Type 1} → statement M
 search-spec =
     tie.close
     (tie.spec
-    (λ c. made (first-outside _ _ _ _ (omega (arith, c .if1 .taken))) refl refl)
-    (λ c. made (last-outside _ _ _ _ (c .if2 .taken)) refl refl)
+    returns
+    (λ c. made (Refused NoSuchDay) (last-outside _ _ _ _ (c .if2 .taken)) refl refl)
     (λ c κs. search needs)
     returns-3
     (λ c κs. search needs)
