@@ -18,11 +18,11 @@ pub day-of-month : (d : ℕ) → d - monthStart (monthOfDay d) + 1 ≤ monthLeng
 day-of-month d = omega (arith, of-day-low d, of-day-high d, start-next (monthOfDay d))
 
 -- a date made of its parts
-pub made : (d n y s len dn yn : ℕ) (m : Month) →
+pub made : (d : ℕ) {n y s len dn yn : ℕ} {m : Month} →
     n ≡ monthOfDay d → y ≡ yearOfMonth n → m ≡ monthAt n → s ≡ monthStart n → len ≡ monthLength n → dn ≡ dayName d → yn ≡ yearName y →
     record { year = y; month = m; «day_of_month» = d - s + 1; «month_length» = len; «day_name» = dn; «year_name» = yn } ≡ dateOf d
 unfolding dateOf dateIn
-made d n y s len dn yn m a b e f g h i = cc
+made d a b e f g h i = cc
 
 pub in-month : (n m : ℕ) → m ≤ monthLength n → dayInMonth n m ≡ is (monthStart n + (m - 1))
 unfolding dayInMonth
@@ -41,7 +41,7 @@ unfolding dateAt
 a-day d h = passes (leb d 14989859) 6 (is (dateOf d)) (le-leb d 14989859 h)
 
 -- which month is asked for, and that there is none; n is the ordinary month of the number
-module _ (y k m n : ℕ) (l : Bool) (e : n ≡ namedMonth y k) where
+module _ (y k m : ℕ) {n : ℕ} (e : n ≡ namedMonth y k) {l : Bool} where
   pub ordinary-asked : l ≡ false → dayOfNamed y k l m ≡ dayInMonth n m
   unfolding dayOfNamed
   ordinary-asked f = rw (f, e)

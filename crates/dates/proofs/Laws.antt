@@ -110,9 +110,16 @@ dated d r =
     (at-most d 14989859)
 
 -- the month of a year with a number and mark is the one asked for
-asked : (y k : ℕ) (l : Bool) → YearInRange y → NumberInRange k → isThere y k l ≡ true → InYear y (monthAsked y k l) × (monthAt (monthAsked y k l) ≡ marked l k)
-asked y k false r s h = (Named.named-year y k (r .0), sym (Leaps.as-ordinary (namedMonth y k) k (Named.named-ordinary y k) (sym (Named.named-number y k s))))
-asked y k true r s h = (Named.leap-named-year y k (r .0) h, sym (Leaps.as-leap (namedMonth y k + 1) k h (sym (Named.leap-named-number y k s h))))
+asked : (y k : ℕ) (l : Bool) → YearInRange y → NumberInRange k → isThere y k l ≡ true →
+    InYear y (monthAsked y k l) × (monthAt (monthAsked y k l) ≡ marked l k)
+asked y k false r s h = (
+  Named.named-year y k (r .0),
+  sym (Leaps.as-ordinary (namedMonth y k) k (Named.named-ordinary y k) (sym (Named.named-number y k s))),
+)
+asked y k true r s h = (
+  Named.leap-named-year y k (r .0) h,
+  sym (Leaps.as-leap (namedMonth y k + 1) k h (sym (Named.leap-named-number y k s h))),
+)
 
 pub asked-only : (y k n : ℕ) (l : Bool) → InYear y n → (leap n ≡ l) × (monthNumber n ≡ k) → (isThere y k l ≡ true) × (monthAsked y k l ≡ n)
 asked-only y k n false i h = (refl, sym (Named.named-only y k n i (h .0) (h .1)))
@@ -127,8 +134,9 @@ module _ (y k : ℕ) (l : Bool) (m : ℕ) where
 
   -- it is answered where each test holds
   answered : (d : ℕ) →
+      let found = _≡_ {A = Answer ℕ} (is (monthStart n + (m - 1))) (is d) in
       (dayOfDate y k l m ≡ is d)
-      ↔ (YearInRange y × (NumberInRange k × (DayOfMonthInRange m × ((isThere y k l ≡ true) × ((m ≤ monthLength n) × (_≡_ {A = Answer ℕ} (is (monthStart n + (m - 1))) (is d)))))))
+      ↔ (YearInRange y × (NumberInRange k × (DayOfMonthInRange m × ((isThere y k l ≡ true) × ((m ≤ monthLength n) × found)))))
   unfolding dayOfDate dayOfNamed dayInMonth n
   answered d =
       test-iff (then-iff (holds-all (within 1 41040 y) 1 _ d)
@@ -149,7 +157,8 @@ day-is y k l m d = (there, back)
     there e =
         let a = answered y k l m d .0 e in
         let b = asked y k l (a .0) (a .1 .0) (a .1 .1 .1 .0) in
-        let f : monthStart (monthAsked y k l) + (m - 1) ≡ d = let g : _≡_ {A = Answer ℕ} (is (monthStart (monthAsked y k l) + (m - 1))) (is d) = a .1 .1 .1 .1 .1 in cc in
+        let s = monthStart (monthAsked y k l) in
+        let f : s + (m - 1) ≡ d = let g : _≡_ {A = Answer ℕ} (is (s + (m - 1))) (is d) = a .1 .1 .1 .1 .1 in cc in
         record {
           year = a .0;
           n = monthAsked y k l;
@@ -187,7 +196,9 @@ back-to-day d h =
     let e : monthOfDay d ≡ a .n = Months.of-day (a .n) d .0 (a .on-its-days) in
     day-is (dateOf d .year) (numberOf (dateOf d .month)) (leapMark (dateOf d .month)) (dateOf d .«day_of_month») d .1
     record {
-      year = subst YearInRange (Years.of-month (dateOf d .year) (a .n) .0 (a .of-its-year)) (Years.of-month-range (a .n) .0 (subst MonthInRange e (Months.of-day-range d .0 h)));
+      year =
+          subst YearInRange (Years.of-month (dateOf d .year) (a .n) .0 (a .of-its-year))
+          (Years.of-month-range (a .n) .0 (subst MonthInRange e (Months.of-day-range d .0 h)));
       n = a .n;
       of-the-year = a .of-its-year;
       the-month = subst (IsMonth (a .n)) (sym (Leaps.month-again (dateOf d .month))) (a .its-month);
@@ -235,7 +246,8 @@ module _ (y k : ℕ) (l : Bool) (m : ℕ) where
   beyond-number i h = beyond-guard (within 1 12 k) i 2 _ h (beyond-day i (omega arith))
 
   -- a reason after the third: the three ranges hold
-  after-three : (j : ℕ) → 3 < j → (dayOfDate y k l m ≡ refused j) ↔ (YearInRange y × (NumberInRange k × (DayOfMonthInRange m × (dayOfNamed y k l m ≡ refused j))))
+  after-three : (j : ℕ) → 3 < j →
+      (dayOfDate y k l m ≡ refused j) ↔ (YearInRange y × (NumberInRange k × (DayOfMonthInRange m × (dayOfNamed y k l m ≡ refused j))))
   unfolding dayOfDate
   after-three j h =
       test-iff (then-iff (fails-later (within 1 41040 y) 1 j _ (omega arith))
@@ -265,13 +277,18 @@ module _ (y k : ℕ) (l : Bool) (m : ℕ) where
       years
 
 -- reason 4: a leap month is asked, and the year has none of that number
-none-there : (y k : ℕ) (l : Bool) → YearInRange y → NumberInRange k → (isThere y k l ≡ false) ↔ ((l ≡ true) × (((n : ℕ) × InYear y n × IsMonth n (Leap k)) → ⊥))
-none-there y k false r s = (λ e. absurd (let o : _≡_ {A = ℕ} 0 1 = cc in omega arith), λ h. absurd (let e : false ≡ true = h .0 in let o : _≡_ {A = ℕ} 0 1 = cc in omega arith))
+none-there : (y k : ℕ) (l : Bool) → YearInRange y → NumberInRange k →
+    (isThere y k l ≡ false) ↔ ((l ≡ true) × (((n : ℕ) × InYear y n × IsMonth n (Leap k)) → ⊥))
+none-there y k false r s = (
+  λ e. absurd (let o : _≡_ {A = ℕ} 0 1 = cc in omega arith),
+  λ h. absurd (let e : false ≡ true = h .0 in let o : _≡_ {A = ℕ} 0 1 = cc in omega arith),
+)
 none-there y k true r s = (λ e. (refl, none e), λ h. back (h .1) (leap (namedMonth y k + 1)) refl)
   where
     none : leap (namedMonth y k + 1) ≡ false → ((n : ℕ) × InYear y n × IsMonth n (Leap k)) → ⊥
     none e w =
-        let f : leap (namedMonth y k + 1) ≡ true = asked-only y k (w .0) true (w .1) (Leaps.mark-of (w .0) k true (month-is (w .0) (Leap k) (w .2))) .0 in
+        let mark = Leaps.mark-of (w .0) k true (month-is (w .0) (Leap k) (w .2)) in
+        let f : leap (namedMonth y k + 1) ≡ true = asked-only y k (w .0) true (w .1) mark .0 in
         let o : _≡_ {A = ℕ} 0 1 = cc in
         omega arith
 
@@ -305,12 +322,16 @@ five y k l m = (there, back)
     N : ℕ
     N = monthAsked y k l
 
+    -- the month asked for has 29 days
+    Small : Type 0
+    Small = (n : ℕ) × InYear y n × IsMonth n (marked l k) × (monthLength n ≡ 29) × (m ≡ 30)
+
     short : (dayOfNamed y k l m ≡ refused 5) ↔ ((isThere y k l ≡ true) × (leb m (monthLength N) ≡ false))
     short =
         then-iff (fails-later (isThere y k l) 4 5 (dayInMonth N m) (omega arith))
         (fails-here (leb m (monthLength N)) 5 (is (monthStart N + (m - 1))) (beyond-is 5 (monthStart N + (m - 1))))
 
-    there : dayOfDate y k l m ≡ refused 5 → YearInRange y × (NumberInRange k × ((n : ℕ) × InYear y n × IsMonth n (marked l k) × (monthLength n ≡ 29) × (m ≡ 30)))
+    there : dayOfDate y k l m ≡ refused 5 → YearInRange y × (NumberInRange k × Small)
     there e =
         let a = after-three y k l m 5 (omega arith) .0 e in
         let b = short .0 (a .1 .1 .1) in
@@ -329,7 +350,7 @@ five y k l m = (there, back)
           ),
         )
 
-    back : YearInRange y × (NumberInRange k × ((n : ℕ) × InYear y n × IsMonth n (marked l k) × (monthLength n ≡ 29) × (m ≡ 30))) → dayOfDate y k l m ≡ refused 5
+    back : YearInRange y × (NumberInRange k × Small) → dayOfDate y k l m ≡ refused 5
     back h =
         let w = h .1 .1 in
         let only = asked-only y k (w .0) l (w .1) (Leaps.mark-of (w .0) k l (month-is (w .0) (marked l k) (w .2))) in

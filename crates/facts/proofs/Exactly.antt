@@ -107,7 +107,7 @@ month-there n =
 
 month-only : (n : ℕ) (f : MonthFacts) → IsMonthFacts n f → f ≡ monthFacts n
 month-only n f h =
-    month-made n (f .«first_day») (f .«small_remainder») (f .«month_length») (f .«first_name») (f .month) (f .eclipse)
+    month-made n
     (sym (Rule.month-literally n (f .month) .1 (h .its-month)))
     (whole .0)
     (whole .1)
@@ -157,7 +157,7 @@ module _ (y : ℕ) (l : 1 ≤ y) where
 
   solstice-only : (s : SolsticeYear) → IsSolsticeYear y s → s ≡ solsticeYear y
   solstice-only s h =
-      solstice-year-made y (s .ji) (s .bu) (s .«year_in_bu») (s .«head_name») (s .«first_month») (s .«leap_remainder») (s .months)
+      solstice-year-made y
       (place .0)
       (place .1)
       (place .2)
@@ -212,7 +212,7 @@ module _ (y : ℕ) (l : 1 ≤ y) where
 
   year-only : (f : YearFacts) → IsYearFacts y f → f ≡ yearFacts y
   year-only f h =
-      year-made y (f .name) (f .«first_month») (f .months) (f .«leap_month») (h .its-name) (months .0) (months .2)
+      year-made y (h .its-name) (months .0) (months .2)
       (leap-only (f .«leap_month») (h .its-leap-month))
     where
       months : (f .«first_month» ≡ firstMonth y) × (h .rest ≡ leapRemainder y) × (f .months ≡ monthsInYear y)

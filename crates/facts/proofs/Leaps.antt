@@ -47,12 +47,17 @@ leap-found y n i h = found (firstMonth y) (monthsInYear y) (n - firstMonth y) no
     inside = omega (arith, i .1, i .2, Years.first-next y (i .0))
 
     none : those leap (firstMonth y) (n - firstMonth y) ≡ []
-    none = empty (those leap (firstMonth y) (n - firstMonth y)) (omega (arith, hit-counts leap (firstMonth y) (n - firstMonth y) (monthsInYear y) inside here, at-most-one y (i .0)))
+    none =
+        let f = firstMonth y in
+        empty (those leap f (n - f)) (omega (arith, hit-counts leap f (n - f) (monthsInYear y) inside here, at-most-one y (i .0)))
 
 -- and a year none of whose months is leap has none
 pub leap-none : (y : ℕ) → 1 ≤ y → ((n : ℕ) → InYear y n → leap n ≡ false) → leapMonth y ≡ Without
 unfolding leapMonth
-leap-none y l h = ap firstOf (empty (monthsOf leap y) (none-pass leap (firstMonth y) (monthsInYear y) (λ i j. h (firstMonth y + i) (l, omega arith, omega (arith, Years.first-next y l)))))
+leap-none y l h =
+    ap firstOf
+    (empty (monthsOf leap y)
+    (none-pass leap (firstMonth y) (monthsInYear y) (λ i j. h (firstMonth y + i) (l, omega arith, omega (arith, Years.first-next y l)))))
 
 -- what stands as the year's leap month is a month of that year that is leap, and its number
 pub leap-is : (y k n : ℕ) → 1 ≤ y → leapMonth y ≡ With k n → InYear y n × (leap n ≡ true) × (monthNumber n ≡ k)

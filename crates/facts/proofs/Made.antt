@@ -25,22 +25,22 @@ use Rattle.facts.specs.Facts.{solsticeYear, leapMonth, yearFacts, monthF
 pub bu-range : (y b : ℕ) → b ≡ bu y → (1 ≤ b) × (b ≤ 20)
 bu-range y b e = omega (arith, place y .bu-range)
 
-pub solstice-year-made : (y j b i h f l m : ℕ) →
+pub solstice-year-made : (y : ℕ) {j b i h f l m : ℕ} →
     j ≡ ji y → b ≡ bu y → i ≡ yearInBu y → h ≡ headName b → f ≡ firstMonth y → l ≡ leapRemainder y → m ≡ monthsInYear y →
     record { ji = j; bu = b; «year_in_bu» = i; «head_name» = h; «first_month» = f; «leap_remainder» = l; months = m } ≡ solsticeYear y
 unfolding solsticeYear
-solstice-year-made y j b i h f l m p q r s t u v = cc
+solstice-year-made y p q r s t u v = cc
 
-pub year-made : (y n f m : ℕ) (l : LeapMonth) → n ≡ yearName y → f ≡ firstMonth y → m ≡ monthsInYear y → l ≡ leapMonth y →
+pub year-made : (y : ℕ) {n f m : ℕ} {l : LeapMonth} → n ≡ yearName y → f ≡ firstMonth y → m ≡ monthsInYear y → l ≡ leapMonth y →
     record { name = n; «first_month» = f; months = m; «leap_month» = l } ≡ yearFacts y
 unfolding yearFacts
-year-made y n f m l p q r s = cc
+year-made y p q r s = cc
 
-pub month-made : (n d r l k : ℕ) (m : Month) (e : Bool) →
+pub month-made : (n : ℕ) {d r l k : ℕ} {m : Month} {e : Bool} →
     m ≡ monthAt n → d ≡ monthStart n → r ≡ smallRemainder n → l ≡ monthLength n → k ≡ dayName d → e ≡ Rule.eclipse n →
     record { month = m; «first_day» = d; «small_remainder» = r; «month_length» = l; «first_name» = k; eclipse = e } ≡ monthFacts n
 unfolding monthFacts
-month-made n d r l k m e p q s t u v = cc
+month-made n p q s t u v = cc
 
 pub quarter-made : (n q : ℕ) (r : Quarter) → (r .day ≡ quarterDay n q) × (r .parts ≡ quarterParts n q) → r ≡ quarterOf n q
 unfolding quarterOf

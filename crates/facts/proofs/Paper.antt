@@ -139,7 +139,8 @@ month-by-count n f = one-literally (leb n 507599) 7 (monthFacts n) (at-most n 50
 pub quarter-of-month : Paper.Quarter-of-month
 unfolding quarterAt
 quarter-of-month n q r =
-    two-literally (leb n 507599) (leb q 3) 7 15 (omega arith) (quarterOf n q) (at-most n 507599) (at-most q 3) (Paper.IsQuarter n q r) r (λ h. quarter-exactly n q r)
+    two-literally (leb n 507599) (leb q 3) 7 15 (omega arith) (quarterOf n q) (at-most n 507599) (at-most q 3) (Paper.IsQuarter n q r) r
+    (λ h. quarter-exactly n q r)
 
 pub term-of-year : Paper.Term-of-year
 unfolding termAt

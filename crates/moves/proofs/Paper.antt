@@ -49,7 +49,7 @@ only-eight : (z : ℤ) (r : ℕ) → landed z ≡ refused r → r ≡ 8
 only-eight (pos d) r = go (leb d 14989859) refl
   where
     go : (b : Bool) → leb d 14989859 ≡ b → landed (pos d) ≡ refused r → r ≡ 8
-    go true e h = let a : _≡_ {A = Answer Date} (is (dateOf d)) (refused r) = sym (Landing.lands d (leb-true d 14989859 e)) ∙ h in absurd (let o : _≡_ {A = ℕ} 0 1 = cc in omega arith)
+    go true e h = absurd (given-not (landed (pos d)) (dateOf d) r (Landing.lands d (leb-true d 14989859 e)) h)
     go false e h = let a : _≡_ {A = Answer Date} (refused 8) (refused r) = sym (Landing.lands-out d (leb-false d 14989859 e)) ∙ h in cc
 only-eight (negsuc d) r = λ h. let a : _≡_ {A = Answer Date} (refused 8) (refused r) = h in cc
 
@@ -111,8 +111,10 @@ answered y k l m n r h = go (dayOfDate y k l m) refl
   where
     go : (a : Answer ℕ) → dayOfDate y k l m ≡ a → (d : ℕ) × (dayOfDate y k l m ≡ is d) × Landed (pos d +ℤ n) r
     go (is d) e = (d, e, landed-at (pos d +ℤ n) r (sym (Landing.moved-found y k l m n d e) ∙ h))
-    go (refused j) e = let a : _≡_ {A = Answer Date} (refused j) (is r) = sym (Landing.moved-refused y k l m n j e) ∙ h in absurd (let o : _≡_ {A = ℕ} 0 1 = cc in omega arith)
-    go (refused-with j i) e = let a : _≡_ {A = Answer Date} (refused-with j i) (is r) = sym (Landing.moved-refused-with y k l m n j i e) ∙ h in absurd (let o : _≡_ {A = ℕ} 0 1 = cc in omega arith)
+    go (refused j) e = absurd (given-not (moved y k l m n) r j h (Landing.moved-refused y k l m n j e))
+    go (refused-with j i) e =
+        let a : _≡_ {A = Answer Date} (refused-with j i) (is r) = sym (Landing.moved-refused-with y k l m n j i e) ∙ h in
+        absurd (let o : _≡_ {A = ℕ} 0 1 = cc in omega arith)
 
 -- from a date's own four things a move starts at its day; the day of month by itself, so that a statement's reaches omega
 from-date : (e m : ℕ) (n : ℤ) (r : Date) → DayInRange e → r ≡ dateOf e → m ≡ r .«day_of_month» →
@@ -143,7 +145,10 @@ later d =
       month-length = ap monthLength e ∙ Months.length-shift 1 (monthOfDay d);
       year = omega (arith, ap yearOfMonth e, Years.of-month-shift 1 (monthOfDay d));
       day-name = Counts.day-name-further 1 d;
-      year-name = ap (λ (n : ℕ). yearName (yearOfMonth n)) e ∙ ap yearName (Years.of-month-shift 1 (monthOfDay d)) ∙ Counts.year-name-further 1 (yearOfMonth (monthOfDay d));
+      year-name =
+          ap (λ (n : ℕ). yearName (yearOfMonth n)) e
+          ∙ ap yearName (Years.of-month-shift 1 (monthOfDay d))
+          ∙ Counts.year-name-further 1 (yearOfMonth (monthOfDay d));
     }
   where
     e : monthOfDay (d + 27759) ≡ monthOfDay d + 940

@@ -53,7 +53,9 @@ module _ (p : ℕ) where
 
   pub too-late : (k : ℕ) → within 1 5 p ≡ true → 14989859 < conjunctionDay (numbersOf p) k → refused 6 ≡ conjunctionAt p k
   unfolding conjunctionAt
-  too-late k e h = sym (passes (within 1 5 p) 19 _ e ∙ stops (leb (conjunctionDay (numbersOf p) k) 14989859) 6 _ (beyond (conjunctionDay (numbersOf p) k) 14989859 h))
+  too-late k e h =
+      let d = conjunctionDay (numbersOf p) k in
+      sym (passes (within 1 5 p) 19 _ e ∙ stops (leb d 14989859) 6 _ (beyond d 14989859 h))
 
   -- a count beyond the days: so is its conjunction
   pub count-beyond : (k : ℕ) → within 1 5 p ≡ true → 14989859 < k → refused 6 ≡ conjunctionAt p k
@@ -61,7 +63,9 @@ module _ (p : ℕ) where
 
   pub in-time : (k : ℕ) → within 1 5 p ≡ true → conjunctionDay (numbersOf p) k ≤ 14989859 → is (conjunctionOf (numbersOf p) k) ≡ conjunctionAt p k
   unfolding conjunctionAt
-  in-time k e h = sym (passes (within 1 5 p) 19 _ e ∙ passes (leb (conjunctionDay (numbersOf p) k) 14989859) 6 _ (le-leb (conjunctionDay (numbersOf p) k) 14989859 h))
+  in-time k e h =
+      let d = conjunctionDay (numbersOf p) k in
+      sym (passes (within 1 5 p) 19 _ e ∙ passes (leb d 14989859) 6 _ (le-leb d 14989859 h))
 
   pub next-no-planet : (d : ℕ) → within 1 5 p ≡ false → refused 19 ≡ nextAt p d
   unfolding nextAt
@@ -71,18 +75,22 @@ module _ (p : ℕ) where
   unfolding nextAt
   next-no-day d e h = sym (passes (within 1 5 p) 19 _ e ∙ stops (leb d 14989859) 6 _ (beyond d 14989859 h))
 
-  pub next-none : (d : ℕ) → within 1 5 p ≡ true → d ≤ 14989859 → 14989859 < conjunctionDay (numbersOf p) (nextCount (numbersOf p) d) → refused 20 ≡ nextAt p d
+  pub next-none :
+      (d : ℕ) → within 1 5 p ≡ true → d ≤ 14989859 → 14989859 < conjunctionDay (numbersOf p) (nextCount (numbersOf p) d) →
+      refused 20 ≡ nextAt p d
   unfolding nextAt
   next-none d e i h =
+      let falls = conjunctionDay (numbersOf p) (nextCount (numbersOf p) d) in
       sym
       (passes (within 1 5 p) 19 _ e ∙ passes (leb d 14989859) 6 _ (le-leb d 14989859 i)
-      ∙ stops (leb (conjunctionDay (numbersOf p) (nextCount (numbersOf p) d)) 14989859) 20 _ (beyond (conjunctionDay (numbersOf p) (nextCount (numbersOf p) d)) 14989859 h))
+      ∙ stops (leb falls 14989859) 20 _ (beyond falls 14989859 h))
 
   pub next-one :
       (d : ℕ) → within 1 5 p ≡ true → d ≤ 14989859 → conjunctionDay (numbersOf p) (nextCount (numbersOf p) d) ≤ 14989859 →
       is (nextOf (numbersOf p) (nextCount (numbersOf p) d)) ≡ nextAt p d
   unfolding nextAt
   next-one d e i h =
+      let falls = conjunctionDay (numbersOf p) (nextCount (numbersOf p) d) in
       sym
       (passes (within 1 5 p) 19 _ e ∙ passes (leb d 14989859) 6 _ (le-leb d 14989859 i)
-      ∙ passes (leb (conjunctionDay (numbersOf p) (nextCount (numbersOf p) d)) 14989859) 20 _ (le-leb (conjunctionDay (numbersOf p) (nextCount (numbersOf p) d)) 14989859 h))
+      ∙ passes (leb falls 14989859) 20 _ (le-leb falls 14989859 h))

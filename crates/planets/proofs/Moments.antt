@@ -96,7 +96,9 @@ module _ (n : Numbers) (g : Good n) where
 
   -- the count of the first one on or after a day
   pub next-least : (d : ℕ) → LeastFrom n d (nextCount n d)
-  next-least d = rw (next-as d) (not-before d _ .1 (up-high (d * divisor n) (step n) some-step), λ j h. before d j .1 (up-low (d * divisor n) (step n) j some-step h))
+  next-least d =
+      rw (next-as d)
+      (not-before d _ .1 (up-high (d * divisor n) (step n) some-step), λ j h. before d j .1 (up-low (d * divisor n) (step n) j some-step h))
 
   pub next-only : (d k : ℕ) → (k ≡ nextCount n d) ↔ LeastFrom n d k
   next-only d k = (λ e. subst (LeastFrom n d) (sym e) (next-least d), λ l. one-least (conjunctionDay n) d k (nextCount n d) l (next-least d))
@@ -116,15 +118,26 @@ module _ (n : Numbers) (g : Good n) where
   pub moment : (k d r : ℕ) → Moment n k d r ↔ ((d ≡ conjunctionDay n k) × (r ≡ conjunctionParts n k))
   unfolding conjunctionDay conjunctionParts
   moment k d r = (
-    λ m. (sym (whole-part d r (divisor n) (m .rest)) ∙ ap (λ (a : ℕ). a / divisor n) (m .moment), sym (rest-part d r (divisor n) (m .rest)) ∙ ap (λ (a : ℕ). a % divisor n) (m .moment)),
+    λ m. (
+      sym (whole-part d r (divisor n) (m .rest)) ∙ ap (λ (a : ℕ). a / divisor n) (m .moment),
+      sym (rest-part d r (divisor n) (m .rest)) ∙ ap (λ (a : ℕ). a % divisor n) (m .moment),
+    ),
     λ q. subst (λ (x : ℕ). Moment n k x r) (sym (q .0)) (subst (Moment n k (conjunctionDay n k)) (sym (q .1)) (defined k)),
   )
 
   pub comes-round : (k : ℕ) → ComesRound n k
   comes-round k =
       record {
-        day = day-as (k + divisor n) ∙ ap (λ (a : ℕ). a / divisor n) more ∙ add-mul-div-left (k * step n) (step n) some-parts ∙ ap (λ (a : ℕ). a + step n) (sym (day-as k));
-        parts = parts-as (k + divisor n) ∙ ap (λ (a : ℕ). a % divisor n) more ∙ add-mul-mod-self-left (k * step n) (divisor n) (step n) ∙ sym (parts-as k);
+        day =
+            day-as (k + divisor n)
+            ∙ ap (λ (a : ℕ). a / divisor n) more
+            ∙ add-mul-div-left (k * step n) (step n) some-parts
+            ∙ ap (λ (a : ℕ). a + step n) (sym (day-as k));
+        parts =
+            parts-as (k + divisor n)
+            ∙ ap (λ (a : ℕ). a % divisor n) more
+            ∙ add-mul-mod-self-left (k * step n) (divisor n) (step n)
+            ∙ sym (parts-as k);
       }
     where
       more : (k + divisor n) * step n ≡ k * step n + divisor n * step n

@@ -11,7 +11,22 @@ use Rattle.rule.specs.Counts.{DayInRange}
 use Rattle.rule.specs.Reasons.{Answer, is, refused, within, guard, reasonNumber, reasonOf}
 use Rattle.rule.specs.declared.Reason.{Reason}
 use Rattle.rule.specs.declared.Reason.the-variants.{NoSuchPlanet}
-use Rattle.rule.proofs.Answers.{reason-back, within-true, at-most, holds-all, fails, test-iff, one-refused, read-back, once, given-not, from-guard, two-only, turned, under}
+use Rattle.rule.proofs.Answers.{
+  reason-back,
+  within-true,
+  at-most,
+  holds-all,
+  fails,
+  test-iff,
+  one-refused,
+  read-back,
+  once,
+  given-not,
+  from-guard,
+  two-only,
+  turned,
+  under,
+}
 use Rattle.planets.specs.declared.Numbers.{Numbers}
 use Rattle.planets.specs.declared.Phase.{Phase}
 use Rattle.planets.specs.declared.ConjunctionTold.{ConjunctionTold}
@@ -65,8 +80,12 @@ first-on-or-after = Moments.next-only
 two-more : (p m : ℕ) → (p ≡ 4) ⊎ (p ≡ 5) → mornings (numbersOf p) (suc (suc (2 * m))) ≡ mornings (numbersOf p) (2 * m) + 1
 unfolding mornings
 two-more p m h =
-    ap (λ (a : Phase). mornings (numbersOf p) (2 * m) + morning a + morning (phase (numbersOf p) (suc (2 * m)))) (Literal.of-count p (2 * m) (Literal.venus-or-mercury p h) .even h (omega arith))
-    ∙ ap (λ (a : Phase). mornings (numbersOf p) (2 * m) + 0 + morning a) (Literal.of-count p (suc (2 * m)) (Literal.venus-or-mercury p h) .odd h (omega arith))
+    let n = numbersOf p in
+    let planet = Literal.venus-or-mercury p h in
+    let even = Literal.of-count p (2 * m) planet .even h (omega arith) in
+    let odd = Literal.of-count p (suc (2 * m)) planet .odd h (omega arith) in
+    ap (λ (a : Phase). mornings n (2 * m) + morning a + morning (phase n (suc (2 * m)))) even
+    ∙ ap (λ (a : Phase). mornings n (2 * m) + 0 + morning a) odd
     ∙ omega arith
 
 half-mornings : (p m : ℕ) → (p ≡ 4) ⊎ (p ≡ 5) → mornings (numbersOf p) (2 * m) ≡ m
@@ -264,7 +283,8 @@ pub figures-are-first : Paper.Figures-are-first
 unfolding conjunctionOf
 figures-are-first p c e =
     let q = conjunctions p 1 .given c .0 e in
-    subst (λ (x : Conjunction). figuresOf p ≡ figures (x .day) (x .parts) (x .divisor)) (sym (Literal.conjunction-is p 1 c (q .0) .0 (q .2))) (Five.figures-are-first p (q .0))
+    subst (λ (x : Conjunction). figuresOf p ≡ figures (x .day) (x .parts) (x .divisor)) (sym (Literal.conjunction-is p 1 c (q .0) .0 (q .2)))
+    (Five.figures-are-first p (q .0))
 
 pub unique-planets : Paper.Unique-planets
 unfolding read-back
@@ -272,7 +292,8 @@ unique-planets =
     record {
       conjunction = λ p k a b x y. once saidConjunction Conjunction'.Is (λ j. Conjunction'.Refused (reasonOf j)) conjunction a b (conjunctionAt p k) x y;
       next = λ p d a b x y. once saidNext Next'.Is (λ j. Next'.Refused (reasonOf j)) next a b (nextAt p d) x y;
-      pair = λ p a b x y. once saidPair Pair'.Is (λ j. Pair'.Refused (reasonOf j)) pair a b (pairAt p) (Reducing.as-printed p a .0 x) (Reducing.as-printed p b .0 y);
+      pair = λ p a b x y.
+          once saidPair Pair'.Is (λ j. Pair'.Refused (reasonOf j)) pair a b (pairAt p) (Reducing.as-printed p a .0 x) (Reducing.as-printed p b .0 y);
     }
   where
     conjunction : (e : ConjunctionTold) → read-back saidConjunction Conjunction'.Is (λ j. Conjunction'.Refused (reasonOf j)) (saidConjunction e) ≡ e

@@ -63,9 +63,11 @@ pub as-printed : (p : ℕ) (a : PairTold) → ReducedPair p a ↔ (saidPair a �
 unfolding pairAt
 as-printed p (Pair'.Is r) = (
   λ q. let e = reduction p r .0 q in ap is (e .1) ∙ sym (passes (within 1 5 p) 19 _ (within-true 1 5 p .1 (e .0))),
-  λ e. let f = holds-all (within 1 5 p) 19 (is (pairOf (numbersOf p))) r .0 (sym e) in reduction p r .1 (within-true 1 5 p .0 (f .0), sym (same (pairOf (numbersOf p)) r .0 (f .1))),
+  λ e. let f = holds-all (within 1 5 p) 19 (is (pairOf (numbersOf p))) r .0 (sym e) in
+      reduction p r .1 (within-true 1 5 p .0 (f .0), sym (same (pairOf (numbersOf p)) r .0 (f .1))),
 )
 as-printed p (Pair'.Refused why) = (
   λ q. ap refused (q .1) ∙ sym (one-refused (within 1 5 p) 19 (pairOf (numbersOf p)) (within-true 1 5 p) .1 (q .0)),
-  λ e. let k = alone (within 1 5 p) 19 (reasonNumber why) (pairOf (numbersOf p)) (sym e) in (one-refused (within 1 5 p) 19 (pairOf (numbersOf p)) (within-true 1 5 p) .0 (sym e ∙ ap refused k), k),
+  λ e. let k = alone (within 1 5 p) 19 (reasonNumber why) (pairOf (numbersOf p)) (sym e) in
+      (one-refused (within 1 5 p) 19 (pairOf (numbersOf p)) (within-true 1 5 p) .0 (sym e ∙ ap refused k), k),
 )

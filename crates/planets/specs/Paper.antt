@@ -126,7 +126,9 @@ pub record NextReasons (p d : ℕ) : Type 0 where
 
 -- the one that is found is what the other call gives for its count, and it is not before the day
 abbrev pub Next-is-a-conjunction : Type 0
-Next-is-a-conjunction = (p d : ℕ) (n : Next) → NextConjunction p d (Next'.Is n) → KthConjunction p (n .k) (Conjunction'.Is (n .conjunction)) × (d ≤ n .conjunction .day)
+Next-is-a-conjunction =
+    (p d : ℕ) (n : Next) → NextConjunction p d (Next'.Is n) →
+    KthConjunction p (n .k) (Conjunction'.Is (n .conjunction)) × (d ≤ n .conjunction .day)
 
 pub record Reasons-of-planets : Type 0 where
   pub conjunctions : (p k : ℕ) → ConjunctionReasons p k

@@ -17,11 +17,15 @@ use Rattle.reading.specs.Search.{total, searchAt, saidFound, Searched}
 
 -- a window: its last day is not before its first, and it has at most 27,759 days
 pub window-true : (first last : ℕ) → (windowHolds first last ≡ true) ↔ ((first ≤ last) × (windowDays first last ≤ 27759))
-window-true first last = both-true (leb first last) (leb (windowDays first last) 27759) (leb-true first last, le-leb first last) (leb-true (windowDays first last) 27759, le-leb (windowDays first last) 27759)
+window-true first last =
+    both-true (leb first last) (leb (windowDays first last) 27759) (leb-true first last, le-leb first last)
+    (leb-true (windowDays first last) 27759, le-leb (windowDays first last) 27759)
 
 -- both ends are days
 pub ends-true : (first last : ℕ) → ((leb first 14989859 && leb last 14989859) ≡ true) ↔ (DayInRange first × DayInRange last)
-ends-true first last = both-true (leb first 14989859) (leb last 14989859) (leb-true first 14989859, le-leb first 14989859) (leb-true last 14989859, le-leb last 14989859)
+ends-true first last =
+    both-true (leb first 14989859) (leb last 14989859) (leb-true first 14989859, le-leb first 14989859)
+    (leb-true last 14989859, le-leb last 14989859)
 
 module _ (r : Reading) (first last room : ℕ) where
   pub first-outside : 14989859 < first → searchAt r first last room ≡ refused 6
@@ -54,9 +58,10 @@ module _ (r : Reading) (first last room : ℕ) where
       room-enough n e h = rw (ends, w, i, ← e, le-leb n room h)
 
 -- the promise, from what is answered
-pub made : (r : Reading) (first last : ℕ) (old : List ℕ) (x : Answer ℕ) (a : Found) (new : List ℕ) →
-    searchAt r first last (length old) ≡ x → saidFound a ≡ x → new ≡ afterwards x (λ n. fitting r first (windowDays first last)) old → Searched r first last old a new
-made r first last old x a new e f g =
+pub made : {r : Reading} {first last : ℕ} {old : List ℕ} {x : Answer ℕ} (a : Found) {new : List ℕ} →
+    searchAt r first last (length old) ≡ x → saidFound a ≡ x →
+    new ≡ afterwards x (λ n. fitting r first (windowDays first last)) old → Searched r first last old a new
+made {r} {first} {last} {old} a e f g =
     record {
       answered = f ∙ sym e;
       lent = g ∙ ap (λ (y : Answer ℕ). afterwards y (λ n. fitting r first (windowDays first last)) old) (sym e);

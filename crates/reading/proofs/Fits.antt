@@ -18,33 +18,37 @@ use Rattle.reading.specs.Readings.{
   windowHolds,
 }
 
-pub day-made : (r : Reading) (s d k : ℕ) (a b : Bool) → a ≡ fieldFits (r .«day_of_month») (d - s + 1) → b ≡ fieldFits (r .«day_name») k → k ≡ dayName d → (a && b) ≡ dayFits r s d
+pub day-made : (r : Reading) (s d : ℕ) {k : ℕ} {a b : Bool} →
+    a ≡ fieldFits (r .«day_of_month») (d - s + 1) → b ≡ fieldFits (r .«day_name») k → k ≡ dayName d → (a && b) ≡ dayFits r s d
 unfolding dayFits
-day-made r s d k a b e f g = ap₂ _&&_ e (f ∙ ap (fieldFits (r .«day_name»)) g)
+day-made r s d e f g = ap₂ _&&_ e (f ∙ ap (fieldFits (r .«day_name»)) g)
 
 -- a month's four values in the order in which they are looked at: the first that does not fit decides, and else the last does
-pub year-name-fails : (r : Reading) (n : ℕ) → fieldFits (r .«year_name») (yearName (yearOfMonth n)) ≡ false → monthFits r n ≡ false
-unfolding monthFits
-year-name-fails r n a = rw a
+module _ (r : Reading) (n : ℕ) where
+  pub year-name-fails : fieldFits (r .«year_name») (yearName (yearOfMonth n)) ≡ false → monthFits r n ≡ false
+  unfolding monthFits
+  year-name-fails a = rw a
 
-pub number-fails : (r : Reading) (n : ℕ) → fieldFits (r .«year_name») (yearName (yearOfMonth n)) ≡ true → fieldFits (r .«month_number») (monthNumber n) ≡ false → monthFits r n ≡ false
-unfolding monthFits
-number-fails r n a b = rw (a, b)
+  module _ (a : fieldFits (r .«year_name») (yearName (yearOfMonth n)) ≡ true) where
+    pub number-fails : fieldFits (r .«month_number») (monthNumber n) ≡ false → monthFits r n ≡ false
+    unfolding monthFits
+    number-fails b = rw (a, b)
 
-pub mark-fails : (r : Reading) (n : ℕ) → fieldFits (r .«year_name») (yearName (yearOfMonth n)) ≡ true → fieldFits (r .«month_number») (monthNumber n) ≡ true → fieldFits (r .«leap_mark») (markNumber (leap n)) ≡ false → monthFits r n ≡ false
-unfolding monthFits
-mark-fails r n a b c = rw (a, b, c)
+    module _ (b : fieldFits (r .«month_number») (monthNumber n) ≡ true) where
+      pub mark-fails : fieldFits (r .«leap_mark») (markNumber (leap n)) ≡ false → monthFits r n ≡ false
+      unfolding monthFits
+      mark-fails c = rw (a, b, c)
 
-pub first-name-decides : (r : Reading) (n : ℕ) → fieldFits (r .«year_name») (yearName (yearOfMonth n)) ≡ true → fieldFits (r .«month_number») (monthNumber n) ≡ true → fieldFits (r .«leap_mark») (markNumber (leap n)) ≡ true → monthFits r n ≡ fieldFits (r .«first_name») (dayName (monthStart n))
-unfolding monthFits
-first-name-decides r n a b c = rw (a, b, c)
+      pub first-name-decides : fieldFits (r .«leap_mark») (markNumber (leap n)) ≡ true → monthFits r n ≡ fieldFits (r .«first_name») (dayName (monthStart n))
+      unfolding monthFits
+      first-name-decides c = rw (a, b, c)
 
-pub ranges-made : (r : Reading) (a b c d e f : Bool) →
+pub ranges-made : (r : Reading) {a b c d e f : Bool} →
     a ≡ fieldInRange (r .«year_name») 60 → b ≡ fieldInRange (r .«month_number») 12 → c ≡ fieldInRange (r .«leap_mark») 2 →
     d ≡ fieldInRange (r .«day_of_month») 30 → e ≡ fieldInRange (r .«day_name») 60 → f ≡ fieldInRange (r .«first_name») 60 →
     (a && b && c && d && e && f) ≡ inRanges r
 unfolding inRanges
-ranges-made r a b c d e f p q s t u v = ap₂ _&&_ (ap₂ _&&_ (ap₂ _&&_ (ap₂ _&&_ (ap₂ _&&_ p q) s) t) u) v
+ranges-made r p q s t u v = ap₂ _&&_ (ap₂ _&&_ (ap₂ _&&_ (ap₂ _&&_ (ap₂ _&&_ p q) s) t) u) v
 
 pub turned-round : (first last : ℕ) → last < first → windowHolds first last ≡ false
 turned-round first last h = rw (lt-leb first last h)

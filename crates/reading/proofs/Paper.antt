@@ -25,7 +25,18 @@ use Rattle.reading.specs.declared.Found.the-variants.{Is, TooShort, Refu
 use Rattle.reading.specs.Readings.{markNumber, sixOfDate, sixOf, fieldFits, inRanges, monthFits, dayFits, fits, windowDays, fitting}
 use Rattle.reading.specs.Search.{total, searchAt, saidFound, Searched}
 use Rattle.reading.specs.Paper as Paper
-use Rattle.reading.specs.Paper.{FieldFits, ReadingFits, SearchFault, GoodSearch, ListsExactly, SearchAnswered, SearchTooShort, ReadToo, MoreKnown, allUnread}
+use Rattle.reading.specs.Paper.{
+  FieldFits,
+  ReadingFits,
+  SearchFault,
+  GoodSearch,
+  ListsExactly,
+  SearchAnswered,
+  SearchTooShort,
+  ReadToo,
+  MoreKnown,
+  allUnread,
+}
 use Rattle.reading.proofs.Answered
 use Rattle.reading.proofs.Rows.{refuses, tells, gives, comes}
 
@@ -50,7 +61,10 @@ fits-literally r d = (λ e. there (six .0 e), λ h. six .1 (back h))
     n = monthOfDay d
 
     Four : Type 0
-    Four = ((FieldFits (r .«year_name») (yearName (yearOfMonth n)) × FieldFits (r .«month_number») (monthNumber n)) × FieldFits (r .«leap_mark») (markNumber (leap n))) × FieldFits (r .«first_name») (dayName (monthStart n))
+    Four =
+        ((FieldFits (r .«year_name») (yearName (yearOfMonth n)) × FieldFits (r .«month_number») (monthNumber n))
+        × FieldFits (r .«leap_mark») (markNumber (leap n)))
+        × FieldFits (r .«first_name») (dayName (monthStart n))
 
     Two : Type 0
     Two = FieldFits (r .«day_of_month») (d - monthStart n + 1) × FieldFits (r .«day_name») (dayName d)
@@ -84,10 +98,10 @@ fits-literally r d = (λ e. there (six .0 e), λ h. six .1 (back h))
         }
 
     back : ReadingFits r d → Four × Two
-    back h = (
-      (((h .year-name, subst (FieldFits (r .«month_number»)) (Leaps.number-at n) (h .month-number)), subst (FieldFits (r .«leap_mark»)) (ap markNumber (Leaps.mark-at n)) (h .leap-mark)), h .first-name),
-      (h .day-of-month, h .day-name),
-    )
+    back h =
+        let number = subst (FieldFits (r .«month_number»)) (Leaps.number-at n) (h .month-number) in
+        let mark = subst (FieldFits (r .«leap_mark»)) (ap markNumber (Leaps.mark-at n)) (h .leap-mark) in
+        ((((h .year-name, number), mark), h .first-name), (h .day-of-month, h .day-name))
 
 -- all six unread: every day fits
 all-fit : (first k : ℕ) → fitting allUnread first k ≡ those (λ n. true) first k
@@ -194,7 +208,7 @@ search-lists r first last n old new = (there, λ h. back (h .0) (h .1))
     back : GoodSearch r first last → SearchAnswered r first last n old new → Searched r first last old (Is n) new
     back g h =
         let t = the-total r first last (h .days) (h .exactly) n (h .counted) in
-        Answered.made r first last old (is n) (Is n) new (gives r first last (length old) g (omega (arith, t, h .room)) ∙ ap is t) refl
+        Answered.made (Is n) (gives r first last (length old) g (omega (arith, t, h .room)) ∙ ap is t) refl
         (h .filled ∙ ap (λ (l : List ℕ). placed l old) (the-days r first last (h .days) (h .exactly)))
 
 pub too-short-says-the-total : Paper.Too-short-says-the-total
@@ -217,13 +231,13 @@ too-short-says-the-total r first last n old new = (there, λ h. back (h .0) (h .
     back : GoodSearch r first last → SearchTooShort r first last n old new → Searched r first last old (TooShort n) new
     back g h =
         let t = the-total r first last (h .days) (h .exactly) n (h .counted) in
-        Answered.made r first last old (refused-with 12 n) (TooShort n) new
+        Answered.made (TooShort n)
         (tells r first last (length old) g (omega (arith, t, h .short)) ∙ ap (refused-with 12) t) refl (h .unchanged)
 
 pub reasons-of-a-search : Paper.Reasons-of-a-search
 reasons-of-a-search r first last old new why = (
   λ s. (there s, lent-after r first last old new (Refused why) s),
-  λ h. Answered.made r first last old (refused (reasonNumber why)) (Refused why) new (refuses r first last (length old) why (h .0)) refl (h .1),
+  λ h. Answered.made (Refused why) (refuses r first last (length old) why (h .0)) refl (h .1),
 )
   where
     there : Searched r first last old (Refused why) new → SearchFault r first last why
@@ -255,14 +269,16 @@ unique-search r first last old a b new other p q =
     again (Refused w) = ap Refused (reason-back w)
 
 -- what stands at place i of the list after the call
-front : (r : Reading) (first last n : ℕ) (old new : List ℕ) (h : SearchAnswered r first last n old new) (i : ℕ) → i < n → getD new i 0 ≡ getD (h .days) i 0
+front : (r : Reading) (first last n : ℕ) (old new : List ℕ) (h : SearchAnswered r first last n old new) (i : ℕ) → i < n →
+    getD new i 0 ≡ getD (h .days) i 0
 front r first last n old new h i l =
     ap (λ (m : List ℕ). getD m i 0) (h .filled) ∙ List·getD-append (h .days) (drop (length (h .days)) old) 0 i (omega (arith, h .counted))
 
 pub unread-lists-all : Paper.Unread-lists-all
 unread-lists-all = record { counted = number; each = at-place }
   where
-    run : (first last n : ℕ) (old new : List ℕ) (h : SearchAnswered allUnread first last n old new) → h .days ≡ those (λ d. true) first (windowDays first last)
+    run : (first last n : ℕ) (old new : List ℕ) (h : SearchAnswered allUnread first last n old new) →
+        h .days ≡ those (λ d. true) first (windowDays first last)
     run first last n old new h = the-days allUnread first last (h .days) (h .exactly) ∙ all-fit first (windowDays first last)
 
     number : (first last n : ℕ) (old new : List ℕ) → Searched allUnread first last old (Is n) new → n ≡ windowDays first last
@@ -311,8 +327,13 @@ more-known-never-adds r s first last n m old new old′ new′ i k p q l =
 pub second-of-two-big-listed : Paper.Second-of-two-big-listed
 second-of-two-big-listed n d r first last k old new big also inside e h g s = found r first last k old new d s h g e
 
+-- what a day's six values are computed from
+computing : ℕ
+unfolding sixOf dateOf dateIn monthAt monthStart monthOfDay yearOfMonth monthNumber midTermNumber midTermsBefore leap dayName yearName
+computing = 0
+
 pub wrong-searches : Paper.Wrong-searches
-unfolding searchAt total fitting those fits monthFits dayFits inRanges sixOf dateOf dateIn monthAt monthStart monthOfDay yearOfMonth monthNumber midTermNumber midTermsBefore leap dayName yearName
+unfolding searchAt total fitting those fits monthFits dayFits inRanges computing
 wrong-searches =
     record {
       refusing-all = λ why new s. let e : _≡_ {A = Answer ℕ} (refused (reasonNumber why)) (is 1) = s .answered in let o : _≡_ {A = ℕ} 0 1 = cc in omega arith;

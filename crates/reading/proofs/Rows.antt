@@ -97,7 +97,14 @@ module _ (r : Reading) where
       Iff·trans
       (all-six _ _ _ _ _ _ (field-range (r .«year_name») 60) (field-range (r .«month_number») 12) (field-range (r .«leap_mark») 2)
       (field-range (r .«day_of_month») 30) (field-range (r .«day_name») 60) (field-range (r .«first_name») 60)) (
-        λ h. record { year-name = h .0 .0 .0 .0 .0; month-number = h .0 .0 .0 .0 .1; leap-mark = h .0 .0 .0 .1; day-of-month = h .0 .0 .1; day-name = h .0 .1; first-name = h .1 },
+        λ h. record {
+          year-name = h .0 .0 .0 .0 .0;
+          month-number = h .0 .0 .0 .0 .1;
+          leap-mark = h .0 .0 .0 .1;
+          day-of-month = h .0 .0 .1;
+          day-name = h .0 .1;
+          first-name = h .1;
+        },
         λ h. (((((h .year-name, h .month-number), h .leap-mark), h .day-of-month), h .day-name), h .first-name),
       )
 

@@ -1,60 +1,55 @@
-// The words of a reason, as the paper has them, put into a lent buffer. A crate of its own: seventeen constants are slow to check.
+// The words of a reason, as the paper has them, put into a lent buffer. A crate of its own: so long a constant is slow to check.
+ghost use mathlib.Core.Path.{_≡_};
+ghost use mathlib.Core.Bool.{true};
 ghost use Prim.Native.Nat.{_+_, _≤_};
 ghost use lib.ListN.{length};
 ghost use Rattle.fields.specs.Fields.{Put};
 ghost use Rattle.penned.specs.Lines.{wordsOf};
+ghost use Rattle.words.specs.Rows.{rowOf, hasRow};
 use rule::Reason;
 
-// The words of a reason.
+// Row k of a table whose rows have each their length in front, 64 bytes at most.
+fn put_row(k: u8, rows: &[u8], out: &mut [u8], at: usize) -> usize
+    requires { ⌜ (hasRow k (now rows) ≡ true) × (at + 64 ≤ length (now out)) ⌝ }
+    ensures { λ r. ⌜ Put 64 (now (out .entry)) at (rowOf k (now (rows .entry))) (now (out .exit)) r ⌝ }
+{
+    let mut t = rows;
+    let mut left = k;
+    while 0 < left {
+        let n = t[0] as usize;
+        t = &t[1 + n..];
+        left -= 1;
+    }
+    let n = t[0] as usize;
+    fields::put_bytes(&t[1..1 + n], out, at)
+}
+
+// The words of a reason: row k has those of reason k, and is empty where there is no reason k.
 pub fn put_words(why: Reason, out: &mut [u8], at: usize) -> usize
     requires { ⌜ at + 64 ≤ length (now out) ⌝ }
     ensures { λ r. ⌜ Put 64 (now (out .entry)) at (wordsOf why) (now (out .exit)) r ⌝ }
 {
-    match why {
-        Reason::NoSuchYear => fields::put_bytes(b"year outside 1 to 41,040", out, at),
-        Reason::NoSuchMonthNumber => fields::put_bytes(b"month number outside 1 to 12", out, at),
-        Reason::NoSuchDayOfMonth => fields::put_bytes(b"day of month outside 1 to 30", out, at),
-        Reason::NoSuchLeapMonth => fields::put_bytes(
-            b"leap month asked and that year has none of that number",
-            out,
-            at,
-        ),
-        Reason::NoThirtiethDay => fields::put_bytes(b"day 30 of a 29-day month", out, at),
-        Reason::NoSuchDay => fields::put_bytes(b"day count outside the range", out, at),
-        Reason::NoSuchMonth => fields::put_bytes(b"month count outside the range", out, at),
-        Reason::MoveOutOfRange => fields::put_bytes(b"a move ends outside the range", out, at),
-        Reason::SheetEndsEarly => fields::put_bytes(
-            b"sheet ends before a count or an item is whole",
-            out,
-            at,
-        ),
-        Reason::CountTooLarge => fields::put_bytes(b"a count above 1,000", out, at),
-        Reason::BytesAfterLast => fields::put_bytes(b"bytes after the last section", out, at),
-        Reason::LentTooShort => fields::put_bytes(
-            b"a lent list or buffer too short for the whole answer",
-            out,
-            at,
-        ),
-        Reason::BadWindow => fields::put_bytes(
-            b"window's last day before its first, or more than 27,759 days",
-            out,
-            at,
-        ),
-        Reason::FieldOutOfRange => fields::put_bytes(
-            b"a known field of a reading outside its range",
-            out,
-            at,
-        ),
-        Reason::NoSuchTermOrQuarter => fields::put_bytes(
-            b"term above 23 or quarter above 3",
-            out,
-            at,
-        ),
-        Reason::NoSuchPlanet => fields::put_bytes(b"planet outside 1 to 5", out, at),
-        Reason::NoConjunctionLeft => fields::put_bytes(
-            b"no conjunction falls from the given day to the end of the range",
-            out,
-            at,
-        ),
-    }
+    let rows = b"\
+        \x00\
+        \x18year outside 1 to 41,040\
+        \x1cmonth number outside 1 to 12\
+        \x1cday of month outside 1 to 30\
+        \x36leap month asked and that year has none of that number\
+        \x18day 30 of a 29-day month\
+        \x1bday count outside the range\
+        \x1dmonth count outside the range\
+        \x1da move ends outside the range\
+        \x2dsheet ends before a count or an item is whole\
+        \x13a count above 1,000\
+        \x1cbytes after the last section\
+        \x34a lent list or buffer too short for the whole answer\
+        \x3cwindow's last day before its first, or more than 27,759 days\
+        \x2ca known field of a reading outside its range\
+        \x20term above 23 or quarter above 3\
+        \x00\
+        \x00\
+        \x00\
+        \x15planet outside 1 to 5\
+        \x3fno conjunction falls from the given day to the end of the range";
+    put_row(rule::reason_number(why), rows, out, at)
 }

@@ -20,35 +20,24 @@ loop-holds : tie.Need-loop-holds Inv-loop μ-loop
 unfolding those
 loop-holds c = (omega arith, refl)
 
-add-is-leap : tie.Need-add-is-leap Inv-loop μ-loop
-add-is-leap c = omega arith
-
-is-leap-requires : tie.Need-is-leap-requires Inv-loop μ-loop
-is-leap-requires c κs = omega arith
-
-add-month-number : tie.Need-add-month-number Inv-loop μ-loop
-add-month-number c = omega arith
-
-month-number-requires : tie.Need-month-number-requires Inv-loop μ-loop
-month-number-requires c κs = omega arith
-
-add-t9 : tie.Need-add-t9 Inv-loop μ-loop
-add-t9 c = omega arith
-
 returns : tie.Need-returns Inv-loop μ-loop
-returns c = ap (λ (k : ℕ). With k (c .before .before .before .before .before .args .first + c .before .before .before .before .loop .i)) (c .month-number .ensures) ∙ sym (found (c .before .before .before .before .before .args .first) (c .before .before .before .before .before .args .months) (c .before .before .before .before .loop .i) (c .before .before .before .before .loop .inv .1) (omega arith) (sym (c .before .before .is-leap .ensures) ∙ c .before .if1 .taken))
-
-add-i : tie.Need-add-i Inv-loop μ-loop
-add-i c = omega arith
-
-loop-less : tie.Need-loop-less Inv-loop μ-loop
-loop-less c = omega arith
+returns c =
+    let l = c .before .before .before .before in
+    let a = l .before .args in
+    let hit = sym (c .before .before .is-leap .ensures) ∙ c .before .if1 .taken in
+    ap (λ (k : ℕ). With k (a .first + l .loop .i)) (c .month-number .ensures)
+    ∙ sym (found (a .first) (a .months) (l .loop .i) (l .loop .inv .1) (omega arith) hit)
 
 loop-again : tie.Need-loop-again Inv-loop μ-loop
-loop-again c = (omega arith, still-none (c .before .before .before .before .args .first) (c .before .before .before .before .args .months) (c .before .before .before .loop .i) (c .before .before .before .loop .inv .1) (sym (c .before .is-leap .ensures) ∙ c .if1 .left))
+loop-again c =
+    let l = c .before .before .before in
+    let a = l .before .args in
+    (omega arith, still-none (a .first) (a .months) (l .loop .i) (l .loop .inv .1) (sym (c .before .is-leap .ensures) ∙ c .if1 .left))
 
 returns-2 : tie.Need-returns-2 Inv-loop μ-loop
-returns-2 c = sym (none-at-all (c .before .before .args .first) (c .before .before .args .months) (ap (those leap (c .before .before .args .first)) (omega arith) ∙ c .before .loop .inv .1))
+returns-2 c =
+    let a = c .before .before .args in
+    sym (none-at-all (a .first) (a .months) (ap (those leap (a .first)) (omega arith) ∙ c .before .loop .inv .1))
 
 pub leap-among-spec : {M : Type 1} → statement M
 leap-among-spec =
@@ -57,13 +46,13 @@ leap-among-spec =
     Inv-loop
     μ-loop
     loop-holds
-    add-is-leap
-    is-leap-requires
-    add-month-number
-    month-number-requires
-    add-t9
+    (λ c. omega arith)
+    (λ c κs. omega arith)
+    (λ c. omega arith)
+    (λ c κs. omega arith)
+    (λ c. omega arith)
     returns
-    add-i
-    loop-less
+    (λ c. omega arith)
+    (λ c. omega arith)
     loop-again
     returns-2)

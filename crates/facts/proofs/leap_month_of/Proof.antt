@@ -10,28 +10,23 @@ use borrow.Author.Needs.{needs}
 use Rattle.facts.proofs.leap_month_of.Statement.{statement}
 use Rattle.facts.proofs.leap_month_of.Tie as tie
 
-first-month-requires : tie.Need-first-month-requires
-first-month-requires c κs = search needs
-
-months-in-year-requires : tie.Need-months-in-year-requires
-months-in-year-requires c κs = search needs
-
-cast-leap-among : tie.Need-cast-leap-among
-cast-leap-among c = search needs
-
 leap-among-requires : tie.Need-leap-among-requires
-leap-among-requires c κs = omega (arith, first-next (c .before .before .args .year) (c .before .before .pre .0), first-end (c .before .before .args .year + 1) (omega arith))
+leap-among-requires c κs =
+    let start = c .before .before in
+    omega (arith, first-next (start .args .year) (start .pre .0), first-end (start .args .year + 1) (omega arith))
 
 returns : tie.Need-returns
 unfolding leapMonth
-returns c = c .leap-among .ensures ∙ ap₂ (λ (f m : ℕ). firstOf (those leap f m)) (c .before .before .first-month .ensures) (c .before .months-in-year .ensures)
+returns c =
+    c .leap-among .ensures
+    ∙ ap₂ (λ (f m : ℕ). firstOf (those leap f m)) (c .before .before .first-month .ensures) (c .before .months-in-year .ensures)
 
 pub leap-month-of-spec : {M : Type 1} → statement M
 leap-month-of-spec =
     tie.close
     (tie.spec
-    first-month-requires
-    months-in-year-requires
-    cast-leap-among
+    (λ c κs. search needs)
+    (λ c κs. search needs)
+    (λ c. search needs)
     leap-among-requires
     returns)

@@ -12,21 +12,20 @@ use Rattle.moves.proofs.back.Tie as tie
 returns : tie.Need-returns
 returns c = sym (back-out (c .before .args .day) (c .before .args .n) (omega arith))
 
-sub-date-at : tie.Need-sub-date-at
-sub-date-at c = search needs
-
-cast-date-at : tie.Need-cast-date-at
-cast-date-at c = search needs
-
-sub-date-at-2 : tie.Need-sub-date-at-2
-sub-date-at-2 c = search needs
-
-date-at-requires : tie.Need-date-at-requires
-date-at-requires c κs = search needs
-
 returns-2 : tie.Need-returns-2
-returns-2 c = ap is (c .date-at .ensures) ∙ ap (λ (d : ℕ). is (dateOf d)) {y = c .before .before .args .day - 1 - c .before .before .args .n} (omega arith) ∙ sym (back-lands (c .before .before .args .day) (c .before .before .args .n) (omega arith) (omega arith))
+returns-2 c =
+    let a = c .before .before .args in
+    ap is (c .date-at .ensures)
+    ∙ ap (λ (d : ℕ). is (dateOf d)) {y = a .day - 1 - a .n} (omega arith)
+    ∙ sym (back-lands (a .day) (a .n) (omega arith) (omega arith))
 
 pub back-spec : {M : Type 1} → statement M
 back-spec =
-    tie.close (tie.spec returns sub-date-at cast-date-at sub-date-at-2 date-at-requires returns-2)
+    tie.close
+    (tie.spec
+    returns
+    (λ c. search needs)
+    (λ c. search needs)
+    (λ c. search needs)
+    (λ c κs. search needs)
+    returns-2)

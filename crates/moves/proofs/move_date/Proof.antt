@@ -14,18 +14,6 @@ use borrow.Author.Needs.{needs}
 use Rattle.moves.proofs.move_date.Statement.{statement}
 use Rattle.moves.proofs.move_date.Tie as tie
 
-day-of-date-requires : tie.Need-day-of-date-requires
-day-of-date-requires c κs = search needs
-
-enum-known-reason : tie.Need-enum-known-reason
-enum-known-reason c = search needs
-
-enum-known-day : tie.Need-enum-known-day
-enum-known-day c = search needs
-
-way-of-requires : tie.Need-way-of-requires
-way-of-requires c κs = search needs
-
 -- the date has a day, which is in range
 found : (c : tie.After-day) →
     let a = c .before .before .before .args in
@@ -37,45 +25,50 @@ in-range c =
     let s = c .before .before .before .args in
     found-date (s .year) (s .number) (s .leap) (s .day-of-month) (c .day .given .0 .0) (found c) .0
 
-enum-known-n : tie.Need-enum-known-n
-enum-known-n c = search needs
-
 -- the number's way, read through its bits
 way : (c : tie.After-way-of) → c .way-of .result ≡ wayOf (c .before .before .before .before .before .args .days)
 way c =
-    c .way-of .ensures
-    ∙ ap wayOf (toZ-ofZ w64 (c .before .before .before .before .before .args .days) (c .before .before .before .before .before .fits .days))
-
-on-requires : tie.Need-on-requires
-on-requires c κs = in-range (c .before .before .before .before .before)
-
-enum-known-n-2 : tie.Need-enum-known-n-2
-enum-known-n-2 c = search needs
-
-back-requires : tie.Need-back-requires
-back-requires c κs = in-range (c .before .before .before .before .before)
+    let start = c .before .before .before .before .before in
+    c .way-of .ensures ∙ ap wayOf (toZ-ofZ w64 (start .args .days) (start .fits .days))
 
 returns : tie.Need-returns
-returns c = sym (moved-refused (c .before .before .before .before .args .year) (c .before .before .before .before .args .number) (c .before .before .before .before .args .leap) (c .before .before .before .before .args .day-of-month) (c .before .before .before .before .args .days) (reasonNumber (c .before .reason .given .0 .0)) (sym (c .before .before .before .day-of-date .ensures) ∙ ap saidDay (c .before .reason .given .1)))
+returns c =
+    let a = c .before .before .before .before .args in
+    let reason = c .before .reason .given in
+    sym
+    (moved-refused (a .year) (a .number) (a .leap) (a .day-of-month) (a .days) (reasonNumber (reason .0 .0))
+    (sym (c .before .before .before .day-of-date .ensures) ∙ ap saidDay (reason .1)))
 
 returns-2 : tie.Need-returns-2
-returns-2 c = c .on .ensures ∙ arrives (c .before .before .before .before .before .before .before .before .before .args .year) (c .before .before .before .before .before .before .before .before .before .args .number) (c .before .before .before .before .before .before .before .before .before .args .leap) (c .before .before .before .before .before .before .before .before .before .args .day-of-month) (c .before .before .before .before .before .before .before .before .before .args .days) (c .before .before .before .before .before .before .day .given .0 .0) (On (c .before .before .n .given .0 .0)) (found (c .before .before .before .before .before .before)) (sym (way (c .before .before .before .before)) ∙ c .before .before .n .given .1)
+returns-2 c =
+    let b4 = c .before .before .before .before in
+    let day = b4 .before .before in
+    let a = day .before .before .before .args in
+    let n = c .before .before .n .given in
+    c .on .ensures
+    ∙ arrives (a .year) (a .number) (a .leap) (a .day-of-month) (a .days) (day .day .given .0 .0) (On (n .0 .0)) (found day) (sym (way b4) ∙ n .1)
 
 returns-3 : tie.Need-returns-3
-returns-3 c = c .back .ensures ∙ arrives (c .before .before .before .before .before .before .before .before .before .args .year) (c .before .before .before .before .before .before .before .before .before .args .number) (c .before .before .before .before .before .before .before .before .before .args .leap) (c .before .before .before .before .before .before .before .before .before .args .day-of-month) (c .before .before .before .before .before .before .before .before .before .args .days) (c .before .before .before .before .before .before .day .given .0 .0) (Back (c .before .before .n2 .given .0 .0)) (found (c .before .before .before .before .before .before)) (sym (way (c .before .before .before .before)) ∙ c .before .before .n2 .given .1)
+returns-3 c =
+    let b4 = c .before .before .before .before in
+    let day = b4 .before .before in
+    let a = day .before .before .before .args in
+    let n = c .before .before .n2 .given in
+    c .back .ensures
+    ∙ arrives (a .year) (a .number) (a .leap) (a .day-of-month) (a .days) (day .day .given .0 .0) (Back (n .0 .0)) (found day) (sym (way b4) ∙ n .1)
 
 pub move-date-spec : {M : Type 1} → statement M
 move-date-spec =
     tie.close
     (tie.spec
-    day-of-date-requires
-    enum-known-reason
-    enum-known-day
-    way-of-requires
-    enum-known-n
-    on-requires
-    enum-known-n-2
-    back-requires
+    (λ c κs. search needs)
+    (λ c. search needs)
+    (λ c. search needs)
+    (λ c κs. search needs)
+    (λ c. search needs)
+    (λ c κs. in-range (c .before .before .before .before .before))
+    (λ c. search needs)
+    (λ c κs. in-range (c .before .before .before .before .before))
     returns
     returns-2
     returns-3)

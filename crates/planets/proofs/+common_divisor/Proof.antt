@@ -35,7 +35,9 @@ common-divisor-returns : (t : ℕ) → common-divisor-lts.Need-returns (
   common-divisor-below t,
   common-divisor.Post,
 ) (common-divisor-at t) common-divisor.Post
-common-divisor-returns t c = subst (λ (b : ℕ). CommonDivisor (c .before .args .a) b (c .before .args .a)) (sym (c .if1 .taken)) (with-none (c .before .args .a))
+common-divisor-returns t c =
+    let a = c .before .args .a in
+    subst (λ (b : ℕ). CommonDivisor a b a) (sym (c .if1 .taken)) (with-none a)
 
 common-divisor-rem-common-divisor : (t : ℕ) → common-divisor-lts.Need-rem-common-divisor (
   common-divisor-below t,
@@ -47,13 +49,17 @@ common-divisor-common-divisor-requires : (t : ℕ) → common-divisor-lts.Need-c
   common-divisor-below t,
   common-divisor.Post,
 ) (common-divisor-at t) common-divisor.Post
-common-divisor-common-divisor-requires t c κs = (subst (λ (m : ℕ). c .before .args .a % c .before .args .b < m) (c .before .pre .0) (mod-lt (c .before .args .a) (pos-of-ne-zero (c .if1 .left))), tt)
+common-divisor-common-divisor-requires t c κs =
+    let s = c .before .args in
+    (subst (λ (m : ℕ). s .a % s .b < m) (c .before .pre .0) (mod-lt (s .a) (pos-of-ne-zero (c .if1 .left))), tt)
 
 common-divisor-returns-2 : (t : ℕ) → common-divisor-lts.Need-returns-2 (
   common-divisor-below t,
   common-divisor.Post,
 ) (common-divisor-at t) common-divisor.Post
-common-divisor-returns-2 t c = of-remainder (c .before .before .args .a) (c .before .before .args .b) (c .common-divisor .result) (c .common-divisor .ensures)
+common-divisor-returns-2 t c =
+    let s = c .before .before .args in
+    of-remainder (s .a) (s .b) (c .common-divisor .result) (c .common-divisor .ensures)
 
 pub +common-divisor-spec : {M : Type 1} → statement M
 +common-divisor-spec = close μ-common-divisor λ t. common-divisor-lts.spec (

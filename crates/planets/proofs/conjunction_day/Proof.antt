@@ -8,23 +8,17 @@ use borrow.Author.Needs.{needs}
 use Rattle.planets.proofs.conjunction_day.Statement.{statement}
 use Rattle.planets.proofs.conjunction_day.Tie as tie
 
-cast-result : tie.Need-cast-result
-cast-result c = search needs
-
 mul-result : tie.Need-mul-result
-mul-result c = let y : c .before .args .n .years ≤ 65535 = search needs in record { fits = omega (arith, product (c .before .args .k) (c .before .args .n .years) 65535 (c .before .pre .1) y) }
+mul-result c =
+    let a = c .before .args in
+    let y : c .before .args .n .years ≤ 65535 = search needs in
+    record { fits = omega (arith, product (a .k) (a .n .years) 65535 (c .before .pre .1) y) }
 
 mul-result-2 : tie.Need-mul-result-2
-mul-result-2 c = let y : c .before .args .n .years ≤ 65535 = search needs in record { fits = omega (arith, product (c .before .args .k) (c .before .args .n .years) 65535 (c .before .pre .1) y) }
-
-cast-result-2 : tie.Need-cast-result-2
-cast-result-2 c = search needs
-
-mul-result-3 : tie.Need-mul-result-3
-mul-result-3 c = search needs
-
-div-result : tie.Need-div-result
-div-result c = search needs
+mul-result-2 c =
+    let a = c .before .args in
+    let y : c .before .args .n .years ≤ 65535 = search needs in
+    record { fits = omega (arith, product (a .k) (a .n .years) 65535 (c .before .pre .1) y) }
 
 returns : tie.Need-returns
 unfolding conjunctionDay
@@ -33,4 +27,11 @@ returns c = refl
 pub conjunction-day-spec : {M : Type 1} → statement M
 conjunction-day-spec =
     tie.close
-    (tie.spec cast-result mul-result mul-result-2 cast-result-2 mul-result-3 div-result returns)
+    (tie.spec
+    (λ c. search needs)
+    mul-result
+    mul-result-2
+    (λ c. search needs)
+    (λ c. search needs)
+    (λ c. search needs)
+    returns)

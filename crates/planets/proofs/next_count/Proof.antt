@@ -8,36 +8,20 @@ use borrow.Author.Needs.{needs}
 use Rattle.planets.proofs.next_count.Statement.{statement}
 use Rattle.planets.proofs.next_count.Tie as tie
 
-cast-step : tie.Need-cast-step
-cast-step c = search needs
-
-mul-step : tie.Need-mul-step
-mul-step c = search needs
-
-cast-result : tie.Need-cast-result
-cast-result c = search needs
-
-mul-result : tie.Need-mul-result
-mul-result c = search needs
-
 mul-result-2 : tie.Need-mul-result-2
 mul-result-2 c =
+    let start = c .before .before in
     let m : c .before .before .args .n .conjunctions ≤ 65535 = search needs in
-    let l : 4 * c .before .before .args .n .conjunctions ≤ 262140 = omega (arith, m) in
-    record { fits = omega (arith, product (c .before .before .args .day) (4 * c .before .before .args .n .conjunctions) 262140 (c .before .before .pre .1) l) }
-
-sub-result : tie.Need-sub-result
-sub-result c = search needs
+    let l : 4 * start .args .n .conjunctions ≤ 262140 = omega (arith, m) in
+    record { fits = omega (arith, product (start .args .day) (4 * start .args .n .conjunctions) 262140 (start .pre .1) l) }
 
 add-result : tie.Need-add-result
 add-result c =
+    let start = c .before .before in
     let m : c .before .before .args .n .conjunctions ≤ 65535 = search needs in
-    let l : 4 * c .before .before .args .n .conjunctions ≤ 262140 = omega (arith, m) in
+    let l : 4 * start .args .n .conjunctions ≤ 262140 = omega (arith, m) in
     let z : c .before .before .args .n .years ≤ 65535 = search needs in
-    record { fits = omega (arith, z, product (c .before .before .args .day) (4 * c .before .before .args .n .conjunctions) 262140 (c .before .before .pre .1) l) }
-
-div-result : tie.Need-div-result
-div-result c = search needs
+    record { fits = omega (arith, z, product (start .args .day) (4 * start .args .n .conjunctions) 262140 (start .pre .1) l) }
 
 returns : tie.Need-returns
 unfolding nextCount
@@ -47,12 +31,12 @@ pub next-count-spec : {M : Type 1} → statement M
 next-count-spec =
     tie.close
     (tie.spec
-    cast-step
-    mul-step
-    cast-result
-    mul-result
+    (λ c. search needs)
+    (λ c. search needs)
+    (λ c. search needs)
+    (λ c. search needs)
     mul-result-2
-    sub-result
+    (λ c. search needs)
     add-result
-    div-result
+    (λ c. search needs)
     returns)

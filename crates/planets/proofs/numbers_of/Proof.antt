@@ -23,7 +23,9 @@ returns-4 c = ap numbersOf (sym (c .match .keys4))
 
 returns-5 : tie.Need-returns-5
 unfolding numbersOf
-returns-5 c = ap numbersOf (sym (last (c .before .args .planet) (c .before .pre) (c .match .rest .0 .0 .0 .1) (c .match .rest .0 .0 .1) (c .match .rest .0 .1) (c .match .rest .1)))
+returns-5 c =
+    let no = c .match .rest in
+    ap numbersOf (sym (last (c .before .args .planet) (c .before .pre) (no .0 .0 .0 .1) (no .0 .0 .1) (no .0 .1) (no .1)))
 
 pub numbers-of-spec : {M : Type 1} → statement M
 numbers-of-spec = tie.close (tie.spec returns returns-2 returns-3 returns-4 returns-5)

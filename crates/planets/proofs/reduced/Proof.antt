@@ -5,15 +5,6 @@ use borrow.Author.Needs.{needs}
 use Rattle.planets.proofs.reduced.Statement.{statement}
 use Rattle.planets.proofs.reduced.Tie as tie
 
-common-divisor-requires : tie.Need-common-divisor-requires
-common-divisor-requires c κs = search needs
-
-div-t4 : tie.Need-div-t4
-div-t4 c = pos-of-dvd-of-pos (c .common-divisor .ensures .second) (c .before .pre)
-
-div-t5 : tie.Need-div-t5
-div-t5 c = pos-of-dvd-of-pos (c .common-divisor .ensures .second) (c .before .pre)
-
 returns : tie.Need-returns
 returns c =
     record {
@@ -24,4 +15,10 @@ returns c =
     }
 
 pub reduced-spec : {M : Type 1} → statement M
-reduced-spec = tie.close (tie.spec common-divisor-requires div-t4 div-t5 returns)
+reduced-spec =
+    tie.close
+    (tie.spec
+    (λ c κs. search needs)
+    (λ c. pos-of-dvd-of-pos (c .common-divisor .ensures .second) (c .before .pre))
+    (λ c. pos-of-dvd-of-pos (c .common-divisor .ensures .second) (c .before .pre))
+    returns)

@@ -20,23 +20,26 @@ abbrev μ-loop : tie.MeasureT-loop
 loop-holds : tie.Need-loop-holds Inv-loop μ-loop
 loop-holds c = (omega arith, omega arith, sym (ap length (none-yet (dayFits (c .args .r) (c .args .start)) (c .args .from))))
 
-day-fits-requires : tie.Need-day-fits-requires Inv-loop μ-loop
-day-fits-requires c κs = omega arith
-
 add-k : tie.Need-add-k Inv-loop μ-loop
-add-k c = omega (arith, at-most-all (dayFits (c .before .before .before .before .args .r) (c .before .before .before .before .args .start)) (c .before .before .before .before .args .from) (c .before .before .before .loop .day - c .before .before .before .before .args .from))
-
-add-day : tie.Need-add-day Inv-loop μ-loop
-add-day c = omega arith
-
-loop-less : tie.Need-loop-less Inv-loop μ-loop
-loop-less c = omega arith
+add-k c =
+    let a = c .before .before .before .before .args in
+    omega (arith, at-most-all (dayFits (a .r) (a .start)) (a .from) (c .before .before .before .loop .day - a .from))
 
 loop-again : tie.Need-loop-again Inv-loop μ-loop
-loop-again c = ⊎-elim (λ w. (omega arith, omega arith, omega (arith, w .1, counted-more (dayFits (c .before .before .before .before .args .r) (c .before .before .before .before .args .start)) (c .before .before .before .before .args .from) (c .before .before .before .loop .day) (omega arith), ap bit (sym (c .before .day-fits .ensures) ∙ w .0 .taken)))) (λ w. (omega arith, omega arith, omega (arith, w .1, counted-more (dayFits (c .before .before .before .before .args .r) (c .before .before .before .before .args .start)) (c .before .before .before .before .args .from) (c .before .before .before .loop .day) (omega arith), ap bit (sym (c .before .day-fits .ensures) ∙ w .0 .left)))) (c .if1 .came)
+loop-again c =
+    let a = c .before .before .before .before .args in
+    let day = c .before .before .before .loop .day in
+    let fit = sym (c .before .day-fits .ensures) in
+    let more = counted-more (dayFits (a .r) (a .start)) (a .from) day (omega arith) in
+    ⊎-elim
+    (λ w. (omega arith, omega arith, omega (arith, w .1, more, ap bit (fit ∙ w .0 .taken))))
+    (λ w. (omega arith, omega arith, omega (arith, w .1, more, ap bit (fit ∙ w .0 .left))))
+    (c .if1 .came)
 
 returns : tie.Need-returns Inv-loop μ-loop
-returns c = c .before .loop .inv .2 ∙ ap (λ (d : ℕ). length (those (dayFits (c .before .before .args .r) (c .before .before .args .start)) (c .before .before .args .from) (d - c .before .before .args .from))) (omega arith)
+returns c =
+    let a = c .before .before .args in
+    c .before .loop .inv .2 ∙ ap (λ (d : ℕ). length (those (dayFits (a .r) (a .start)) (a .from) (d - a .from))) (omega arith)
 
 pub count-days-spec : {M : Type 1} → statement M
 count-days-spec =
@@ -45,9 +48,9 @@ count-days-spec =
     Inv-loop
     μ-loop
     loop-holds
-    day-fits-requires
+    (λ c κs. omega arith)
     add-k
-    add-day
-    loop-less
+    (λ c. omega arith)
+    (λ c. omega arith)
     loop-again
     returns)

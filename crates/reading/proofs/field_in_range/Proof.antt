@@ -6,21 +6,17 @@ use borrow.Author.Needs.{needs}
 use Rattle.reading.proofs.field_in_range.Statement.{statement}
 use Rattle.reading.proofs.field_in_range.Tie as tie
 
-enum-known-f : tie.Need-enum-known-f
-enum-known-f c = search needs
-
-in-range-requires : tie.Need-in-range-requires
-in-range-requires c κs = search needs
-
-enum-told : tie.Need-enum-told
-enum-told c = search needs
-
 returns : tie.Need-returns
-returns c = c .in-range .ensures ∙ sym (ap (λ (f : Field). fieldInRange f (c .before .before .before .before .args .most)) (c .before .before .f .given .1))
-
-returns-2 : tie.Need-returns-2
-returns-2 c = search needs
+returns c =
+    c .in-range .ensures
+    ∙ sym (ap (λ (f : Field). fieldInRange f (c .before .before .before .before .args .most)) (c .before .before .f .given .1))
 
 pub field-in-range-spec : {M : Type 1} → statement M
 field-in-range-spec =
-    tie.close (tie.spec enum-known-f in-range-requires enum-told returns returns-2)
+    tie.close
+    (tie.spec
+    (λ c. search needs)
+    (λ c κs. search needs)
+    (λ c. search needs)
+    returns
+    (λ c. search needs))

@@ -25,47 +25,62 @@ abbrev μ-loop : tie.MeasureT-loop
 μ-loop r start from to out₀ at k₀ day₀ out k day = to - day
 
 loop-holds : tie.Need-loop-holds Inv-loop μ-loop
-loop-holds c = (omega arith, omega arith, omega (arith, ap length (none-yet (dayFits (c .before .args .r) (c .before .args .start)) (c .before .args .from))), refl, sym (ap (sets (c .before .args .out .now) (c .before .args .at)) (none-yet (dayFits (c .before .args .r) (c .before .args .start)) (c .before .args .from))))
-
-day-fits-requires : tie.Need-day-fits-requires Inv-loop μ-loop
-day-fits-requires c κs = omega arith
+loop-holds c =
+    let a = c .before .args in
+    let none = none-yet (dayFits (a .r) (a .start)) (a .from) in
+    (omega arith, omega arith, omega (arith, ap length none), refl, sym (ap (sets (a .out .now) (a .at)) none))
 
 -- a day that fits still has its place
 room : (c : tie.Then1 Inv-loop μ-loop) → c .before .before .before .loop .k < length (c .before .before .before .loop .out)
 room c =
+    let l = c .before .before .before in
+    let start = l .before .before in
+    let a = start .args in
+    let p = dayFits (a .r) (a .start) in
+    let day = l .loop .day in
     omega (
       arith,
-      c .before .before .before .loop .inv .2,
-      c .before .before .before .loop .inv .3,
-      c .before .before .before .before .before .pre .3,
-      counted-more (dayFits (c .before .before .before .before .before .args .r) (c .before .before .before .before .before .args .start)) (c .before .before .before .before .before .args .from) (c .before .before .before .loop .day) (omega arith),
+      l .loop .inv .2,
+      l .loop .inv .3,
+      start .pre .3,
+      counted-more p (a .from) day (omega arith),
       ap bit (sym (c .before .day-fits .ensures) ∙ c .if1 .taken),
-      counted-before (dayFits (c .before .before .before .before .before .args .r) (c .before .before .before .before .before .args .start)) (c .before .before .before .before .before .args .from) (c .before .before .before .loop .day + 1) (omega arith) (c .before .before .before .before .before .args .to) (omega arith),
+      counted-before p (a .from) (day + 1) (omega arith) (a .to) (omega arith),
     )
 
-mul-out : tie.Need-mul-out Inv-loop μ-loop
-mul-out c = omega (arith, room c)
-
-slice-write-out : tie.Need-slice-write-out Inv-loop μ-loop
-slice-write-out c = room c
-
-add-k : tie.Need-add-k Inv-loop μ-loop
-add-k c = omega (arith, room c)
-
-add-day : tie.Need-add-day Inv-loop μ-loop
-add-day c = omega arith
-
-loop-less : tie.Need-loop-less Inv-loop μ-loop
-loop-less c = omega arith
-
 loop-again : tie.Need-loop-again Inv-loop μ-loop
-loop-again c = ⊎-elim (λ w. (omega arith, omega arith, omega (arith, w .2, counted-more (dayFits (c .before .before .before .before .before .args .r) (c .before .before .before .before .before .args .start)) (c .before .before .before .before .before .args .from) (c .before .before .before .loop .day) (omega arith), ap bit (sym (c .before .day-fits .ensures) ∙ w .0 .taken)), ap length (w .1) ∙ length-set (c .before .before .before .loop .out) (c .before .before .before .loop .k) (c .before .before .before .loop .day) ∙ c .before .before .before .loop .inv .3, w .1 ∙ ap₂ (λ (o : List ℕ) (n : ℕ). set o n (c .before .before .before .loop .day)) (c .before .before .before .loop .inv .4) (c .before .before .before .loop .inv .2) ∙ filled-more (dayFits (c .before .before .before .before .before .args .r) (c .before .before .before .before .before .args .start)) (c .before .before .before .before .before .args .from) (c .before .before .before .loop .day) (omega arith) (c .before .before .before .before .before .args .out .now) (c .before .before .before .before .before .args .at) (sym (c .before .day-fits .ensures) ∙ w .0 .taken))) (λ w. (omega arith, omega arith, omega (arith, w .2, counted-more (dayFits (c .before .before .before .before .before .args .r) (c .before .before .before .before .before .args .start)) (c .before .before .before .before .before .args .from) (c .before .before .before .loop .day) (omega arith), ap bit (sym (c .before .day-fits .ensures) ∙ w .0 .left)), ap length (w .1) ∙ c .before .before .before .loop .inv .3, w .1 ∙ c .before .before .before .loop .inv .4 ∙ filled-same (dayFits (c .before .before .before .before .before .args .r) (c .before .before .before .before .before .args .start)) (c .before .before .before .before .before .args .from) (c .before .before .before .loop .day) (omega arith) (c .before .before .before .before .before .args .out .now) (c .before .before .before .before .before .args .at) (sym (c .before .day-fits .ensures) ∙ w .0 .left))) (c .if1 .came)
-
-same-length : tie.Need-same-length Inv-loop μ-loop
-same-length c = c .before .loop .inv .3
+loop-again c =
+    let l = c .before .before .before .loop in
+    let a = c .before .before .before .before .before .args in
+    let p = dayFits (a .r) (a .start) in
+    let fit = sym (c .before .day-fits .ensures) in
+    let more = counted-more p (a .from) (l .day) (omega arith) in
+    ⊎-elim
+    (λ w. let now : _≡_ {A = List ℕ} _ (set (l .out) (l .k) (l .day)) = w .1 in (
+      omega arith,
+      omega arith,
+      omega (arith, w .2, more, ap bit (fit ∙ w .0 .taken)),
+      ap length now ∙ length-set (l .out) (l .k) (l .day) ∙ l .inv .3,
+      now
+          ∙ ap₂ (λ (o : List ℕ) (n : ℕ). set o n (l .day)) (l .inv .4) (l .inv .2)
+          ∙ filled-more p (a .from) (l .day) (omega arith) (a .out .now) (a .at) (fit ∙ w .0 .taken),
+    ))
+    (λ w. (
+      omega arith,
+      omega arith,
+      omega (arith, w .2, more, ap bit (fit ∙ w .0 .left)),
+      ap length (w .1) ∙ l .inv .3,
+      w .1 ∙ l .inv .4 ∙ filled-same p (a .from) (l .day) (omega arith) (a .out .now) (a .at) (fit ∙ w .0 .left),
+    ))
+    (c .if1 .came)
 
 returns : tie.Need-returns Inv-loop μ-loop
-returns c = (c .before .loop .inv .2 ∙ ap (λ (d : ℕ). c .before .before .before .args .at + length (those (dayFits (c .before .before .before .args .r) (c .before .before .before .args .start)) (c .before .before .before .args .from) (d - c .before .before .before .args .from))) (omega arith), c .before .loop .inv .4 ∙ ap (λ (d : ℕ). sets (c .before .before .before .args .out .now) (c .before .before .before .args .at) (those (dayFits (c .before .before .before .args .r) (c .before .before .before .args .start)) (c .before .before .before .args .from) (d - c .before .before .before .args .from))) (omega arith))
+returns c =
+    let a = c .before .before .before .args in
+    let inv = c .before .loop .inv in (
+      inv .2 ∙ ap (λ (d : ℕ). a .at + length (those (dayFits (a .r) (a .start)) (a .from) (d - a .from))) (omega arith),
+      inv .4 ∙ ap (λ (d : ℕ). sets (a .out .now) (a .at) (those (dayFits (a .r) (a .start)) (a .from) (d - a .from))) (omega arith),
+    )
 
 pub fill-days-spec : {M : Type 1} → statement M
 fill-days-spec =
@@ -74,12 +89,12 @@ fill-days-spec =
     Inv-loop
     μ-loop
     loop-holds
-    day-fits-requires
-    mul-out
-    slice-write-out
-    add-k
-    add-day
-    loop-less
+    (λ c κs. omega arith)
+    (λ c. omega (arith, room c))
+    (λ c. room c)
+    (λ c. omega (arith, room c))
+    (λ c. omega arith)
+    (λ c. omega arith)
     loop-again
-    same-length
+    (λ c. c .before .loop .inv .3)
     returns)

@@ -12,37 +12,42 @@ use borrow.Author.Needs.{needs}
 use Rattle.reading.proofs.fill_month.Statement.{statement}
 use Rattle.reading.proofs.fill_month.Tie as tie
 
-month-fits-requires : tie.Need-month-fits-requires
-month-fits-requires c κs = search needs
-
-month-start-requires : tie.Need-month-start-requires
-month-start-requires c κs = search needs
-
 -- the month fits, so that its days are looked at by their own values
-own-days : (c : tie.After-month-start) → those (dayFits (c .before .before .before .before .args .r) (c .month-start .result)) (c .before .before .before .before .args .from) (c .before .before .before .before .args .to - c .before .before .before .before .args .from) ≡ fitting (c .before .before .before .before .args .r) (c .before .before .before .before .args .from) (c .before .before .before .before .args .to - c .before .before .before .before .args .from)
+own-days : (c : tie.After-month-start) →
+    let a = c .before .before .before .before .args in
+    those (dayFits (a .r) (c .month-start .result)) (a .from) (a .to - a .from) ≡ fitting (a .r) (a .from) (a .to - a .from)
 own-days c =
-    ap (λ (s : ℕ). those (dayFits (c .before .before .before .before .args .r) s) (c .before .before .before .before .args .from) (c .before .before .before .before .args .to - c .before .before .before .before .args .from)) (c .month-start .ensures)
-    ∙ sym (month-fitting (c .before .before .before .before .args .r) (c .before .before .before .before .args .n) (c .before .before .before .before .args .from) (c .before .before .before .before .args .to) (c .before .before .before .before .pre .0) (sym (c .before .before .month-fits .ensures) ∙ c .before .if1 .taken))
+    let start = c .before .before .before .before in
+    month-fitting (start .pre .0) (start .args .r) (c .month-start .ensures) (sym (c .before .before .month-fits .ensures) ∙ c .before .if1 .taken)
 
 fill-days-requires : tie.Need-fill-days-requires
-fill-days-requires c κs = omega (arith, c .before .month-start .ensures, c .before .before .before .before .before .pre .0 .low, c .before .before .before .before .before .pre .0 .some, part-short (c .before .before .before .before .before .args .r) (c .before .before .before .before .before .args .n) (c .before .before .before .before .before .args .from) (c .before .before .before .before .before .args .to) (c .before .before .before .before .before .pre .0), ap length (own-days (c .before)), c .before .before .before .before .before .pre .1)
-
-same-length : tie.Need-same-length
-same-length c = search needs
+fill-days-requires c κs =
+    let p = c .before .before .before .before .before .pre in
+    omega (arith, c .before .month-start .ensures, p .0 .low, p .0 .some, part-short (p .0), ap length (own-days (c .before)), p .1)
 
 returns : tie.Need-returns
-returns c = (c .before .before .fill-days .ensures .0 ∙ ap (λ (l : List ℕ). c .before .before .before .before .before .before .before .before .args .at + length l) (own-days (c .before .before .before .before)), c .before .before .fill-days .ensures .1 ∙ ap (sets (c .before .before .before .before .before .before .before .before .args .out .now) (c .before .before .before .before .before .before .before .before .args .at)) (own-days (c .before .before .before .before)))
+returns c =
+    let b4 = c .before .before .before .before in
+    let a = b4 .before .before .before .before .args in
+    let filled = c .before .before .fill-days .ensures in (
+      filled .0 ∙ ap (λ (l : List ℕ). a .at + length l) (own-days b4),
+      filled .1 ∙ ap (sets (a .out .now) (a .at)) (own-days b4),
+    )
 
 returns-2 : tie.Need-returns-2
-returns-2 c = (omega (arith, ap length (month-not-fitting (c .before .before .before .args .r) (c .before .before .before .args .n) (c .before .before .before .args .from) (c .before .before .before .args .to) (c .before .before .before .pre .0) (sym (c .before .month-fits .ensures) ∙ c .if1 .left))), sym (ap (sets (c .before .before .before .args .out .now) (c .before .before .before .args .at)) (month-not-fitting (c .before .before .before .args .r) (c .before .before .before .args .n) (c .before .before .before .args .from) (c .before .before .before .args .to) (c .before .before .before .pre .0) (sym (c .before .month-fits .ensures) ∙ c .if1 .left))))
+returns-2 c =
+    let start = c .before .before .before in
+    let a = start .args in
+    let none = month-not-fitting (start .pre .0) (a .r) (sym (c .before .month-fits .ensures) ∙ c .if1 .left) in
+    (omega (arith, ap length none), sym (ap (sets (a .out .now) (a .at)) none))
 
 pub fill-month-spec : {M : Type 1} → statement M
 fill-month-spec =
     tie.close
     (tie.spec
-    month-fits-requires
-    month-start-requires
+    (λ c κs. search needs)
+    (λ c κs. search needs)
     fill-days-requires
-    same-length
+    (λ c. search needs)
     returns
     returns-2)

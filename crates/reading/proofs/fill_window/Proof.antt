@@ -1,13 +1,11 @@
 -- `reading::fill_window` meets its contract. The invariant: the fitting days passed stand at the front of the list. Assumes nothing.
-use Prim.Native.Nat.{ℕ, _+_, _-_, _≤_, _<_}
+use Prim.Native.Nat.{ℕ, _-_}
 use native.Mathlib.Omega.{arith}
-use mathlib.Core.Path.{_≡_, refl, ap, ap₂, sym, _∙_}
-use native.Mathlib.Nat.{zero-add}
-use mathlib.Core.List.{List}
+use mathlib.Core.Path.{_≡_, refl, ap, sym, _∙_}
 use lib.ListN.{length}
 use lib.Seq.{sets, length-sets}
 use Rattle.reading.specs.Readings.{fitting}
-use Rattle.rule.proofs.Stores.{sets-append, from-front}
+use Rattle.rule.proofs.Stores.{from-front}
 use Rattle.reading.proofs.Runs.{
   Walk,
   walk-starts,
@@ -16,9 +14,10 @@ use Rattle.reading.proofs.Runs.{
   walk-goes-on,
   walk-part,
   walk-next,
+  walk-counted,
+  walk-room,
+  walk-filled,
   none-fitting,
-  fitting-on,
-  length-on,
 }
 use Rattle.reading.proofs.fill_window.Statement.{statement}
 use Rattle.reading.proofs.fill_window.Tie as tie
@@ -33,39 +32,66 @@ Inv-loop r first end out₀ k₀ day₀ n₀ out k day n =
 abbrev μ-loop : tie.MeasureT-loop
 μ-loop r first end out₀ k₀ day₀ n₀ out k day n = end - day
 
-month-of-day-requires : tie.Need-month-of-day-requires Inv-loop μ-loop
-month-of-day-requires c κs = omega arith
-
 loop-holds : tie.Need-loop-holds Inv-loop μ-loop
-loop-holds c = (walk-starts (c .before .before .args .first) (c .before .before .args .end) (c .month-of-day .result) (c .before .before .pre .0) (c .month-of-day .ensures), sym (ap length (none-fitting (c .before .before .args .r) (c .before .before .args .first))), refl, sym (ap (sets (c .before .before .args .out .now) 0) (none-fitting (c .before .before .args .r) (c .before .before .args .first))))
+loop-holds c =
+    let start = c .before .before in
+    let a = start .args in
+    let none = none-fitting (a .r) (a .first) in
+    (walk-starts (start .pre .0) (c .month-of-day .ensures), sym (ap length none), refl, sym (ap (sets (a .out .now) 0) none))
 
 part-end-requires : tie.Need-part-end-requires Inv-loop μ-loop
-part-end-requires c κs = walk-month (c .before .before .before .before .args .first) (c .before .before .before .before .args .end) (c .before .loop .day) (c .before .loop .n) (c .before .before .before .before .pre .0) (c .before .loop .inv .0) (c .before .before .before .before .pre .1) (c .loop-test .taken)
-
-on : (c : tie.After-part-end Inv-loop μ-loop) → (c .before .before .loop .day < c .part-end .result) × (c .part-end .result ≤ c .before .before .before .before .before .args .end)
-on c = walk-goes-on (c .before .before .before .before .before .args .first) (c .before .before .before .before .before .args .end) (c .before .before .loop .day) (c .before .before .loop .n) (c .before .before .before .before .before .pre .0) (c .before .before .loop .inv .0) (c .part-end .result) (c .before .loop-test .taken) (c .part-end .ensures)
-
--- those of the days before, and those of the month
-so-far : (c : tie.After-part-end Inv-loop μ-loop) → length (fitting (c .before .before .before .before .before .args .r) (c .before .before .before .before .before .args .first) (c .part-end .result - c .before .before .before .before .before .args .first)) ≡ length (fitting (c .before .before .before .before .before .args .r) (c .before .before .before .before .before .args .first) (c .before .before .loop .day - c .before .before .before .before .before .args .first)) + length (fitting (c .before .before .before .before .before .args .r) (c .before .before .loop .day) (c .part-end .result - c .before .before .loop .day))
-so-far c = length-on (c .before .before .before .before .before .args .r) (c .before .before .before .before .before .args .first) (c .before .before .loop .day) (c .part-end .result) (walk-inside (c .before .before .before .before .before .args .first) (c .before .before .before .before .before .args .end) (c .before .before .loop .day) (c .before .before .loop .n) (c .before .before .before .before .before .pre .0) (c .before .before .loop .inv .0) .0) (omega (arith, on c))
+part-end-requires c κs =
+    let p = c .before .before .before .before .pre in
+    walk-month (p .0) (c .before .loop .inv .0) (p .1) (c .loop-test .taken)
 
 fill-month-requires : tie.Need-fill-month-requires Inv-loop μ-loop
-fill-month-requires c κs = (walk-part (c .before .before .before .before .before .before .args .first) (c .before .before .before .before .before .before .args .end) (c .before .before .before .loop .day) (c .before .before .before .loop .n) (c .before .before .before .before .before .before .pre .0) (c .before .before .before .loop .inv .0) (c .before .part-end .result) (c .before .before .loop-test .taken) (c .before .part-end .ensures) (c .before .before .before .before .before .before .pre .1), omega (arith, so-far (c .before), length-on (c .before .before .before .before .before .before .args .r) (c .before .before .before .before .before .before .args .first) (c .before .part-end .result) (c .before .before .before .before .before .before .args .end) (omega (arith, on (c .before), walk-inside (c .before .before .before .before .before .before .args .first) (c .before .before .before .before .before .before .args .end) (c .before .before .before .loop .day) (c .before .before .before .loop .n) (c .before .before .before .before .before .before .pre .0) (c .before .before .before .loop .inv .0))) (omega (arith, on (c .before))), c .before .before .before .before .before .before .pre .2, c .before .before .before .loop .inv .1, c .before .before .before .loop .inv .2))
+fill-month-requires c κs =
+    let l = c .before .before .before in
+    let start = l .before .before .before in
+    let p = start .pre in
+    let to = c .before .part-end .ensures in
+    let test = c .before .before .loop-test .taken in (
+      walk-part (p .0) (l .loop .inv .0) test to (p .1),
+      omega (arith, walk-room (p .0) (l .loop .inv .0) test to (start .args .r) (l .loop .inv .1), p .2, l .loop .inv .2),
+    )
 
 add-n : tie.Need-add-n Inv-loop μ-loop
-add-n c = omega (arith, walk-month (c .before .before .before .before .before .before .before .before .before .args .first) (c .before .before .before .before .before .before .before .before .before .args .end) (c .before .before .before .before .before .before .loop .day) (c .before .before .before .before .before .before .loop .n) (c .before .before .before .before .before .before .before .before .before .pre .0) (c .before .before .before .before .before .before .loop .inv .0) (c .before .before .before .before .before .before .before .before .before .pre .1) (c .before .before .before .before .before .loop-test .taken))
+add-n c =
+    let l = c .before .before .before .before .before .before in
+    let p = l .before .before .before .pre in
+    let test = c .before .before .before .before .before .loop-test .taken in
+    omega (arith, walk-month (p .0) (l .loop .inv .0) (p .1) test)
 
 loop-less : tie.Need-loop-less Inv-loop μ-loop
-loop-less c = omega (arith, on (c .before .before .before .before))
+loop-less c =
+    let l = c .before .before .before .before .before .before in
+    let p = l .before .before .before .pre in
+    let test = c .before .before .before .before .before .loop-test .taken in
+    omega (arith, walk-goes-on (p .0) (l .loop .inv .0) test (c .before .before .before .before .part-end .ensures))
 
 loop-again : tie.Need-loop-again Inv-loop μ-loop
-loop-again c = (walk-next (c .before .before .before .before .before .before .before .before .before .args .first) (c .before .before .before .before .before .before .before .before .before .args .end) (c .before .before .before .before .before .before .loop .day) (c .before .before .before .before .before .before .loop .n) (c .before .before .before .before .before .before .before .before .before .pre .0) (c .before .before .before .before .before .before .loop .inv .0) (c .before .before .before .before .part-end .result) (c .before .before .before .before .before .loop-test .taken) (c .before .before .before .before .part-end .ensures), omega (arith, so-far (c .before .before .before .before), c .before .before .fill-month .ensures .0, c .before .before .before .before .before .before .loop .inv .1), ap length (c .before .before .fill-month .ensures .1) ∙ length-sets (c .before .before .before .before .before .before .loop .out) (c .before .before .before .before .before .before .loop .k) (fitting (c .before .before .before .before .before .before .before .before .before .args .r) (c .before .before .before .before .before .before .loop .day) (c .before .before .before .before .part-end .result - c .before .before .before .before .before .before .loop .day)) ∙ c .before .before .before .before .before .before .loop .inv .2, c .before .before .fill-month .ensures .1 ∙ ap₂ (λ (o : List ℕ) (n : ℕ). sets o n (fitting (c .before .before .before .before .before .before .before .before .before .args .r) (c .before .before .before .before .before .before .loop .day) (c .before .before .before .before .part-end .result - c .before .before .before .before .before .before .loop .day))) (c .before .before .before .before .before .before .loop .inv .3) (c .before .before .before .before .before .before .loop .inv .1 ∙ sym (zero-add (length (fitting (c .before .before .before .before .before .before .before .before .before .args .r) (c .before .before .before .before .before .before .before .before .before .args .first) (c .before .before .before .before .before .before .loop .day - c .before .before .before .before .before .before .before .before .before .args .first))))) ∙ sym (sets-append (fitting (c .before .before .before .before .before .before .before .before .before .args .r) (c .before .before .before .before .before .before .before .before .before .args .first) (c .before .before .before .before .before .before .loop .day - c .before .before .before .before .before .before .before .before .before .args .first)) (fitting (c .before .before .before .before .before .before .before .before .before .args .r) (c .before .before .before .before .before .before .loop .day) (c .before .before .before .before .part-end .result - c .before .before .before .before .before .before .loop .day)) (c .before .before .before .before .before .before .before .before .before .args .out .now) 0) ∙ sym (ap (sets (c .before .before .before .before .before .before .before .before .before .args .out .now) 0) (fitting-on (c .before .before .before .before .before .before .before .before .before .args .r) (c .before .before .before .before .before .before .before .before .before .args .first) (c .before .before .before .before .before .before .loop .day) (c .before .before .before .before .part-end .result) (walk-inside (c .before .before .before .before .before .before .before .before .before .args .first) (c .before .before .before .before .before .before .before .before .before .args .end) (c .before .before .before .before .before .before .loop .day) (c .before .before .before .before .before .before .loop .n) (c .before .before .before .before .before .before .before .before .before .pre .0) (c .before .before .before .before .before .before .loop .inv .0) .0) (omega (arith, on (c .before .before .before .before))))))
-
-same-length : tie.Need-same-length Inv-loop μ-loop
-same-length c = c .before .loop .inv .2
+loop-again c =
+    let filled = c .before .before .fill-month .ensures in
+    let b4 = c .before .before .before .before in
+    let to = b4 .part-end in
+    let test = b4 .before .loop-test .taken in
+    let l = b4 .before .before .loop in
+    let start = b4 .before .before .before .before .before in
+    let a = start .args in (
+      walk-next (start .pre .0) (l .inv .0) test (to .ensures),
+      filled .0 ∙ walk-counted (start .pre .0) (l .inv .0) test (to .ensures) (a .r) (l .inv .1) refl,
+      ap length (filled .1) ∙ length-sets (l .out) (l .k) (fitting (a .r) (l .day) (to .result - l .day)) ∙ l .inv .2,
+      walk-filled (start .pre .0) (l .inv .0) test (to .ensures) (a .r) (l .inv .1) (a .out .now) (l .inv .3) (filled .1),
+    )
 
 returns : tie.Need-returns Inv-loop μ-loop
-returns c = c .before .loop .inv .3 ∙ ap (λ (d : ℕ). sets (c .before .before .before .before .args .out .now) 0 (fitting (c .before .before .before .before .args .r) (c .before .before .before .before .args .first) (d - c .before .before .before .before .args .first))) (omega (arith, walk-inside (c .before .before .before .before .args .first) (c .before .before .before .before .args .end) (c .before .loop .day) (c .before .loop .n) (c .before .before .before .before .pre .0) (c .before .loop .inv .0))) ∙ from-front (fitting (c .before .before .before .before .args .r) (c .before .before .before .before .args .first) (c .before .before .before .before .args .end - c .before .before .before .before .args .first)) (c .before .before .before .before .args .out .now) (c .before .before .before .before .pre .2)
+returns c =
+    let start = c .before .before .before .before in
+    let a = start .args in
+    let inv = c .before .loop .inv in
+    inv .3
+    ∙ ap (λ (d : ℕ). sets (a .out .now) 0 (fitting (a .r) (a .first) (d - a .first))) (omega (arith, walk-inside (start .pre .0) (inv .0)))
+    ∙ from-front (fitting (a .r) (a .first) (a .end - a .first)) (a .out .now) (start .pre .2)
 
 pub fill-window-spec : {M : Type 1} → statement M
 fill-window-spec =
@@ -73,12 +99,12 @@ fill-window-spec =
     (tie.spec
     Inv-loop
     μ-loop
-    month-of-day-requires
+    (λ c κs. omega arith)
     loop-holds
     part-end-requires
     fill-month-requires
     add-n
     loop-less
     loop-again
-    same-length
+    (λ c. c .before .loop .inv .2)
     returns)

@@ -5,17 +5,14 @@ use borrow.Author.Needs.{needs}
 use Rattle.reading.proofs.number_fits.Statement.{statement}
 use Rattle.reading.proofs.number_fits.Tie as tie
 
-month-number-requires : tie.Need-month-number-requires
-month-number-requires c κs = search needs
-
-cast-field-fits : tie.Need-cast-field-fits
-cast-field-fits c = search needs
-
-field-fits-requires : tie.Need-field-fits-requires
-field-fits-requires c κs = search needs
-
 returns : tie.Need-returns
 returns c = c .field-fits .ensures ∙ ap (fieldFits (c .before .before .args .f)) (c .before .month-number .ensures)
 
 pub number-fits-spec : {M : Type 1} → statement M
-number-fits-spec = tie.close (tie.spec month-number-requires cast-field-fits field-fits-requires returns)
+number-fits-spec =
+    tie.close
+    (tie.spec
+    (λ c κs. search needs)
+    (λ c. search needs)
+    (λ c κs. search needs)
+    returns)

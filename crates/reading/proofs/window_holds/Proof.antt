@@ -6,17 +6,11 @@ use borrow.Author.Needs.{needs}
 use Rattle.reading.proofs.window_holds.Statement.{statement}
 use Rattle.reading.proofs.window_holds.Tie as tie
 
-returns : tie.Need-returns
-returns c = sym (turned-round (c .before .args .first) (c .before .args .last) (c .if1 .taken))
-
-add-result : tie.Need-add-result
-add-result c = search needs
-
-sub-result : tie.Need-sub-result
-sub-result c = search needs
-
-returns-2 : tie.Need-returns-2
-returns-2 c = sym (not-turned (c .before .args .first) (c .before .args .last) (omega arith))
-
 pub window-holds-spec : {M : Type 1} → statement M
-window-holds-spec = tie.close (tie.spec returns add-result sub-result returns-2)
+window-holds-spec =
+    tie.close
+    (tie.spec
+    (λ c. sym (turned-round (c .before .args .first) (c .before .args .last) (c .if1 .taken)))
+    (λ c. search needs)
+    (λ c. search needs)
+    (λ c. sym (not-turned (c .before .args .first) (c .before .args .last) (omega arith))))

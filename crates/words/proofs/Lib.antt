@@ -1,0 +1,2 @@
+-- Laws of a table of rows.
+pub mod Rows

@@ -1,0 +1,2 @@
+-- A table of rows of bytes: definitions.
+pub mod Rows
