@@ -57,30 +57,10 @@ use Rattle.sheet.specs.declared.SheetCounts.{SheetCounts}
 use Rattle.sheet.specs.declared.SheetCounts.the-variants as Counts'
 use Rattle.sheet.specs.declared.HowMany.{HowMany}
 use Rattle.sheet.specs.declared.HowMany.the-variants as HowMany'
-use Rattle.sheet.specs.Sheet.{
-  Lists,
-  number,
-  numbers,
-  lay,
-  layAll,
-  laySection,
-  itemsOf,
-  leftAfter,
-  listsIn,
-  sheetOf,
-  itemsRead,
-  countRead,
-  sectionRead,
-  daysRead,
-  monthsRead,
-  sheetRead,
-  readInto,
-  itemsWritten,
-  sectionWritten,
-  listsWritten,
-  writeInto,
-}
+use Rattle.sheet.specs.Sheet.{Lists, readInto}
 use Rattle.sheet.specs.Promises.{counted, saidCounts, saidHowMany}
+use Rattle.sheet.proofs.Reading.{reading}
+use Rattle.sheet.proofs.Writing.{writing}
 use Rattle.lines.specs.Promises.{yearBlockAt, monthLineAt, monthItemAt, dayItemAt, Printed}
 use Rattle.flat.specs.declared.CDate.{CDate}
 use Rattle.flat.specs.declared.CDay.{CDay}
@@ -504,7 +484,7 @@ unlike : (i : ℕ) {xs ys : List ℕ} → xs ≡ ys → getD xs i 0 ≢ getD ys 
 unlike i e differ = differ (ap (λ (l : List ℕ). getD l i 0) e)
 
 pub wrong-exported : Paper.Wrong-exported
-unfolding dateAt dateOf dateIn dayOfDate dayOfNamed dayInMonth namedMonth moved solsticeYearAt yearFactsAt monthFactsAt quarterAt termAt conjunctionAt numbersOf conjunctionDay nextAt nextCount pairAt searchAt total fitting fits monthFits dayFits inRanges those readInto sheetRead monthsRead daysRead sectionRead countRead itemsRead number listsIn itemsOf leftAfter numbers writeInto listsWritten sectionWritten itemsWritten sheetOf laySection lay layAll monthLength monthStart monthOfDay yearOfMonth termDay
+unfolding dateAt dateOf dateIn dayOfDate dayOfNamed dayInMonth namedMonth moved solsticeYearAt yearFactsAt monthFactsAt quarterAt termAt conjunctionAt numbersOf conjunctionDay nextAt nextCount pairAt searchAt total fitting fits monthFits dayFits inRanges those reading writing monthLength monthStart monthOfDay yearOfMonth termDay
 wrong-exported =
     record {
       refusing-days = λ r p. no-refusal (λ (x : CDate). x .reason) p refl;

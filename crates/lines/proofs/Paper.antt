@@ -20,23 +20,10 @@ use Rattle.dates.specs.Dates.{dateIn, dateOf}
 use Rattle.facts.specs.Facts.{monthFacts, yearFacts}
 use Rattle.sheet.specs.declared.HowMany.{HowMany}
 use Rattle.sheet.specs.declared.HowMany.the-variants as HowMany'
-use Rattle.sheet.specs.Paper.{RestKept}
-use Rattle.sheet.proofs.Places.{unlike, InFront, rest-kept}
-use Rattle.sheet.proofs.Paper.{how-many-once, made-of, refused-of}
-use Rattle.sheet.specs.Sheet.{
-  number,
-  numbers,
-  itemsRead,
-  countRead,
-  sectionRead,
-  itemsOf,
-  leftAfter,
-  listsIn,
-  daysRead,
-  monthsRead,
-  sheetRead,
-  readSheet,
-}
+use Rattle.sheet.specs.Promises.{RestKept}
+use Rattle.sheet.proofs.Deciding.{made-of, refused-of}
+use Rattle.sheet.proofs.Reading.{reading}
+use Rattle.sheet.proofs.Places.{unlike, InFront, rest-kept, how-many-once}
 use Rattle.fields.specs.Fields.{word, digits, decimal, followed, joined, each}
 use Rattle.lines.specs.Lines.{
   fieldsOfYear,
@@ -66,16 +53,12 @@ month-numbers : ℕ
 unfolding midTermsBefore leap midTermNumber monthNumber monthAt eclipse
 month-numbers = 0
 
-sheets : ℕ
-unfolding number numbers itemsRead countRead sectionRead itemsOf leftAfter listsIn daysRead monthsRead sheetRead readSheet
-sheets = 0
-
 pub example-of-the-paper : Paper.Example-of-the-paper
-unfolding listing listingOf year-lines month-numbers sheets
+unfolding listing listingOf year-lines month-numbers reading
 example-of-the-paper = refl
 
 pub empty-listing : Paper.Empty-listing
-unfolding listing listingOf number numbers itemsRead countRead sectionRead itemsOf leftAfter listsIn daysRead monthsRead sheetRead readSheet each
+unfolding listing listingOf reading each
 empty-listing = refl
 
 pub refused-listing : Paper.Refused-listing

@@ -4,14 +4,12 @@ use native.Mathlib.Nat.{mul-zero, mul-suc, mul-le-mul-left}
 use native.Mathlib.Numerals.{add-one}
 use native.Mathlib.Omega.{arith}
 use mathlib.Core.Path.{_≡_, refl, ap, sym, _∙_}
-use mathlib.Core.List.{List, [], _∷_, _++_}
+use mathlib.Core.List.{List, [], _∷_}
 use lib.ListN.{length, getD, take, drop, set, length-append, length-set, length-drop, drop-of-length-le}
 use lib.Seq.{sets, length-sets, drop-cons}
+use Rattle.rule.proofs.Stores.{part-all, sets-append}
 use Rattle.sheet.proofs.Numbers.{length-lay}
-use Rattle.rule.proofs.Stores.{part-all}
-use Rattle.rule.proofs.Stores.{sets-append}
-use Rattle.sheet.specs.Sheet.{number, numbers, lay, layAll, yearItems, monthItems, dayItems, laySection, Lists, sheetOf}
-use Rattle.sheet.specs.declared.Section.{Section}
+use Rattle.sheet.specs.Sheet.{number, numbers, lay, layAll, Section, laySection, ListsFor, laySections, ranged, yearItems, monthItems, dayItems, Lists, inOrder, sheetOf}
 
 -- the next of m numbers of w bytes, stored at i
 module _ (w m j : ℕ) (e : m ≡ suc j) (t out : List ℕ) (i : ℕ) where
@@ -124,7 +122,7 @@ module _ {w : ℕ} {xs old : List ℕ} {at : ℕ} {out : List ℕ} {i : ℕ} (a 
   pub laying-done : length xs ≤ i → out ≡ sets old at (layAll w xs)
   laying-done l = sym (lay-no-item w xs i l out (at + w * i)) ∙ a .rest
 
--- a section laid at a place, and a sheet laid from the front
+-- a section laid at a place, and sections laid one after the other
 pub length-section : (k : Section) (xs : List ℕ) → length (laySection k xs) ≡ 2 + k .width * length xs
 unfolding laySection
 length-section k xs = length-append (lay 2 (length xs)) (layAll (k .width) xs) ∙ omega (arith, length-lay 2 (length xs), length-layAll (k .width) xs)
@@ -138,33 +136,36 @@ laid-section k xs o o₁ o₂ p q e h₁ h₂ =
     ∙ ap (λ (j : ℕ). sets (sets o p (lay 2 (length xs))) j (layAll (k .width) xs)) (sym f)
     ∙ sym (sets-append (lay 2 (length xs)) (layAll (k .width) xs) o p)
 
-module _ (l : Lists) (o o₁ o₂ o₃ : List ℕ) (m d : ℕ) where
-  pub laid-sheet : m ≡ 2 + 2 * length (l .years) → d ≡ m + (2 + 4 * length (l .months)) →
-      o₁ ≡ sets o 0 (laySection yearItems (l .years)) → o₂ ≡ sets o₁ m (laySection monthItems (l .months)) → o₃ ≡ sets o₂ d (laySection dayItems (l .days)) →
-      o₃ ≡ sets o 0 (sheetOf l)
-  unfolding sheetOf
-  laid-sheet em ed h₁ h₂ h₃ =
-      let y : List ℕ = laySection yearItems (l .years) in
-      let n : List ℕ = laySection monthItems (l .months) in
-      let e : 0 + length y ≡ m = omega (arith, length-section yearItems (l .years)) in
-      let f : m + length n ≡ d = omega (arith, length-section monthItems (l .months)) in
-      let w : List ℕ = laySection dayItems (l .days) in
-      let z : sets o 0 (y ++ (n ++ w)) ≡ sets (sets (sets o 0 y) m n) d w =
-      sets-append y (n ++ w) o 0
-      ∙ ap (λ (j : ℕ). sets (sets o 0 y) j (n ++ w)) e
-      ∙ sets-append n w (sets o 0 y) m
-      ∙ ap (λ (j : ℕ). sets (sets (sets o 0 y) m n) j w) f
-      in
-      h₃ ∙ ap (λ (k : List ℕ). sets k d w) (h₂ ∙ ap (λ (k : List ℕ). sets k m n) h₁) ∙ sym z
+pub laid-next : (k : Section) (ks : List Section) (l : ListsFor (k ∷ ks)) (o o₁ o₂ : List ℕ) (p q : ℕ) → q ≡ p + (2 + k .width * length (l .0)) →
+    o₁ ≡ sets o p (laySection k (l .0)) → o₂ ≡ sets o₁ q (laySections ks (l .1)) → o₂ ≡ sets o p (laySections (k ∷ ks) l)
+unfolding laySections
+laid-next k ks l o o₁ o₂ p q e h₁ h₂ =
+    let f : p + length (laySection k (l .0)) ≡ q = omega (arith, length-section k (l .0)) in
+    h₂
+    ∙ ap (λ (x : List ℕ). sets x q (laySections ks (l .1))) h₁
+    ∙ ap (λ (j : ℕ). sets (sets o p (laySection k (l .0))) j (laySections ks (l .1))) (sym f)
+    ∙ sym (sets-append (laySection k (l .0)) (laySections ks (l .1)) o p)
+
+pub laid-none : (o : List ℕ) (p : ℕ) → o ≡ sets o p (laySections [] tt)
+unfolding laySections
+laid-none o p = refl
+
+-- how long sections are
+length-next : (k : Section) (ks : List Section) (l : ListsFor (k ∷ ks)) → length (laySections (k ∷ ks) l) ≡ 2 + k .width * length (l .0) + length (laySections ks (l .1))
+unfolding laySections
+length-next k ks l = length-append (laySection k (l .0)) (laySections ks (l .1)) ∙ omega (arith, length-section k (l .0))
+
+length-none : length (laySections [] tt) ≡ 0
+unfolding laySections
+length-none = refl
 
 pub length-sheet : (l : Lists) → length (sheetOf l) ≡ 6 + 2 * length (l .years) + 4 * length (l .months) + 4 * length (l .days)
 unfolding sheetOf
 length-sheet l =
     omega (
       arith,
-      length-append (laySection yearItems (l .years)) (laySection monthItems (l .months) ++ laySection dayItems (l .days)),
-      length-append (laySection monthItems (l .months)) (laySection dayItems (l .days)),
-      length-section yearItems (l .years),
-      length-section monthItems (l .months),
-      length-section dayItems (l .days),
+      length-next (ranged yearItems) (ranged monthItems ∷ ranged dayItems ∷ []) (inOrder l),
+      length-next (ranged monthItems) (ranged dayItems ∷ []) (l .months, (l .days, tt)),
+      length-next (ranged dayItems) [] (l .days, tt),
+      length-none,
     )

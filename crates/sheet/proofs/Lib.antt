@@ -1,13 +1,8 @@
--- Laws of numbers in bytes, of reading, filling and writing, and the proofs of the statements.
-pub mod Cases
+-- Laws of numbers in bytes, of what decides an answer, of reading, filling and writing.
 pub mod Numbers
+pub mod Deciding
 pub mod Reading
 pub mod Filling
 pub mod Writing
-pub mod Parts
 pub mod Sheets
-pub mod RoundTrip
-pub mod Ends
-pub mod Faults
 pub mod Places
-pub mod Paper

@@ -1,5 +1,5 @@
 -- Laws of numbers in bytes, over the width. Assumes nothing.
-use Prim.Native.Nat.{ℕ, zero, suc, _+_, _-_, _*_, _/_, _%_, _^_, _≤_, _<_}
+use Prim.Native.Nat.{ℕ, zero, suc, _+_, _-_, _*_, _/_, _^_, _≤_, _<_}
 use native.Mathlib.Nat.{pow-suc, add-zero}
 use native.Mathlib.Omega.{arith}
 use mathlib.Core.Path.{_≡_, refl, ap}
@@ -7,23 +7,6 @@ use mathlib.Core.List.{List, [], _∷_, _++_}
 use lib.ListN.{length, getD, drop}
 use lib.Seq.{getD-drop, drop-drop}
 use Rattle.sheet.specs.Sheet.{number, lay}
-
--- least byte first: two bytes and four, read; and two, laid
-pub two-read : (a b : ℕ) (t : List ℕ) → number 2 (a ∷ b ∷ t) ≡ a + 256 * b
-unfolding number
-two-read a b t = omega arith
-
-pub four-read : (a b c d : ℕ) (t : List ℕ) → number 4 (a ∷ b ∷ c ∷ d ∷ t) ≡ a + 256 * b + 65536 * c + 16777216 * d
-unfolding number
-four-read a b c d t = omega arith
-
-pub two-laid : (x : ℕ) → lay 2 x ≡ (x % 256) ∷ (x / 256 % 256) ∷ []
-unfolding lay
-two-laid x = refl
-
-pub four-laid : (x : ℕ) → lay 4 x ≡ (x % 256) ∷ (x / 256 % 256) ∷ (x / 256 / 256 % 256) ∷ (x / 256 / 256 / 256 % 256) ∷ []
-unfolding lay
-four-laid x = refl
 
 -- one byte more in front
 number-more : (w i : ℕ) (s : List ℕ) → number (suc w) (drop i s) ≡ getD s i 0 + 256 * number w (drop (i + 1) s)

@@ -3,8 +3,9 @@ use Prim.Native.Nat.{_-_}
 use native.Mathlib.Omega.{arith}
 use lib.ListN.{length}
 use Rattle.fields.proofs.Putting.{put-kept}
+use Rattle.sheet.specs.Sheet.{monthItems}
 use Rattle.lines.specs.Lines.{monthItem}
-use Rattle.listed.proofs.Items.{ItemsPut, no-item, room-for-item, next-item, all-items}
+use Rattle.listed.proofs.Items.{in-range, ItemsPut, no-item, room-for-item, next-item, all-items}
 use Rattle.listed.proofs.put_month_items.Statement.{statement}
 use Rattle.listed.proofs.put_month_items.Tie as tie
 
@@ -27,7 +28,8 @@ put-month-requires : tie.Need-put-month-requires Inv-loop μ-loop
 put-month-requires c κs =
     let l = c .before .before .before in
     let h = c .before .before .loop-test .taken in
-    (c .before .before .before .before .before .before .pre .0 .items (l .loop .i) h .1, room-for-item (l .loop .inv) h (c .before .before .before .before .before .before .pre .1))
+    let a = l .before .before .before in
+    (in-range monthItems (a .args .months .now) (a .pre .0) (l .loop .i) h .1, room-for-item (l .loop .inv) h (a .pre .1))
 
 add-i : tie.Need-add-i Inv-loop μ-loop
 add-i c = omega arith

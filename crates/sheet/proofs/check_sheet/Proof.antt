@@ -1,72 +1,95 @@
--- `sheet::check_sheet` meets its contract. Assumes nothing.
-use Prim.Native.Nat.{ℕ}
+-- `sheet::check_sheet` meets its contract: each section stops it, or is found good and hands on what it left. Assumes nothing.
+use Prim.Native.Nat.{ℕ, _+_, _-_, _*_}
 use native.Mathlib.Omega.{arith}
-use mathlib.Core.Path.{ap, sym, _∙_}
-use mathlib.Core.List.{List}
-use Rattle.rule.specs.Reasons.{is, reasonNumber}
-use Rattle.sheet.specs.Sheet.{yearItems, monthItems, countOf, leftAfter, monthsRead, sheetRead}
-use Rattle.sheet.specs.Promises.{saidHowMany, countsAre}
-use Rattle.sheet.proofs.Reading.{section-on, section-stop, found}
+use mathlib.Core.Path.{_≡_, refl, ap, sym, _∙_}
+use mathlib.Core.List.{List, []}
+use lib.ListN.{length, take, drop}
 use borrow.Author.Needs.{needs}
+use Rattle.rule.specs.Reasons.{is, andThen, reasonNumber}
+use Rattle.sheet.specs.declared.Counted.{Counted}
+use Rattle.sheet.specs.Sheet.{ranged, yearItems, monthItems, dayItems, monthsPart, daysPart, leftAfter, sectionsRead, sheetSections}
+use Rattle.sheet.specs.Promises.{saidHowMany}
+use Rattle.sheet.proofs.Reading.{Found, found, section-stops, three-counts, bytes-after, nothing-after}
 use Rattle.sheet.proofs.check_sheet.Statement.{statement}
 use Rattle.sheet.proofs.check_sheet.Tie as tie
 
-check-section-requires : tie.Need-check-section-requires
-check-section-requires c κs = search needs
+-- what is left of s from a on
+abbrev from : ℕ → List ℕ → List ℕ
+from a s = take (length s - a) (drop a s)
 
-enum-known-r : tie.Need-enum-known-r
-enum-known-r c = search needs
+-- where each section is found good
+abbrev bytes : tie.After-y → List ℕ
+bytes c = c .before .before .before .before .args .s .now
 
-enum-known-n : tie.Need-enum-known-n
-enum-known-n c = search needs
+years : (c : tie.After-y) → Found (ranged yearItems) (bytes c) (bytes c) (c .y .given .0 .0)
+years c = found (ranged yearItems) _ _ _ refl (sym (c .before .before .check-section .ensures) ∙ ap saidHowMany (c .y .given .1))
 
-mul-check-months : tie.Need-mul-check-months
-mul-check-months c = omega (arith, found yearItems (c .before .before .before .before .before .args .s .now) (c .before .n .given .0 .0) (sym (c .before .before .before .check-section .ensures) ∙ ap saidHowMany (c .before .n .given .1)) .few)
+abbrev at-months : tie.After-m → tie.After-y
+at-months c = c .before .before .before .before .before
 
-add-check-months : tie.Need-add-check-months
-add-check-months c = omega (arith, found yearItems (c .before .before .before .before .before .args .s .now) (c .before .n .given .0 .0) (sym (c .before .before .before .check-section .ensures) ∙ ap saidHowMany (c .before .n .given .1)) .few)
+months : (c : tie.After-m) →
+    Found (ranged monthItems) (monthsPart (bytes (at-months c))) (from (2 + 2 * at-months c .y .given .0 .0) (bytes (at-months c))) (c .m .given .0 .0)
+months c =
+    found (ranged monthItems) _ _ _ (years (at-months c) .next) (sym (c .before .before .check-section2 .ensures) ∙ ap saidHowMany (c .m .given .1))
 
-sub-check-months : tie.Need-sub-check-months
-sub-check-months c = omega (arith, found yearItems (c .before .before .before .before .before .args .s .now) (c .before .n .given .0 .0) (sym (c .before .before .before .check-section .ensures) ∙ ap saidHowMany (c .before .n .given .1)) .long)
+abbrev at-days : tie.After-d → tie.After-m
+at-days c = c .before .before .before .before .before
 
-part-check-months-start : tie.Need-part-check-months-start
-part-check-months-start c = omega (arith, found yearItems (c .before .before .before .before .before .args .s .now) (c .before .n .given .0 .0) (sym (c .before .before .before .check-section .ensures) ∙ ap saidHowMany (c .before .n .given .1)) .long)
+abbrev all-bytes : tie.After-d → List ℕ
+all-bytes c = bytes (at-months (at-days c))
 
-part-check-months-end : tie.Need-part-check-months-end
-part-check-months-end c = search needs
+days : (c : tie.After-d) →
+    Found (ranged dayItems) (daysPart (all-bytes c))
+    (from (2 + 4 * at-days c .m .given .0 .0) (from (2 + 2 * at-months (at-days c) .y .given .0 .0) (all-bytes c))) (c .d .given .0 .0)
+days c =
+    found (ranged dayItems) _ _ _ (months (at-days c) .next) (sym (c .before .before .check-section3 .ensures) ∙ ap saidHowMany (c .d .given .1))
 
-check-months-requires : tie.Need-check-months-requires
-check-months-requires c κs = search needs
-
-returns : tie.Need-returns
-unfolding sheetRead
-returns c =
-    let c5 = c .before .before .before .before .before in
-    sym (section-stop yearItems (c5 .args .s .now) (countOf (c5 .args .s .now)) _ (reasonNumber (c .before .r .given .0 .0)) (sym (c .before .before .before .check-section .ensures) ∙ ap saidHowMany (c .before .r .given .1)))
-
-returns-2 : tie.Need-returns-2
-unfolding sheetRead
-returns-2 c =
-    let c3 = c .before .before .before in
-    let c5 = c .before .before .before .before .before in
-    let c7 = c .before .before .before .before .before .before .before in
-    c .check-months .ensures
-    ∙ ap (λ (t : List ℕ). monthsRead t (is (countsAre (c3 .n .given .0 .0) (countOf t) (countOf (leftAfter monthItems t))))) ((found yearItems (c7 .args .s .now) (c3 .n .given .0 .0) (sym (c5 .check-section .ensures) ∙ ap saidHowMany (c3 .n .given .1))) .next)
-    ∙ ap (λ (m : ℕ). monthsRead (leftAfter yearItems (c7 .args .s .now)) (is (countsAre m (countOf (leftAfter yearItems (c7 .args .s .now))) (countOf (leftAfter monthItems (leftAfter yearItems (c7 .args .s .now))))))) (sym ((found yearItems (c7 .args .s .now) (c3 .n .given .0 .0) (sym (c5 .check-section .ensures) ∙ ap saidHowMany (c3 .n .given .1))) .count))
-    ∙ sym (section-on yearItems (c7 .args .s .now) (countOf (c7 .args .s .now)) _ (c3 .n .given .0 .0) (sym (c5 .check-section .ensures) ∙ ap saidHowMany (c3 .n .given .1)))
+all-passed : (c : tie.After-d) (z : Counted) →
+    andThen (sectionsRead sheetSections (all-bytes c)) (λ l. is z)
+    ≡ andThen (sectionsRead [] (leftAfter (ranged dayItems) (daysPart (all-bytes c)))) (λ l. is z)
+all-passed c z = years (at-months (at-days c)) .passes _ z ∙ months (at-days c) .passes _ z ∙ days c .passes _ z
 
 pub check-sheet-spec : {M : Type 1} → statement M
 check-sheet-spec =
     tie.close
     (tie.spec
-    check-section-requires
-    enum-known-r
-    enum-known-n
-    mul-check-months
-    add-check-months
-    sub-check-months
-    part-check-months-start
-    part-check-months-end
-    check-months-requires
-    returns
-    returns-2)
+    (λ c κs. search needs)
+    (λ c. search needs)
+    (λ c. search needs)
+    (λ c. omega (arith, years (c .before) .few))
+    (λ c. omega (arith, years (c .before) .few))
+    (λ c. omega (arith, years (c .before) .long))
+    (λ c. omega (arith, years (c .before) .long))
+    (λ c. search needs)
+    (λ c κs. search needs)
+    (λ c. search needs)
+    (λ c. search needs)
+    (λ c. omega (arith, months (c .before) .few))
+    (λ c. omega (arith, months (c .before) .few))
+    (λ c. omega (arith, months (c .before) .long))
+    (λ c. omega (arith, months (c .before) .long))
+    (λ c. search needs)
+    (λ c κs. search needs)
+    (λ c. search needs)
+    (λ c. search needs)
+    (λ c. omega (arith, days (c .before) .few))
+    (λ c. omega (arith, days (c .before) .few))
+    (λ c. sym (all-passed (c .before .before) _ ∙ bytes-after _ _ (omega (arith, days (c .before .before) .left))))
+    (λ c.
+    let c3 = c .before .before .before in
+    sym (section-stops (ranged yearItems) _ _ _ _ (reasonNumber (c .before .r .given .0 .0)) refl (sym (c3 .check-section .ensures) ∙ ap saidHowMany (c .before .r .given .1))))
+    (λ c.
+    let c3 = c .before .before .before in
+    let y = c .before .before .before .before .before .before in
+    sym (years y .passes _ _
+    ∙ section-stops (ranged monthItems) _ _ _ _ (reasonNumber (c .before .r2 .given .0 .0)) (years y .next) (sym (c3 .check-section2 .ensures) ∙ ap saidHowMany (c .before .r2 .given .1))))
+    (λ c.
+    let c3 = c .before .before .before in
+    let m = c .before .before .before .before .before .before in
+    sym (years (at-months m) .passes _ _
+    ∙ months m .passes _ _
+    ∙ section-stops (ranged dayItems) _ _ _ _ (reasonNumber (c .before .r3 .given .0 .0)) (months m .next) (sym (c3 .check-section3 .ensures) ∙ ap saidHowMany (c .before .r3 .given .1))))
+    (λ c.
+    let d = c .before .before in
+    ap is (three-counts _ _ _ _ (years (at-months (at-days d)) .count) (months (at-days d) .count) (days d .count))
+    ∙ sym (all-passed d _ ∙ nothing-after _ _ (omega (arith, days d .left)))))

@@ -14,48 +14,21 @@ Inv-loop s width x₀ i₀ x i = (i ≤ width) × (x ≡ number (width - i) (dro
 abbrev μ-loop : tie.MeasureT-loop
 μ-loop s width x₀ i₀ x i = i
 
-loop-holds : tie.Need-loop-holds Inv-loop μ-loop
-loop-holds c = (omega arith, none-read (c .args .width) (c .args .s .now) .0, none-read (c .args .width) (c .args .s .now) .1)
-
-sub-i : tie.Need-sub-i Inv-loop μ-loop
-sub-i c = omega arith
-
-mul-x : tie.Need-mul-x Inv-loop μ-loop
-mul-x c = omega (arith, up-to-three (c .before .before .args .width - c .before .loop .i) (omega arith))
-
-shared-slice-read-x : tie.Need-shared-slice-read-x Inv-loop μ-loop
-shared-slice-read-x c = omega arith
-
-cast-x : tie.Need-cast-x Inv-loop μ-loop
-cast-x c = omega (arith, c .shared-slice-known .given (c .before .before .loop .i - 1))
-
-add-x : tie.Need-add-x Inv-loop μ-loop
-add-x c = omega (arith, c .shared-slice-known .given (c .before .before .loop .i - 1), up-to-three (c .before .before .before .args .width - c .before .before .loop .i) (omega arith))
-
-loop-less : tie.Need-loop-less Inv-loop μ-loop
-loop-less c = omega arith
-
-loop-again : tie.Need-loop-again Inv-loop μ-loop
-loop-again c =
-    let c2 = c .before .before in
-    let c3 = c .before .before .before in
-    (omega arith, turn (c3 .args .width) (c2 .loop .i) (c2 .loop .x) (c3 .args .s .now) (omega arith) (omega arith) (omega (arith, c .shared-slice-known .given (c2 .loop .i - 1))) (c2 .loop .inv .1), turn-low (c3 .args .width) (c2 .loop .i) (c2 .loop .x) (c3 .args .s .now) (omega arith) (omega arith) (omega (arith, c .shared-slice-known .given (c2 .loop .i - 1))) (c2 .loop .inv .2))
-
-returns : tie.Need-returns Inv-loop μ-loop
-returns c = all-read (c .before .before .args .width) (c .before .loop .i) (c .before .loop .x) (c .before .before .args .s .now) (c .loop-test .left) (c .before .loop .inv .1) (c .before .loop .inv .2)
-
 pub number-in-spec : {M : Type 1} → statement M
 number-in-spec =
     tie.close
     (tie.spec
     Inv-loop
     μ-loop
-    loop-holds
-    sub-i
-    mul-x
-    shared-slice-read-x
-    cast-x
-    add-x
-    loop-less
-    loop-again
-    returns)
+    (λ c. (omega arith, none-read (c .args .width) (c .args .s .now) .0, none-read (c .args .width) (c .args .s .now) .1))
+    (λ c. omega arith)
+    (λ c. omega (arith, up-to-three (c .before .before .args .width - c .before .loop .i) (omega arith)))
+    (λ c. omega arith)
+    (λ c. omega (arith, c .shared-slice-known .given (c .before .before .loop .i - 1)))
+    (λ c. omega (arith, c .shared-slice-known .given (c .before .before .loop .i - 1), up-to-three (c .before .before .before .args .width - c .before .before .loop .i) (omega arith)))
+    (λ c. omega arith)
+    (λ c.
+    let c2 = c .before .before in
+    let c3 = c .before .before .before in
+    (omega arith, turn (c3 .args .width) (c2 .loop .i) (c2 .loop .x) (c3 .args .s .now) (omega arith) (omega arith) (omega (arith, c .shared-slice-known .given (c2 .loop .i - 1))) (c2 .loop .inv .1), turn-low (c3 .args .width) (c2 .loop .i) (c2 .loop .x) (c3 .args .s .now) (omega arith) (omega arith) (omega (arith, c .shared-slice-known .given (c2 .loop .i - 1))) (c2 .loop .inv .2)))
+    (λ c. all-read (c .before .before .args .width) (c .before .loop .i) (c .before .loop .x) (c .before .before .args .s .now) (c .loop-test .left) (c .before .loop .inv .1) (c .before .loop .inv .2)))

@@ -3,34 +3,36 @@
 use Prim.Native.Nat.{ℕ, _+_, _*_, _/_, _%_, _≤_, _<_}
 use mathlib.Core.Path.{_≡_}
 use mathlib.Core.Logic.{_↔_}
+use mathlib.Core.Bool.{true}
 use mathlib.Core.List.{List, [], _∷_, _++_}
 use lib.ListN.{length, getD, take, drop, replicate}
 use Rattle.rule.specs.Reasons.{reasonNumber}
 use Rattle.rule.specs.declared.Reason.{Reason}
 use Rattle.rule.specs.declared.Reason.the-variants.{SheetEndsEarly, BytesAfterLast}
-use Rattle.sheet.specs.declared.Section.{Section}
-use Rattle.sheet.specs.declared.Counted.{Counted}
-use Rattle.sheet.specs.declared.SheetCounts.{SheetCounts}
-use Rattle.sheet.specs.declared.SheetCounts.the-variants as Counts'
-use Rattle.sheet.specs.declared.HowMany.{HowMany}
-use Rattle.sheet.specs.declared.HowMany.the-variants as HowMany'
 use Rattle.rule.specs.Lists.{placed}
+use Rattle.sheet.specs.declared.Counted.{Counted}
+use Rattle.sheet.specs.declared.SheetCounts.{SheetCounts}
+use Rattle.sheet.specs.declared.SheetCounts.the-variants as Counts'
+use Rattle.sheet.specs.declared.HowMany.{HowMany}
+use Rattle.sheet.specs.declared.HowMany.the-variants as HowMany'
 use Rattle.sheet.specs.Sheet.{
   number,
   lay,
+  Section,
+  ranged,
   yearItems,
   monthItems,
   dayItems,
-  countOf,
-  leftAfter,
   Lists,
   threeLists,
-  monthsPart,
-  daysPart,
   listsIn,
   sheetOf,
+  emptySheet,
+  sheetOf11,
+  sheetOfTwos,
 }
-use Rattle.sheet.specs.Promises.{counted, countsAre, countsIn, ReadSheet, WriteSheet}
+use Rattle.sheet.specs.Faults.{GoodSheet, SheetFault, GoodLists, ListsFault}
+use Rattle.sheet.specs.Promises.{counted, countsAre, countsIn, ReadSheet, WriteSheet, RestKept}
 
 -- "Numbers are least byte first", of the two bytes of a year or a count and the four of a month or a day, read from the front of
 -- what is left, and laid
@@ -107,71 +109,19 @@ Calls-back-and-there =
     WriteSheet (take (c .years) y′) (take (c .months) m′) (take (c .days) d′) o r o′ →
     length s ≤ length o → (r ≡ HowMany'.Is (length s)) × (o′ ≡ placed s o)
 
--- a value of a section's item is in its range: 1 to 41,040, at most 507,599, at most 14,989,859
-abbrev pub InSection : Section → ℕ → Type 0
-InSection k x = (k .least ≤ x) × (x ≤ k .most)
+-- the items of a section are good from the least to the most, and come back with reason r where they are not
+pub record InRange (k : Section) (least most r : ℕ) : Type 0 where
+  pub good : (x : ℕ) → (k .good x ≡ true) ↔ ((least ≤ x) × (x ≤ most))
+  pub reason : (x : ℕ) → k .reason x ≡ r
 
--- the bytes that are left where item j of the section at the front of s starts
-abbrev pub leftAt : Section → List ℕ → ℕ → List ℕ
-leftAt k s j = drop (k .width * j) (drop 2 s)
+-- a year from 1 to 41,040 (1), a month count to 507,599 (7), a day to 14,989,859 (6)
+pub record Ranges-of-items : Type 0 where
+  pub years : InRange (ranged yearItems) 1 41040 1
+  pub months : InRange (ranged monthItems) 0 507599 7
+  pub days : InRange (ranged dayItems) 0 14989859 6
 
--- item j is whole and in its range
-abbrev pub GoodItem : Section → List ℕ → ℕ → Type 0
-GoodItem k s j = (k .width ≤ length (leftAt k s j)) × InSection k (number (k .width) (leftAt k s j))
-
--- a section's count is whole and not too large; and all of its items are good
-pub record GoodCount (k : Section) (s : List ℕ) : Type 0 where
-  pub whole : 2 ≤ length s
-  pub few : countOf s ≤ k .items
-
-pub record GoodSection (k : Section) (s : List ℕ) : Type 0 where
-  pub count : GoodCount k s
-  pub items : (j : ℕ) → j < countOf s → GoodItem k s j
-
--- the first fault of a section in byte order, and its reason: "sheet ends before a count or an item is whole" (fewer bytes are
--- left than it needs), "a count above 1,000", an item outside its range; all items before the faulty one are good
-pub data SectionFault (k : Section) (s : List ℕ) (r : ℕ) : Type 0 where
-  count-cut : length s < 2 → r ≡ 9 → SectionFault k s r
-  count-large : 2 ≤ length s → k .items < countOf s → r ≡ 10 → SectionFault k s r
-  item-cut :
-      GoodCount k s → (j : ℕ) → j < countOf s → ((i : ℕ) → i < j → GoodItem k s i) →
-      length (leftAt k s j) < k .width → r ≡ 9 → SectionFault k s r
-  item-outside :
-      GoodCount k s → (j : ℕ) → j < countOf s → ((i : ℕ) → i < j → GoodItem k s i) →
-      k .width ≤ length (leftAt k s j) → (InSection k (number (k .width) (leftAt k s j)) → ⊥) →
-      r ≡ reasonNumber (k .reason) → SectionFault k s r
-
--- three good sections
-pub record GoodSections (s : List ℕ) : Type 0 where
-  pub years : GoodSection yearItems s
-  pub months : GoodSection monthItems (monthsPart s)
-  pub days : GoodSection dayItems (daysPart s)
-
--- one of three lent lists of y, m and d places is too short
-pub data TooShort (s : List ℕ) (y m d : ℕ) : Type 0 where
-  short-years : y < countOf s → TooShort s y m d
-  short-months : m < countOf (monthsPart s) → TooShort s y m d
-  short-days : d < countOf (daysPart s) → TooShort s y m d
-
--- the first fault of a sheet in byte order, and its reason; then "bytes after the last section"; then a lent list too short
-pub data SheetFault (s : List ℕ) (y m d r : ℕ) : Type 0 where
-  in-years : SectionFault yearItems s r → SheetFault s y m d r
-  in-months : GoodSection yearItems s → SectionFault monthItems (monthsPart s) r → SheetFault s y m d r
-  in-days :
-      GoodSection yearItems s → GoodSection monthItems (monthsPart s) → SectionFault dayItems (daysPart s) r → SheetFault s y m d r
-  bytes-after : GoodSections s → 0 < length (leftAfter dayItems (daysPart s)) → r ≡ 11 → SheetFault s y m d r
-  lent-short : GoodSections s → length (leftAfter dayItems (daysPart s)) ≡ 0 → TooShort s y m d → r ≡ 12 → SheetFault s y m d r
-
--- no fault: all sections good, no bytes after them, and room in the lent lists
-pub record GoodSheet (s : List ℕ) (y m d : ℕ) : Type 0 where
-  pub sections : GoodSections s
-  pub end : length (leftAfter dayItems (daysPart s)) ≡ 0
-  pub room-years : countOf s ≤ y
-  pub room-months : countOf (monthsPart s) ≤ m
-  pub room-days : countOf (daysPart s) ≤ d
-
--- each reason if and only if its row holds and no earlier fault does; and the sheet's own counts and items if and only if there
--- is no fault
+-- each reason if and only if its row holds and no earlier fault does (`SheetFault`: the first fault in byte order); and the sheet's
+-- own counts and items if and only if there is no fault
 pub record SheetReasons (s y m d : List ℕ) : Type 0 where
   pub reason :
       (why : Reason) →
@@ -183,29 +133,7 @@ pub record SheetReasons (s y m d : List ℕ) : Type 0 where
 abbrev pub Reasons-of-a-sheet : Type 0
 Reasons-of-a-sheet = (s y m d : List ℕ) → SheetReasons s y m d
 
--- the same of a list to be written: a length above 1,000, then the first item outside its range
-pub record GoodList (k : Section) (xs : List ℕ) : Type 0 where
-  pub few : length xs ≤ k .items
-  pub items : (j : ℕ) → j < length xs → InSection k (getD xs j 0)
-
-pub data ListFault (k : Section) (xs : List ℕ) (r : ℕ) : Type 0 where
-  list-long : k .items < length xs → r ≡ 10 → ListFault k xs r
-  value-outside :
-      length xs ≤ k .items → (j : ℕ) → j < length xs → ((i : ℕ) → i < j → InSection k (getD xs i 0)) →
-      (InSection k (getD xs j 0) → ⊥) → r ≡ reasonNumber (k .reason) → ListFault k xs r
-
-pub record GoodLists (l : Lists) : Type 0 where
-  pub years : GoodList yearItems (l .years)
-  pub months : GoodList monthItems (l .months)
-  pub days : GoodList dayItems (l .days)
-
-pub data ListsFault (l : Lists) (n r : ℕ) : Type 0 where
-  of-years : ListFault yearItems (l .years) r → ListsFault l n r
-  of-months : GoodList yearItems (l .years) → ListFault monthItems (l .months) r → ListsFault l n r
-  of-days :
-      GoodList yearItems (l .years) → GoodList monthItems (l .months) → ListFault dayItems (l .days) r → ListsFault l n r
-  buffer-short : GoodLists l → n < length (sheetOf l) → r ≡ 12 → ListsFault l n r
-
+-- the same of lists to be written
 pub record ListsReasons (y m d o : List ℕ) : Type 0 where
   pub reason :
       (why : Reason) → WriteSheet y m d o (HowMany'.Refused why) o ↔ ListsFault (threeLists y m d) (length o) (reasonNumber why)
@@ -250,11 +178,7 @@ pub record Refusal-changes-nothing : Type 0 where
       (y′ ≡ y) × (m′ ≡ m) × (d′ ≡ d)
   pub write-sheet : (y m d o o′ : List ℕ) (why : Reason) → WriteSheet y m d o (HowMany'.Refused why) o′ → o′ ≡ o
 
--- "Both leave places beyond what they fill untouched", where n places are filled
-pub record RestKept (n : ℕ) (old new : List ℕ) : Type 0 where
-  pub places : length new ≡ length old
-  pub rest : drop n new ≡ drop n old
-
+-- "Both leave places beyond what they fill untouched"
 pub record Rest-untouched : Type 0 where
   pub read-sheet :
       (s y m d y′ m′ d′ : List ℕ) (c : Counted) → ReadSheet s y m d (Counts'.Is c) y′ m′ d′ →
@@ -273,25 +197,12 @@ Unique-write-sheet =
     (y m d o : List ℕ) (a b : HowMany) (o₁ o₂ : List ℕ) →
     WriteSheet y m d o a o₁ → WriteSheet y m d o b o₂ → (a ≡ b) × (o₁ ≡ o₂)
 
--- the empty sheet of case 12, and the sheet of the year 11 alone
-abbrev pub emptySheet : List ℕ
-emptySheet = 0 ∷ 0 ∷ 0 ∷ 0 ∷ 0 ∷ 0 ∷ []
-
-abbrev pub sheetOf11 : List ℕ
-sheetOf11 = 1 ∷ 0 ∷ 11 ∷ 0 ∷ 0 ∷ 0 ∷ 0 ∷ 0 ∷ []
-
 -- case 12: "three zero counts"
 abbrev pub Empty-sheet : Type 0
 Empty-sheet =
     (y m d y′ m′ d′ : List ℕ) (r : SheetCounts) → ReadSheet emptySheet y m d r y′ m′ d′ → r ≡ Counts'.Is (countsAre 0 0 0)
 
--- a sheet with two items in each list: the years 11 and 12, the months 123 and 134, the days 28 and 29
-abbrev pub sheetOfTwos : List ℕ
-sheetOfTwos =
-    (2 ∷ 0 ∷ 11 ∷ 0 ∷ 12 ∷ 0 ∷ [])
-    ++ ((2 ∷ 0 ∷ 123 ∷ 0 ∷ 0 ∷ 0 ∷ 134 ∷ 0 ∷ 0 ∷ 0 ∷ []) ++ (2 ∷ 0 ∷ 28 ∷ 0 ∷ 0 ∷ 0 ∷ 29 ∷ 0 ∷ 0 ∷ 0 ∷ []))
-
--- what a call may do that reads it into lists of two noughts
+-- what a call may do that reads the sheet of twos into lists of two noughts
 abbrev pub ReadTwos : SheetCounts → List ℕ → List ℕ → List ℕ → Type 0
 ReadTwos = ReadSheet sheetOfTwos (0 ∷ 0 ∷ []) (0 ∷ 0 ∷ []) (0 ∷ 0 ∷ [])
 
