@@ -3,7 +3,7 @@
 use Prim.Native.Nat.{ℕ, zero, suc, _+_, _-_, _*_, _≤_, _<_}
 use native.Mathlib.Nat.{mul-suc, mul-zero}
 use native.Mathlib.Omega.{arith}
-use mathlib.Core.Path.{_≡_, ap, _∙_}
+use mathlib.Core.Path.{_≡_, refl, ap, sym, _∙_}
 use mathlib.Core.Logic.{_↔_, Iff·rfl}
 use mathlib.Core.Bool.{true, false, _&&_}
 use mathlib.Core.List.{List, [], _∷_, _++_}
@@ -11,7 +11,7 @@ use lib.Dec.{leb}
 use lib.ListN.{length, take, drop, length-drop}
 use lib.Seq.{drop-append-le}
 use borrow.Author.Tests.{le-leb, lt-leb}
-use Rattle.rule.specs.Reasons.{is, refused, guard, andThen}
+use Rattle.rule.specs.Reasons.{Answer, is, refused, guard, andThen}
 use Rattle.rule.proofs.Answers.{both-true, at-most, passes}
 use Rattle.rule.proofs.Stores.{part-all}
 use Rattle.sheet.specs.declared.Counted.{Counted}
@@ -51,6 +51,7 @@ use Rattle.sheet.proofs.Deciding.{
   if-given,
   then-made,
   stops-there,
+  goes-on,
 }
 
 -- what reading is computed with: on an `unfolding` line this name brings all that its own line names
@@ -154,18 +155,6 @@ unfolding leftAfter
 left-append k p q g =
     rw (number-append 2 p q (g .0 .0)) (drop-append-le (2 + k .width * countOf p) p q (section-long k p g))
 
--- the section at the front stops the sheet, or the sheet goes on with what it left
-pub section-stops : {A : Type 0} (k : Section) (ks : List Section) (s t : List ℕ) (z : A) (r : ℕ) → t ≡ s →
-    andThen (sectionRead k t) (λ xs. is (countOf t)) ≡ refused r → andThen (sectionsRead (k ∷ ks) s) (λ l. is z) ≡ refused r
-unfolding sectionsRead
-section-stops k ks s t z r e h =
-    stops-there (sectionRead k s) (sectionsRead ks (leftAfter k s)) (λ xs l. (xs, l)) (countOf s) z r (rw (e) at h)
-
-section-passes : (k : Section) (s : List ℕ) {xs : List ℕ} → sectionRead k s ≡ is xs → (ks : List Section) (z : Counted) →
-    andThen (sectionsRead (k ∷ ks) s) (λ l. is z) ≡ andThen (sectionsRead ks (leftAfter k s)) (λ l. is z)
-unfolding sectionsRead
-section-passes k s {xs} h ks z = rw (h) (then-made (sectionsRead ks (leftAfter k s)) (λ l. (xs, l)) (λ l. is z))
-
 -- the section k of s, found good at the front of a part t, with n items: how it lies, its items, and where the next one starts
 pub record Found (k : Section) (s t : List ℕ) (n : ℕ) : Type 0 where
   pub count : countOf s ≡ n
@@ -173,9 +162,6 @@ pub record Found (k : Section) (s t : List ℕ) (n : ℕ) : Type 0 where
   pub long : 2 + k .width * n ≤ length t
   pub stored : numbers (k .width) n (drop 2 t) ≡ itemsOf k s
   pub next : take (length t - (2 + k .width * n)) (drop (2 + k .width * n) t) ≡ leftAfter k s
-  pub left : length (leftAfter k s) ≡ length t - (2 + k .width * n)
-  pub passes :
-      (ks : List Section) (z : Counted) → andThen (sectionsRead (k ∷ ks) s) (λ l. is z) ≡ andThen (sectionsRead ks (leftAfter k s)) (λ l. is z)
 
 pub found-good : (k : Section) (s t : List ℕ) (n : ℕ) → t ≡ s → countOf s ≡ n → GoodSection k s → Found k s t n
 unfolding itemsOf leftAfter
@@ -187,8 +173,6 @@ found-good k s t n e c g =
       long = omega (arith, section-long k s g, ap length e);
       stored = rw (e, c);
       next = part-all (2 + k .width * n) t ∙ rw (e, c);
-      left = length-drop (2 + k .width * countOf s) s ∙ rw (e, c);
-      passes = section-passes k s (section-decided k s .given g);
     }
 
 pub found : (k : Section) (s t : List ℕ) (n : ℕ) → t ≡ s → andThen (sectionRead k t) (λ xs. is (countOf t)) ≡ is n → Found k s t n
@@ -196,15 +180,38 @@ found k s t n e h =
     let a = if-given (made-into (section-decided k s) (λ xs. countOf s)) n (rw (e) at h) in
     found-good k s t n e (a .1) (a .0)
 
-pub three-counts : (s : List ℕ) (y m d : ℕ) → countOf s ≡ y → countOf (monthsPart s) ≡ m → countOf (daysPart s) ≡ d → countsAre y m d ≡ countsIn s
-three-counts s y m d a b c = rw (a, b, c)
+-- the counts of a sheet, of which three are known and more are to come from the sections of t: each new one moves those before it
+unfoldable pub countsFrom : List Section → List ℕ → ℕ → ℕ → ℕ → Counted
+countsFrom [] t y m d = countsAre y m d
+countsFrom (k ∷ ks) t y m d = countsFrom ks (leftAfter k t) m d (countOf t)
+
+-- what the sections ks of t come to, y, m and d being the last counts before them
+abbrev pub checked : List Section → List ℕ → ℕ → ℕ → ℕ → Answer Counted
+checked ks t y m d = andThen (sectionsRead ks t) (λ l. is (countsFrom ks t y m d))
+
+pub all-to-check : (s : List ℕ) (y m d : ℕ) → checked sheetSections s y m d ≡ andThen (sectionsRead sheetSections s) (λ l. is (countsIn s))
+unfolding countsFrom
+all-to-check s y m d = refl
+
+module _ (k : Section) (ks all : List Section) (e : all ≡ k ∷ ks) (t : List ℕ) (y m d : ℕ) where
+  pub stops-at : (r : ℕ) → andThen (sectionRead k t) (λ xs. is (countOf t)) ≡ refused r → checked all t y m d ≡ refused r
+  unfolding sectionsRead
+  stops-at r h = rw (e) (stops-there (sectionRead k t) (sectionsRead ks (leftAfter k t)) (λ xs l. (xs, l)) (countOf t) _ r h)
+
+  pub passes-at : (n : ℕ) → andThen (sectionRead k t) (λ xs. is (countOf t)) ≡ is n →
+      checked ks (take (length t - (2 + k .width * n)) (drop (2 + k .width * n) t)) m d n ≡ checked all t y m d
+  unfolding sectionsRead countsFrom
+  passes-at n h =
+      let f = found k t t n refl h in
+      rw (e, f .next, ← f .count)
+      (sym (goes-on (sectionRead k t) (sectionsRead ks (leftAfter k t)) (λ xs l. (xs, l)) (countOf t) _ n h))
 
 -- the end: 11 for bytes after the last section
-module _ {A : Type 0} (s : List ℕ) (z : A) where
-  pub bytes-after : 0 < length s → andThen (sectionsRead [] s) (λ l. is z) ≡ refused 11
+module _ (all : List Section) (e : all ≡ []) (t : List ℕ) (y m d : ℕ) where
+  pub bytes-after : 0 < length t → checked all t y m d ≡ refused 11
   unfolding sectionsRead
-  bytes-after h = rw (lt-leb (length s) 0 h)
+  bytes-after h = rw (e, lt-leb (length t) 0 h)
 
-  pub nothing-after : length s ≤ 0 → andThen (sectionsRead [] s) (λ l. is z) ≡ is z
-  unfolding sectionsRead
-  nothing-after h = rw (le-leb (length s) 0 h)
+  pub nothing-after : length t ≤ 0 → checked all t y m d ≡ is (countsAre y m d)
+  unfolding sectionsRead countsFrom
+  nothing-after h = rw (e, le-leb (length t) 0 h)

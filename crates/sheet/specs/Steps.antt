@@ -1,12 +1,20 @@
--- What the inner functions ask and give: filling lists from a sheet that is good, laying lists that are good. Assumes nothing.
+-- What the inner functions ask and give: the section in a place, filling lists from a sheet that is good, laying lists that are good. Assumes nothing.
 use Prim.Native.Nat.{ℕ, _+_, _*_, _≤_}
 use mathlib.Core.Path.{_≡_}
-use mathlib.Core.List.{List}
+use mathlib.Core.List.{List, _∷_}
+use lib.ListN.{drop}
 use lib.Seq.{sets}
+use Rattle.sheet.specs.declared.Items.{Items}
 use Rattle.sheet.specs.declared.Counted.{Counted}
-use Rattle.sheet.specs.Sheet.{listsIn}
+use Rattle.sheet.specs.Sheet.{ranged, sheetSections, listsIn}
 use Rattle.sheet.specs.Faults.{GoodSheet}
 use Rattle.sheet.specs.Promises.{countsIn}
+
+-- the items k are those of the section in place j
+pub record SectionAt (j : ℕ) (k : Items) : Type 0 where
+  pub there : drop j sheetSections ≡ ranged k ∷ drop (j + 1) sheetSections
+  pub width : k .width ≤ 4
+  pub items : k .items ≤ 1000
 
 -- the sheet s is good, with room in lists of y, m and d places, and c are its counts
 pub record ToFill (s : List ℕ) (y m d : ℕ) (c : Counted) : Type 0 where

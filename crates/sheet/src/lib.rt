@@ -23,7 +23,7 @@ ghost use Rattle.sheet.specs.Sheet.{
   sheetOf,
   writeSheet,
 };
-ghost use Rattle.sheet.specs.Steps.{ToFill, Filled, ToLay};
+ghost use Rattle.sheet.specs.Steps.{SectionAt, ToFill, Filled, ToLay};
 ghost use Rattle.sheet.specs.Promises.{saidCounts, countsIn, saidHowMany, ReadSheet, WriteSheet};
 use rule::Reason;
 
@@ -154,35 +154,53 @@ fn check_section(s: &[u8], k: Items) -> HowMany
     }
 }
 
+// The section in a place of the sheet: the years, the months, the days.
+fn section_at(j: usize) -> Items
+    requires { ⌜ j < 3 ⌝ }
+    ensures { λ r. ⌜ SectionAt j r ⌝ }
+{
+    if j == 0 {
+        return YEARS;
+    }
+    if j == 1 {
+        return MONTHS;
+    }
+    DAYS
+}
+
 // The whole sheet: each section is handed what the one before it left, and after the last nothing is left.
 fn check_sheet(s: &[u8]) -> SheetCounts
     ensures { λ r. ⌜ saidCounts r ≡ andThen (sectionsRead sheetSections (now (s .entry))) (λ l. is (countsIn (now (s .entry)))) ⌝ }
 {
-    match check_section(s, YEARS) {
-        HowMany::Refused(r) => SheetCounts::Refused(r),
-        HowMany::Is(y) => {
-            let t = &s[2 + 2 * y..];
-            match check_section(t, MONTHS) {
-                HowMany::Refused(r) => SheetCounts::Refused(r),
-                HowMany::Is(m) => {
-                    let u = &t[2 + 4 * m..];
-                    match check_section(u, DAYS) {
-                        HowMany::Refused(r) => SheetCounts::Refused(r),
-                        HowMany::Is(d) => {
-                            if 2 + 4 * d < u.len() {
-                                return SheetCounts::Refused(Reason::BytesAfterLast);
-                            }
-                            SheetCounts::Is(Counted {
-                                years: y,
-                                months: m,
-                                days: d,
-                            })
-                        }
-                    }
-                }
+    let mut t = s;
+    let mut y = 0;
+    let mut m = 0;
+    let mut d = 0;
+    let mut j = 0;
+    while j < 3 {
+        let k = section_at(j);
+        let width = k.width;
+        match check_section(t, k) {
+            HowMany::Refused(r) => {
+                return SheetCounts::Refused(r);
+            }
+            HowMany::Is(n) => {
+                t = &t[2 + width * n..];
+                y = m;
+                m = d;
+                d = n;
             }
         }
+        j += 1;
     }
+    if 0 < t.len() {
+        return SheetCounts::Refused(Reason::BytesAfterLast);
+    }
+    SheetCounts::Is(Counted {
+        years: y,
+        months: m,
+        days: d,
+    })
 }
 
 // The items of the section at the front of what is left, put into a lent list: numbers of 2 bytes.

@@ -1,95 +1,72 @@
--- `sheet::check_sheet` meets its contract: each section stops it, or is found good and hands on what it left. Assumes nothing.
-use Prim.Native.Nat.{ℕ, _+_, _-_, _*_}
+-- `sheet::check_sheet` meets its contract. The invariant: what is left gives the same answer. Assumes nothing.
+use Prim.Native.Nat.{_+_, _-_, _*_, _≤_}
+use native.Mathlib.Nat.{mul-le-mul}
 use native.Mathlib.Omega.{arith}
 use mathlib.Core.Path.{_≡_, refl, ap, sym, _∙_}
-use mathlib.Core.List.{List, []}
-use lib.ListN.{length, take, drop}
+use lib.ListN.{drop, drop-of-length-le}
 use borrow.Author.Needs.{needs}
 use Rattle.rule.specs.Reasons.{is, andThen, reasonNumber}
-use Rattle.sheet.specs.declared.Counted.{Counted}
-use Rattle.sheet.specs.Sheet.{ranged, yearItems, monthItems, dayItems, monthsPart, daysPart, leftAfter, sectionsRead, sheetSections}
-use Rattle.sheet.specs.Promises.{saidHowMany}
-use Rattle.sheet.proofs.Reading.{Found, found, section-stops, three-counts, bytes-after, nothing-after}
+use Rattle.sheet.specs.Sheet.{ranged, sectionsRead, sheetSections}
+use Rattle.sheet.specs.Promises.{saidHowMany, countsIn}
+use Rattle.sheet.proofs.Reading.{Found, found, checked, all-to-check, stops-at, passes-at, bytes-after, nothing-after}
 use Rattle.sheet.proofs.check_sheet.Statement.{statement}
 use Rattle.sheet.proofs.check_sheet.Tie as tie
 
--- what is left of s from a on
-abbrev from : ℕ → List ℕ → List ℕ
-from a s = take (length s - a) (drop a s)
+abbrev Inv-loop : tie.InvT-loop
+Inv-loop s t₀ y₀ m₀ d₀ j₀ t y m d j =
+    (j ≤ 3) × (checked (drop j sheetSections) t y m d ≡ andThen (sectionsRead sheetSections s) (λ l. is (countsIn s)))
 
--- where each section is found good
-abbrev bytes : tie.After-y → List ℕ
-bytes c = c .before .before .before .before .args .s .now
+abbrev μ-loop : tie.MeasureT-loop
+μ-loop s t₀ y₀ m₀ d₀ j₀ t y m d j = 3 - j
 
-years : (c : tie.After-y) → Found (ranged yearItems) (bytes c) (bytes c) (c .y .given .0 .0)
-years c = found (ranged yearItems) _ _ _ refl (sym (c .before .before .check-section .ensures) ∙ ap saidHowMany (c .y .given .1))
+-- a section found good
+good : (c : tie.After-n Inv-loop μ-loop) →
+    let a = c .before .before .before in Found (ranged (a .section-at .result)) (a .before .before .loop .t .now) (a .before .before .loop .t .now) (c .n .given .0 .0)
+good c = found _ _ _ _ refl (sym (c .before .before .check-section .ensures) ∙ ap saidHowMany (c .n .given .1))
 
-abbrev at-months : tie.After-m → tie.After-y
-at-months c = c .before .before .before .before .before
-
-months : (c : tie.After-m) →
-    Found (ranged monthItems) (monthsPart (bytes (at-months c))) (from (2 + 2 * at-months c .y .given .0 .0) (bytes (at-months c))) (c .m .given .0 .0)
-months c =
-    found (ranged monthItems) _ _ _ (years (at-months c) .next) (sym (c .before .before .check-section2 .ensures) ∙ ap saidHowMany (c .m .given .1))
-
-abbrev at-days : tie.After-d → tie.After-m
-at-days c = c .before .before .before .before .before
-
-abbrev all-bytes : tie.After-d → List ℕ
-all-bytes c = bytes (at-months (at-days c))
-
-days : (c : tie.After-d) →
-    Found (ranged dayItems) (daysPart (all-bytes c))
-    (from (2 + 4 * at-days c .m .given .0 .0) (from (2 + 2 * at-months (at-days c) .y .given .0 .0) (all-bytes c))) (c .d .given .0 .0)
-days c =
-    found (ranged dayItems) _ _ _ (months (at-days c) .next) (sym (c .before .before .check-section3 .ensures) ∙ ap saidHowMany (c .d .given .1))
-
-all-passed : (c : tie.After-d) (z : Counted) →
-    andThen (sectionsRead sheetSections (all-bytes c)) (λ l. is z)
-    ≡ andThen (sectionsRead [] (leftAfter (ranged dayItems) (daysPart (all-bytes c)))) (λ l. is z)
-all-passed c z = years (at-months (at-days c)) .passes _ z ∙ months (at-days c) .passes _ z ∙ days c .passes _ z
+few : (c : tie.After-n Inv-loop μ-loop) → c .before .before .before .section-at .result .width * c .n .given .0 .0 ≤ 4000
+few c =
+    let k = c .before .before .before .section-at in
+    let n : c .n .given .0 .0 ≤ 1000 = omega (arith, good c .few, k .ensures .items) in
+    omega (arith, mul-le-mul (k .ensures .width) n)
 
 pub check-sheet-spec : {M : Type 1} → statement M
 check-sheet-spec =
     tie.close
     (tie.spec
+    Inv-loop
+    μ-loop
+    (λ c. (omega arith, all-to-check (c .before .args .s .now) 0 0 0))
     (λ c κs. search needs)
+    (λ c κs. c .section-at .ensures .width)
     (λ c. search needs)
-    (λ c. search needs)
-    (λ c. omega (arith, years (c .before) .few))
-    (λ c. omega (arith, years (c .before) .few))
-    (λ c. omega (arith, years (c .before) .long))
-    (λ c. omega (arith, years (c .before) .long))
-    (λ c. search needs)
-    (λ c κs. search needs)
-    (λ c. search needs)
-    (λ c. search needs)
-    (λ c. omega (arith, months (c .before) .few))
-    (λ c. omega (arith, months (c .before) .few))
-    (λ c. omega (arith, months (c .before) .long))
-    (λ c. omega (arith, months (c .before) .long))
-    (λ c. search needs)
-    (λ c κs. search needs)
-    (λ c. search needs)
-    (λ c. search needs)
-    (λ c. omega (arith, days (c .before) .few))
-    (λ c. omega (arith, days (c .before) .few))
-    (λ c. sym (all-passed (c .before .before) _ ∙ bytes-after _ _ (omega (arith, days (c .before .before) .left))))
     (λ c.
     let c3 = c .before .before .before in
-    sym (section-stops (ranged yearItems) _ _ _ _ (reasonNumber (c .before .r .given .0 .0)) refl (sym (c3 .check-section .ensures) ∙ ap saidHowMany (c .before .r .given .1))))
+    let c4 = c3 .before in
+    let c6 = c4 .before .before in
+    sym (stops-at _ _ _ (c4 .section-at .ensures .there) (c6 .loop .t .now) (c6 .loop .y) (c6 .loop .m) (c6 .loop .d) (reasonNumber (c .before .r .given .0 .0))
+    (sym (c3 .check-section .ensures) ∙ ap saidHowMany (c .before .r .given .1)))
+    ∙ c6 .loop .inv .1)
+    (λ c. search needs)
+    (λ c. omega (arith, few (c .before)))
+    (λ c. omega (arith, few (c .before)))
+    (λ c. omega (arith, good (c .before) .long))
+    (λ c. omega (arith, good (c .before) .long))
+    (λ c. search needs)
+    (λ c. omega arith)
+    (λ c. omega arith)
     (λ c.
-    let c3 = c .before .before .before in
-    let y = c .before .before .before .before .before .before in
-    sym (years y .passes _ _
-    ∙ section-stops (ranged monthItems) _ _ _ _ (reasonNumber (c .before .r2 .given .0 .0)) (years y .next) (sym (c3 .check-section2 .ensures) ∙ ap saidHowMany (c .before .r2 .given .1))))
+    let c4 = c .before .before .before .before in
+    let c5 = c4 .before in
+    let c7 = c5 .before .before in (
+      omega arith,
+      passes-at _ _ _ (c5 .section-at .ensures .there) (c7 .loop .t .now) (c7 .loop .y) (c7 .loop .m) (c7 .loop .d) (c .before .before .n .given .0 .0)
+          (sym (c4 .check-section .ensures) ∙ ap saidHowMany (c .before .before .n .given .1))
+          ∙ c7 .loop .inv .1,
+    ))
     (λ c.
-    let c3 = c .before .before .before in
-    let m = c .before .before .before .before .before .before in
-    sym (years (at-months m) .passes _ _
-    ∙ months m .passes _ _
-    ∙ section-stops (ranged dayItems) _ _ _ _ (reasonNumber (c .before .r3 .given .0 .0)) (months m .next) (sym (c3 .check-section3 .ensures) ∙ ap saidHowMany (c .before .r3 .given .1))))
+    let e : c .before .before .loop .j ≡ 3 = omega arith in
+    sym (bytes-after (drop (c .before .before .loop .j) sheetSections) (rw (e)) (c .before .before .loop .t .now) (c .before .before .loop .y) (c .before .before .loop .m) (c .before .before .loop .d) (omega arith)) ∙ c .before .before .loop .inv .1)
     (λ c.
-    let d = c .before .before in
-    ap is (three-counts _ _ _ _ (years (at-months (at-days d)) .count) (months (at-days d) .count) (days d .count))
-    ∙ sym (all-passed d _ ∙ nothing-after _ _ (omega (arith, days d .left)))))
+    let e : c .before .before .loop .j ≡ 3 = omega arith in
+    sym (nothing-after (drop (c .before .before .loop .j) sheetSections) (rw (e)) (c .before .before .loop .t .now) (c .before .before .loop .y) (c .before .before .loop .m) (c .before .before .loop .d) (omega arith)) ∙ c .before .before .loop .inv .1))
