@@ -21,23 +21,33 @@ store-none : (w m : ℕ) → m ≡ 0 → (t out : List ℕ) (i : ℕ) → sets o
 unfolding numbers
 store-none w m e t out i = rw (e)
 
--- a loop that lays the w bytes of a number at a place: before the first, the next, and after the last
-pub lay-start : (at w x : ℕ) (out : List ℕ) → sets out (at + 0) (lay (w - 0) x) ≡ sets out at (lay w x)
-lay-start at w x out =
+-- a loop that lays the w bytes of x at a place: i are laid, r is what is left of x
+pub record LayingBytes (w x : ℕ) (old : List ℕ) (at : ℕ) (out : List ℕ) (r i : ℕ) : Type 0 where
+  pub within : i ≤ w
+  pub same : length out ≡ length old
+  pub rest : sets out (at + i) (lay (w - i) r) ≡ sets old at (lay w x)
+
+pub no-byte : (w x : ℕ) (old : List ℕ) (at : ℕ) → LayingBytes w x old at old x 0
+no-byte w x old at =
     let e : at + 0 ≡ at = omega arith in
     let f : w - 0 ≡ w = omega arith in
-    rw (e, f)
+    record { within = omega arith; same = refl; rest = rw (e, f) }
 
-pub lay-turn : (at i w x : ℕ) (out : List ℕ) → i < w → sets (set out (at + i) (x % 256)) (at + (i + 1)) (lay (w - (i + 1)) (x / 256)) ≡ sets out (at + i) (lay (w - i) x)
-unfolding lay
-lay-turn at i w x out h =
-    let e : w - i ≡ suc (w - (i + 1)) = omega arith in
-    let f : at + (i + 1) ≡ suc (at + i) = omega arith in
-    rw (e, f)
+module _ {w x : ℕ} {old : List ℕ} {at : ℕ} {out : List ℕ} {r i : ℕ} (a : LayingBytes w x old at out r i) where
+  pub byte-laid : i < w → LayingBytes w x old at (set out (at + i) (r % 256)) (r / 256) (i + 1)
+  unfolding lay
+  byte-laid l =
+      let e : w - i ≡ suc (w - (i + 1)) = omega arith in
+      let f : at + (i + 1) ≡ suc (at + i) = omega arith in
+      record {
+        within = omega arith;
+        same = length-set out (at + i) (r % 256) ∙ a .same;
+        rest = rw (f) (rw (e) at (a .rest));
+      }
 
-pub lay-end : (p i w x : ℕ) (out : List ℕ) → w ≤ i → sets out p (lay (w - i) x) ≡ out
-unfolding lay
-lay-end p i w x out h = let e : w - i ≡ 0 = omega arith in rw (e)
+  pub bytes-laid : w ≤ i → out ≡ sets old at (lay w x)
+  unfolding lay
+  bytes-laid l = let e : w - i ≡ 0 = omega arith in rw (e) at (a .rest)
 
 pub length-layAll : (w : ℕ) (xs : List ℕ) → length (layAll w xs) ≡ w * length xs
 unfolding layAll

@@ -34,26 +34,39 @@ up-to-three (suc (suc zero)) h = omega arith
 up-to-three (suc (suc (suc zero))) h = omega arith
 up-to-three (suc (suc (suc (suc n)))) h = absurd (omega arith)
 
--- the byte before the number's own: what a turn of the loop adds
-module _ (w i x : ℕ) (s : List ℕ) (l : 0 < i) (h : i ≤ w) (b : getD s (i - 1) 0 < 256) where
-  one-less : w - (i - 1) ≡ suc (w - i)
-  one-less = omega arith
+-- a loop that reads the number in w bytes of s from its last byte: x is the number in those from i on
+pub record FromByte (w : ℕ) (s : List ℕ) (x i : ℕ) : Type 0 where
+  pub within : i ≤ w
+  pub value : x ≡ number (w - i) (drop i s)
+  pub low : x < 256 ^ (w - i)
 
-  pub turn : x ≡ number (w - i) (drop i s) → x * 256 + getD s (i - 1) 0 ≡ number (w - (i - 1)) (drop (i - 1) s)
-  turn e =
+pub none-read : (w : ℕ) (s : List ℕ) → FromByte w s 0 w
+unfolding number
+none-read w s =
+    let e : w - w ≡ 0 = omega arith in
+    record { within = omega arith; value = rw (e); low = rw (e) (omega arith) }
+
+module _ {w : ℕ} {s : List ℕ} {x i : ℕ} (a : FromByte w s x i) where
+  -- one byte more of at most four
+  pub room-for-byte : 0 < i → w ≤ 4 → x < 16777216
+  room-for-byte l h = omega (arith, a .low, up-to-three (w - i) (omega (arith, l, h)))
+
+  pub byte-read : 0 < i → getD s (i - 1) 0 < 256 → FromByte w s (x * 256 + getD s (i - 1) 0) (i - 1)
+  byte-read l b =
+      let h = a .within in
+      let v = a .value in
+      let q = a .low in
+      let e : w - (i - 1) ≡ suc (w - i) = omega arith in
       let g : i - 1 + 1 ≡ i = omega arith in
       let f : drop (i - 1 + 1) s ≡ drop i s = ap (λ (j : ℕ). drop j s) g in
-      rw (one-less, number-more (w - i) (i - 1) s, f, e) (omega arith)
+      record {
+        within = omega arith;
+        value = rw (e, number-more (w - i) (i - 1) s, f, v) (omega arith);
+        low = rw (e, pow-suc 256 (w - i)) (omega arith);
+      }
 
-  pub turn-low : x < 256 ^ (w - i) → x * 256 + getD s (i - 1) 0 < 256 ^ (w - (i - 1))
-  turn-low e = rw (one-less, pow-suc 256 (w - i)) (omega arith)
-
--- before the first byte, and after the last
-pub none-read : (w : ℕ) (s : List ℕ) → (0 ≡ number (w - w) (drop w s)) × (0 < 256 ^ (w - w))
-unfolding number
-none-read w s = let e : w - w ≡ 0 = omega arith in (rw (e), rw (e) (omega arith))
-
-pub all-read : (w i x : ℕ) (s : List ℕ) → i ≤ 0 → x ≡ number (w - i) (drop i s) → x < 256 ^ (w - i) → (x ≡ number w s) × (x < 256 ^ w)
-all-read w i x s h p q =
-    let e : i ≡ 0 = omega arith in
-    let f : w - i ≡ w = omega arith in (rw (f, e) at p, rw (f) at q)
+  pub all-read : i ≤ 0 → (x ≡ number w s) × (x < 256 ^ w)
+  all-read h =
+      let e : i ≡ 0 = omega arith in
+      let f : w - i ≡ w = omega arith in
+      (rw (f, e) at (a .value), rw (f) at (a .low))

@@ -41,12 +41,13 @@ check-sheet-spec =
     (λ c κs. c .section-at .ensures .width)
     (λ c. search needs)
     (λ c.
-    let c3 = c .before .before .before in
-    let c4 = c3 .before in
-    let c6 = c4 .before .before in
-    sym (stops-at _ _ _ (c4 .section-at .ensures .there) (c6 .loop .t .now) (c6 .loop .y) (c6 .loop .m) (c6 .loop .d) (reasonNumber (c .before .r .given .0 .0))
-    (sym (c3 .check-section .ensures) ∙ ap saidHowMany (c .before .r .given .1)))
-    ∙ c6 .loop .inv .1)
+      let c3 = c .before .before .before in
+      let c4 = c3 .before in
+      let c6 = c4 .before .before in
+      let loop = c6 .loop in
+      sym (stops-at _ _ _ (c4 .section-at .ensures .there) (loop .t .now) (loop .y) (loop .m) (loop .d) (reasonNumber (c .before .r .given .0 .0))
+      (sym (c3 .check-section .ensures) ∙ ap saidHowMany (c .before .r .given .1)))
+      ∙ loop .inv .1)
     (λ c. search needs)
     (λ c. omega (arith, few (c .before)))
     (λ c. omega (arith, few (c .before)))
@@ -56,17 +57,21 @@ check-sheet-spec =
     (λ c. omega arith)
     (λ c. omega arith)
     (λ c.
-    let c4 = c .before .before .before .before in
-    let c5 = c4 .before in
-    let c7 = c5 .before .before in (
+      let c4 = c .before .before .before .before in
+      let c5 = c4 .before in
+      let c7 = c5 .before .before in
+      let loop = c7 .loop in
+      (
       omega arith,
-      passes-at _ _ _ (c5 .section-at .ensures .there) (c7 .loop .t .now) (c7 .loop .y) (c7 .loop .m) (c7 .loop .d) (c .before .before .n .given .0 .0)
-          (sym (c4 .check-section .ensures) ∙ ap saidHowMany (c .before .before .n .given .1))
-          ∙ c7 .loop .inv .1,
-    ))
+      passes-at _ _ _ (c5 .section-at .ensures .there) (loop .t .now) (loop .y) (loop .m) (loop .d) (c .before .before .n .given .0 .0)
+      (sym (c4 .check-section .ensures) ∙ ap saidHowMany (c .before .before .n .given .1))
+      ∙ loop .inv .1,
+      ))
     (λ c.
-    let e : c .before .before .loop .j ≡ 3 = omega arith in
-    sym (bytes-after (drop (c .before .before .loop .j) sheetSections) (rw (e)) (c .before .before .loop .t .now) (c .before .before .loop .y) (c .before .before .loop .m) (c .before .before .loop .d) (omega arith)) ∙ c .before .before .loop .inv .1)
+      let loop = c .before .before .loop in
+      let e : loop .j ≡ 3 = omega arith in
+      sym (bytes-after (drop (loop .j) sheetSections) (rw (e)) (loop .t .now) (loop .y) (loop .m) (loop .d) (omega arith)) ∙ loop .inv .1)
     (λ c.
-    let e : c .before .before .loop .j ≡ 3 = omega arith in
-    sym (nothing-after (drop (c .before .before .loop .j) sheetSections) (rw (e)) (c .before .before .loop .t .now) (c .before .before .loop .y) (c .before .before .loop .m) (c .before .before .loop .d) (omega arith)) ∙ c .before .before .loop .inv .1))
+      let loop = c .before .before .loop in
+      let e : loop .j ≡ 3 = omega arith in
+      sym (nothing-after (drop (loop .j) sheetSections) (rw (e)) (loop .t .now) (loop .y) (loop .m) (loop .d) (omega arith)) ∙ loop .inv .1))

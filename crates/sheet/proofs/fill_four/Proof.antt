@@ -23,15 +23,24 @@ fill-four-spec =
     (λ c. omega arith)
     (λ c. omega arith)
     (λ c. search needs)
-    (λ c. storing-none 4 (drop 2 (c .before .before .before .args .s .now)) (c .before .before .before .args .out .now) (c .before .before .before .args .n) _ (part-all 2 (c .before .before .before .args .s .now)) (omega (arith, length-drop 2 (c .before .before .before .args .s .now))))
+    (λ c.
+      let c3 = c .before .before .before in
+      let args = c3 .args in
+      let s = args .s .now in
+      storing-none 4 (drop 2 s) (args .out .now) (args .n) _ (part-all 2 s) (omega (arith, length-drop 2 s)))
     (λ c κs. (omega arith, storing-item (c .before .loop .inv) (omega arith)))
-    (λ c. omega (arith, c .before .before .loop .inv .within, c .before .before .loop .inv .same))
+    (λ c.
+      let loop = c .before .before .loop in
+      omega (arith, loop .inv .within, loop .inv .same))
     (λ c. omega (arith, c .before .before .loop .inv .same))
     (λ c. omega (arith, storing-item (c .before .before .loop .inv) (omega arith)))
     (λ c. omega (arith, storing-item (c .before .before .loop .inv) (omega arith)))
     (λ c. search needs)
     (λ c. omega arith)
     (λ c. omega arith)
-    (λ c. storing-next (c .before .before .before .loop .inv) (omega arith) (c .before .number-in .result) (c .before .number-in .ensures .0))
+    (λ c.
+      let c3 = c .before .before .before in
+      let number = c .before .number-in in
+      storing-next (c3 .loop .inv) (omega arith) (number .result) (number .ensures .0))
     (λ c. c .before .loop .inv .same)
     (λ c. storing-done (c .before .loop .inv) (c .loop-test .left)))
