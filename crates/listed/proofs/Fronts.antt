@@ -13,7 +13,7 @@ use borrow.Author.Tests.{leb-true, le-leb, lt-leb}
 use Rattle.rule.specs.Reasons.{Answer, is, andThen}
 use Rattle.sheet.specs.Sheet.{Section, itemRead, itemsRead, countOf, countRead, sectionRead, leftAfter, ListsFor, sectionsRead}
 use Rattle.sheet.specs.Faults.{GoodSection, SectionFault}
-use Rattle.sheet.proofs.Numbers.{number-append}
+use Rattle.bytes.proofs.Numbers.{number-append}
 use Rattle.sheet.proofs.Reading.{section-decided, left-append}
 
 module _ (k : Section) where

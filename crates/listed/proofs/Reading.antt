@@ -31,7 +31,8 @@ module _ {s y m d y′ m′ d′ : List ℕ} {r : SheetCounts} (p : ReadSheet s 
   pub read : (l : Lists) × (readInto s (length y) (length m) (length d) ≡ is l) × (c ≡ counted l)
   read = made-of (readInto s (length y) (length m) (length d)) counted c (ap saidCounts (sym e) ∙ p .answer)
 
-  stands : (part : Lists → List ℕ) (old new : List ℕ) → new ≡ afterwards (readInto s (length y) (length m) (length d)) part old → new ≡ placed (part (read .0)) old
+  stands : (part : Lists → List ℕ) (old new : List ℕ) → new ≡ afterwards (readInto s (length y) (length m) (length d)) part old →
+      new ≡ placed (part (read .0)) old
   stands part old new e = e ∙ ap (λ (a : Answer Lists). afterwards a part old) (read .1)
 
   is-good : GoodSheet s (length y) (length m) (length d) × (listsIn s ≡ read .0)
@@ -68,7 +69,8 @@ module _ {s y m d y′ m′ d′ : List ℕ} {r : SheetCounts} (p : ReadSheet s 
   all-good = subst GoodLists (is-good .1) (good-lists s (is-good .0 .0))
 
 -- a sheet that came back from lists of 1,000 places comes back for its own fault: such lists are never too short
-module _ {s y m d y′ m′ d′ : List ℕ} {a : SheetCounts} (p : ReadSheet s y m d a y′ m′ d′) {r : Reason} (e : a ≡ Counts'.Refused r) (hy : 1000 ≤ length y) (hm : 1000 ≤ length m) (hd : 1000 ≤ length d) where
+module _ {s y m d y′ m′ d′ : List ℕ} {a : SheetCounts} (p : ReadSheet s y m d a y′ m′ d′) {r : Reason} (e : a ≡ Counts'.Refused r)
+    (hy : 1000 ≤ length y) (hm : 1000 ≤ length m) (hd : 1000 ≤ length d) where
   own-fault : SheetFault s (length y) (length m) (length d) (reasonNumber r) → readSheet s ≡ refused (reasonNumber r)
   unfolding GoodEach
   own-fault (here f) = sheet-decided s .told (reasonNumber r) f

@@ -1,8 +1,7 @@
--- Laws of numbers in bytes, of what decides an answer, of reading, filling and writing.
-pub mod Numbers
+-- Laws of what decides an answer, of reading, laying and writing.
 pub mod Deciding
 pub mod Reading
-pub mod Filling
+pub mod Laying
 pub mod Writing
 pub mod Sheets
 pub mod Places

@@ -13,7 +13,7 @@ use Rattle.sheet.specs.declared.SheetCounts.{SheetCounts}
 use Rattle.sheet.specs.declared.SheetCounts.the-variants as Counts'
 use Rattle.sheet.specs.declared.HowMany.{HowMany}
 use Rattle.sheet.specs.declared.HowMany.the-variants as HowMany'
-use Rattle.sheet.specs.Sheet.{number, numbers}
+use Rattle.bytes.specs.Bytes.{number, numbers}
 use Rattle.sheet.specs.Promises.{saidCounts, saidHowMany, RestKept}
 
 -- two lists that differ at a place

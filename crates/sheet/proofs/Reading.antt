@@ -12,12 +12,11 @@ use lib.ListN.{length, take, drop, length-drop}
 use lib.Seq.{drop-append-le}
 use borrow.Author.Tests.{le-leb, lt-leb}
 use Rattle.rule.specs.Reasons.{Answer, is, refused, guard, andThen}
-use Rattle.rule.proofs.Answers.{both-true, at-most, passes}
+use Rattle.rule.proofs.Answers.{both-true, at-most}
 use Rattle.rule.proofs.Stores.{part-all}
 use Rattle.sheet.specs.declared.Counted.{Counted}
+use Rattle.bytes.specs.Bytes.{number, numbers}
 use Rattle.sheet.specs.Sheet.{
-  number,
-  numbers,
   Section,
   itemRead,
   itemsRead,
@@ -29,8 +28,6 @@ use Rattle.sheet.specs.Sheet.{
   listsOf,
   sectionsRead,
   sheetSections,
-  monthsPart,
-  daysPart,
   Lists,
   named,
   listsIn,
@@ -38,9 +35,22 @@ use Rattle.sheet.specs.Sheet.{
   room,
   readInto,
 }
-use Rattle.sheet.specs.Faults.{GoodItem, ItemFault, GoodItems, ItemsFault, GoodCount, CountFault, GoodSection, SectionFault, GoodSections, SectionsFault, GoodSheet, SheetFault}
+use Rattle.sheet.specs.Faults.{
+  GoodItem,
+  ItemFault,
+  GoodItems,
+  ItemsFault,
+  GoodCount,
+  CountFault,
+  GoodSection,
+  SectionFault,
+  GoodSections,
+  SectionsFault,
+  GoodSheet,
+  SheetFault,
+}
 use Rattle.sheet.specs.Promises.{countsAre, countsIn}
-use Rattle.sheet.proofs.Numbers.{number-append}
+use Rattle.bytes.proofs.Numbers.{number-append}
 use Rattle.sheet.proofs.Deciding.{
   Decides,
   asks-nothing,
@@ -181,26 +191,26 @@ found k s t n e h =
     found-good k s t n e (a .1) (a .0)
 
 -- the counts of a sheet, of which three are known and more are to come from the sections of t: each new one moves those before it
-unfoldable pub countsFrom : List Section → List ℕ → ℕ → ℕ → ℕ → Counted
+unfoldable countsFrom : List Section → List ℕ → ℕ → ℕ → ℕ → Counted
 countsFrom [] t y m d = countsAre y m d
 countsFrom (k ∷ ks) t y m d = countsFrom ks (leftAfter k t) m d (countOf t)
 
 -- what the sections ks of t come to, y, m and d being the last counts before them
-abbrev pub checked : List Section → List ℕ → ℕ → ℕ → ℕ → Answer Counted
+pub checked : List Section → List ℕ → ℕ → ℕ → ℕ → Answer Counted
 checked ks t y m d = andThen (sectionsRead ks t) (λ l. is (countsFrom ks t y m d))
 
 pub all-to-check : (s : List ℕ) (y m d : ℕ) → checked sheetSections s y m d ≡ andThen (sectionsRead sheetSections s) (λ l. is (countsIn s))
-unfolding countsFrom
+unfolding checked countsFrom
 all-to-check s y m d = refl
 
 module _ (k : Section) (ks all : List Section) (e : all ≡ k ∷ ks) (t : List ℕ) (y m d : ℕ) where
   pub stops-at : (r : ℕ) → andThen (sectionRead k t) (λ xs. is (countOf t)) ≡ refused r → checked all t y m d ≡ refused r
-  unfolding sectionsRead
+  unfolding checked sectionsRead
   stops-at r h = rw (e) (stops-there (sectionRead k t) (sectionsRead ks (leftAfter k t)) (λ xs l. (xs, l)) (countOf t) _ r h)
 
   pub passes-at : (n : ℕ) → andThen (sectionRead k t) (λ xs. is (countOf t)) ≡ is n →
       checked ks (take (length t - (2 + k .width * n)) (drop (2 + k .width * n) t)) m d n ≡ checked all t y m d
-  unfolding sectionsRead countsFrom
+  unfolding checked sectionsRead countsFrom
   passes-at n h =
       let f = found k t t n refl h in
       rw (e, f .next, ← f .count)
@@ -209,9 +219,9 @@ module _ (k : Section) (ks all : List Section) (e : all ≡ k ∷ ks) (t : List 
 -- the end: 11 for bytes after the last section
 module _ (all : List Section) (e : all ≡ []) (t : List ℕ) (y m d : ℕ) where
   pub bytes-after : 0 < length t → checked all t y m d ≡ refused 11
-  unfolding sectionsRead
+  unfolding checked sectionsRead
   bytes-after h = rw (e, lt-leb (length t) 0 h)
 
   pub nothing-after : length t ≤ 0 → checked all t y m d ≡ is (countsAre y m d)
-  unfolding sectionsRead countsFrom
+  unfolding checked sectionsRead countsFrom
   nothing-after h = rw (e, le-leb (length t) 0 h)

@@ -16,8 +16,8 @@ use Rattle.rule.proofs.Stores.{from-front}
 use Rattle.sheet.specs.declared.Counted.{Counted}
 use Rattle.sheet.specs.declared.SheetCounts.the-variants as Counts'
 use Rattle.sheet.specs.declared.HowMany.the-variants as HowMany'
+use Rattle.bytes.specs.Bytes.{numbers}
 use Rattle.sheet.specs.Sheet.{
-  numbers,
   Section,
   countOf,
   leftAfter,
@@ -55,7 +55,7 @@ use Rattle.sheet.specs.Promises.{counted, countsIn, ReadSheet, WriteShee
 use Rattle.sheet.specs.Steps.{ToFill, Filled, ToLay}
 use Rattle.sheet.proofs.Deciding.{made-into, if-given, if-refused}
 use Rattle.sheet.proofs.Reading.{sections-decided, room-iff, into-decided, Found, found-good}
-use Rattle.sheet.proofs.Filling.{length-sheet}
+use Rattle.sheet.proofs.Laying.{length-sheet}
 use Rattle.sheet.proofs.Writing.{lists-decided, buffer-decided}
 
 pub length-numbers : (w n : ℕ) (s : List ℕ) → length (numbers w n s) ≡ n
@@ -110,7 +110,8 @@ module _ {s : List ℕ} {y m d : ℕ} {c : Counted} (a : ToFill s y m d c) where
   room-to-fill = let e : c ≡ counted (listsIn s) = a .counts ∙ sym (counted-lists s) in rw (e) (a .good .1)
 
 -- what is read, and what is refused
-pub read-refused : (s y m d : List ℕ) (r : Reason) → readInto s (length y) (length m) (length d) ≡ refused (reasonNumber r) → ReadSheet s y m d (Counts'.Refused r) y m d
+pub read-refused : (s y m d : List ℕ) (r : Reason) → readInto s (length y) (length m) (length d) ≡ refused (reasonNumber r) →
+    ReadSheet s y m d (Counts'.Refused r) y m d
 read-refused s y m d r h = record { answer = rw (h); years = rw (h); months = rw (h); days = rw (h) }
 
 pub read-given : (s y m d : List ℕ) (l : Lists) (c : Counted) → c ≡ counted l → readInto s (length y) (length m) (length d) ≡ is l →
@@ -127,7 +128,8 @@ module _ (s y m d : List ℕ) where
       into-decided s (length y) (length m) (length d) .told r
       (here (if-refused (made-into (sections-decided sheetSections s) (λ l. countsIn s)) r h))
 
-  module _ (c : Counted) (h : andThen (sectionsRead sheetSections s) (λ l. is (countsIn s)) ≡ is c) (b : Bool) (e : b ≡ fits c (length y) (length m) (length d)) where
+  module _ (c : Counted) (h : andThen (sectionsRead sheetSections s) (λ l. is (countsIn s)) ≡ is c) (b : Bool)
+      (e : b ≡ fits c (length y) (length m) (length d)) where
     found-all : GoodSections sheetSections s × (countsIn s ≡ c)
     found-all = if-given (made-into (sections-decided sheetSections s) (λ l. countsIn s)) c h
 
@@ -157,7 +159,8 @@ module _ (s y m d : List ℕ) where
         (read-given s y m d l c counts (into-decided s (length y) (length m) (length d) .given g))
 
 -- what is written, and what is refused
-pub write-refused : (y m d o : List ℕ) (r : Reason) → writeInto (threeLists y m d) (length o) ≡ refused (reasonNumber r) → WriteSheet y m d o (HowMany'.Refused r) o
+pub write-refused : (y m d o : List ℕ) (r : Reason) → writeInto (threeLists y m d) (length o) ≡ refused (reasonNumber r) →
+    WriteSheet y m d o (HowMany'.Refused r) o
 write-refused y m d o r h = record { answer = rw (h); buffer = rw (h) }
 
 pub write-given : (y m d o b : List ℕ) → writeInto (threeLists y m d) (length o) ≡ is b → WriteSheet y m d o (HowMany'.Is (length b)) (placed b o)

@@ -12,10 +12,9 @@ use lib.Seq.{drop-cons}
 use borrow.Author.Tests.{le-leb, lt-leb}
 use Rattle.rule.specs.Reasons.{is, refused, andThen, intoRoom}
 use Rattle.rule.proofs.Answers.{at-most}
+use Rattle.bytes.specs.Bytes.{lay, layAll}
 use Rattle.sheet.specs.Sheet.{
   Section,
-  lay,
-  layAll,
   ListsFor,
   itemsWritten,
   sectionWritten,

@@ -5,18 +5,8 @@ use mathlib.Core.Path.{_≡_}
 use mathlib.Core.Bool.{true}
 use mathlib.Core.List.{List, [], _∷_}
 use lib.ListN.{length, drop}
-use Rattle.sheet.specs.Sheet.{
-  Section,
-  number,
-  countOf,
-  leftAfter,
-  ListsFor,
-  sheetSections,
-  Lists,
-  inOrder,
-  listsIn,
-  sheetOf,
-}
+use Rattle.bytes.specs.Bytes.{number}
+use Rattle.sheet.specs.Sheet.{Section, countOf, leftAfter, ListsFor, sheetSections, Lists, inOrder, listsIn, sheetOf}
 
 -- a row of the paper's table: what it asks for, P, does not hold, and the reason r is its number k
 pub record Row (P : Type 0) (k r : ℕ) : Type 0 where

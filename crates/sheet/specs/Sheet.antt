@@ -1,31 +1,14 @@
 -- "The sheet": its bytes, what reading it answers for every list of bytes, and what writing answers; refusals in the paper's order.
 -- All but the last part is over any list of sections. Assumes nothing.
-use Prim.Native.Nat.{ℕ, zero, suc, _+_, _*_, _/_, _%_}
+use Prim.Native.Nat.{ℕ, zero, suc, _+_, _*_}
 use mathlib.Core.Bool.{Bool, _&&_}
 use mathlib.Core.List.{List, [], _∷_, _++_}
 use lib.Dec.{leb}
-use lib.ListN.{length, getD, drop}
+use lib.ListN.{length, drop}
 use Rattle.rule.specs.Reasons.{Answer, is, guard, andThen, within, reasonNumber, intoRoom}
 use Rattle.rule.specs.declared.Reason.the-variants.{NoSuchYear, NoSuchMonth, NoSuchDay}
+use Rattle.bytes.specs.Bytes.{number, numbers, lay, layAll}
 use Rattle.sheet.specs.declared.Items.{Items}
-
--- "Numbers are least byte first": the number in the first w bytes, and the w bytes of a number
-unfoldable pub number : ℕ → List ℕ → ℕ
-number zero s = 0
-number (suc w) s = getD s 0 0 + 256 * number w (drop 1 s)
-
-unfoldable pub lay : ℕ → ℕ → List ℕ
-lay zero x = []
-lay (suc w) x = (x % 256) ∷ lay w (x / 256)
-
--- the first n numbers of w bytes each, and the bytes of a list of numbers
-unfoldable pub numbers : ℕ → ℕ → List ℕ → List ℕ
-numbers w zero s = []
-numbers w (suc n) s = number w s ∷ numbers w n (drop w s)
-
-unfoldable pub layAll : ℕ → List ℕ → List ℕ
-layAll w [] = []
-layAll w (x ∷ xs) = lay w x ++ layAll w xs
 
 -- a section of a sheet: the bytes of an item, the most items, whether an item's number is good, and the reason where it is not
 pub record Section : Type 0 where

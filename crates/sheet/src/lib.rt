@@ -1,16 +1,12 @@
 // The sheet: three sections of years, months and days, read into three lent lists and written into a lent buffer.
 ghost use mathlib.Core.Path.{_≡_};
-ghost use Prim.Native.Nat.{_+_, _*_, _^_, _≤_, _<_};
+ghost use Prim.Native.Nat.{_≤_, _<_};
 ghost use mathlib.Core.Bool.{_&&_};
 ghost use lib.Dec.{leb};
-ghost use lib.ListN.{length, drop};
+ghost use lib.ListN.{length};
 ghost use lib.Seq.{sets};
 ghost use Rattle.rule.specs.Reasons.{is, andThen, within};
 ghost use Rattle.sheet.specs.Sheet.{
-  number,
-  numbers,
-  lay,
-  layAll,
   ranged,
   countOf,
   itemsRead,
@@ -79,20 +75,6 @@ const DAYS: Items = Items {
     items: 1000,
 };
 
-// The number in the first bytes, least byte first.
-fn number_in(s: &[u8], width: usize) -> u32
-    requires { ⌜ (width ≤ 4) × (width ≤ length (now s)) ⌝ }
-    ensures { λ r. ⌜ (r ≡ number width (now (s .entry))) × (r < 256 ^ width) ⌝ }
-{
-    let mut x: u32 = 0;
-    let mut i = width;
-    while 0 < i {
-        i -= 1;
-        x = x * 256 + s[i] as u32;
-    }
-    x
-}
-
 // Are so many bytes left?
 fn is_whole(s: &[u8], width: usize) -> bool
     ensures { λ r. ⌜ r ≡ leb width (length (now (s .entry))) ⌝ }
@@ -114,7 +96,7 @@ fn count_at(s: &[u8], k: Items) -> HowMany
     if !is_whole(s, 2) {
         return HowMany::Refused(Reason::SheetEndsEarly);
     }
-    let n = number_in(s, 2) as usize;
+    let n = bytes::number_in(s, 2) as usize;
     if k.items < n {
         return HowMany::Refused(Reason::CountTooLarge);
     }
@@ -134,7 +116,7 @@ fn check_items(s: &[u8], k: Items, n: usize) -> HowMany
         if !is_whole(t, width) {
             return HowMany::Refused(Reason::SheetEndsEarly);
         }
-        if !is_in_section(k, number_in(t, width)) {
+        if !is_in_section(k, bytes::number_in(t, width)) {
             return HowMany::Refused(reason);
         }
         t = &t[width..];
@@ -203,34 +185,6 @@ fn check_sheet(s: &[u8]) -> SheetCounts
     })
 }
 
-// The items of the section at the front of what is left, put into a lent list: numbers of 2 bytes.
-fn fill_two(s: &[u8], out: &mut [u16], n: usize)
-    requires { ⌜ (2 + 2 * n ≤ length (now s)) × (n ≤ length (now out)) ⌝ }
-    ensures { λ r. ⌜ now (out .exit) ≡ sets (now (out .entry)) 0 (numbers 2 n (drop 2 (now (s .entry)))) ⌝ }
-{
-    let mut t = &s[2..];
-    let mut i = 0;
-    while i < n {
-        out[i] = number_in(t, 2) as u16;
-        t = &t[2..];
-        i += 1;
-    }
-}
-
-// The same with numbers of 4 bytes.
-fn fill_four(s: &[u8], out: &mut [u32], n: usize)
-    requires { ⌜ (2 + 4 * n ≤ length (now s)) × (n ≤ length (now out)) ⌝ }
-    ensures { λ r. ⌜ now (out .exit) ≡ sets (now (out .entry)) 0 (numbers 4 n (drop 2 (now (s .entry)))) ⌝ }
-{
-    let mut t = &s[2..];
-    let mut i = 0;
-    while i < n {
-        out[i] = number_in(t, 4);
-        t = &t[4..];
-        i += 1;
-    }
-}
-
 // The items of a sheet that is good, put into three lists with room for them.
 fn fill_sheet(s: &[u8], years: &mut [u16], months: &mut [u32], days: &mut [u32], c: Counted)
     requires { ⌜ ToFill (now s) (length (now years)) (length (now months)) (length (now days)) c ⌝ }
@@ -240,11 +194,11 @@ fn fill_sheet(s: &[u8], years: &mut [u16], months: &mut [u32], days: &mut [u32],
     let y = c.years;
     let m = c.months;
     let d = c.days;
-    fill_two(s, years, y);
+    bytes::fill_two(s, years, y);
     let t = &s[2 + 2 * y..];
-    fill_four(t, months, m);
+    bytes::fill_four(t, months, m);
     let u = &t[2 + 4 * m..];
-    fill_four(u, days, d);
+    bytes::fill_four(u, days, d);
 }
 
 // Have three lent lists of these lengths room for so many?
@@ -332,44 +286,6 @@ fn size_of_sheet(years: &[u16], months: &[u32], days: &[u32]) -> HowMany
     }
 }
 
-// The bytes of a number, least byte first.
-fn lay_number(out: &mut [u8], at: usize, width: usize, x: u32)
-    requires { ⌜ at + width ≤ length (now out) ⌝ }
-    ensures { λ r. ⌜ now (out .exit) ≡ sets (now (out .entry)) at (lay width x) ⌝ }
-{
-    let mut rest = x;
-    let mut i = 0;
-    while i < width {
-        out[at + i] = (rest % 256) as u8;
-        rest = rest / 256;
-        i += 1;
-    }
-}
-
-// The bytes of numbers that take 2 each.
-fn lay_two(out: &mut [u8], at: usize, xs: &[u16])
-    requires { ⌜ at + 2 * length (now xs) ≤ length (now out) ⌝ }
-    ensures { λ r. ⌜ now (out .exit) ≡ sets (now (out .entry)) at (layAll 2 (now (xs .entry))) ⌝ }
-{
-    let mut i = 0;
-    while i < xs.len() {
-        lay_number(out, at + 2 * i, 2, xs[i] as u32);
-        i += 1;
-    }
-}
-
-// The bytes of numbers that take 4 each.
-fn lay_four(out: &mut [u8], at: usize, xs: &[u32])
-    requires { ⌜ at + 4 * length (now xs) ≤ length (now out) ⌝ }
-    ensures { λ r. ⌜ now (out .exit) ≡ sets (now (out .entry)) at (layAll 4 (now (xs .entry))) ⌝ }
-{
-    let mut i = 0;
-    while i < xs.len() {
-        lay_number(out, at + 4 * i, 4, xs[i]);
-        i += 1;
-    }
-}
-
 // The bytes of three lists that are good, in a buffer with room for them.
 fn lay_sheet(years: &[u16], months: &[u32], days: &[u32], out: &mut [u8])
     requires { ⌜ ToLay (length (now years)) (length (now months)) (length (now days)) (length (now out)) ⌝ }
@@ -378,12 +294,12 @@ fn lay_sheet(years: &[u16], months: &[u32], days: &[u32], out: &mut [u8])
 {
     let m = 2 + 2 * years.len();
     let d = m + (2 + 4 * months.len());
-    lay_number(out, 0, 2, years.len() as u32);
-    lay_two(out, 2, years);
-    lay_number(out, m, 2, months.len() as u32);
-    lay_four(out, m + 2, months);
-    lay_number(out, d, 2, days.len() as u32);
-    lay_four(out, d + 2, days);
+    bytes::lay_number(out, 0, 2, years.len() as u32);
+    bytes::lay_two(out, 2, years);
+    bytes::lay_number(out, m, 2, months.len() as u32);
+    bytes::lay_four(out, m + 2, months);
+    bytes::lay_number(out, d, 2, days.len() as u32);
+    bytes::lay_four(out, d + 2, days);
 }
 
 // Writes three lists into a lent buffer. Nothing is written before the lists and the buffer are known to be good.

@@ -7,7 +7,8 @@ use mathlib.Core.Logic.{_⊎_, inl, inr, ⊎-elim}
 use mathlib.Core.List.{List, [], _∷_, _++_}
 use lib.ListN.{length, drop, length-append}
 use lib.Seq.{drop-append-le}
-use Rattle.sheet.specs.Sheet.{number, Section, countOf, leftAfter}
+use Rattle.bytes.specs.Bytes.{number}
+use Rattle.sheet.specs.Sheet.{Section, countOf, leftAfter}
 use Rattle.sheet.specs.Faults.{
   here,
   later,
@@ -19,7 +20,7 @@ use Rattle.sheet.specs.Faults.{
   GoodSections,
   SectionsFault,
 }
-use Rattle.sheet.proofs.Numbers.{number-append}
+use Rattle.bytes.proofs.Numbers.{number-append}
 use Rattle.sheet.proofs.Reading.{left-append}
 
 module _ (k : Section) where

@@ -6,13 +6,15 @@ use mathlib.Core.Path.{_≡_, ap, sym, _∙_}
 use mathlib.Core.List.{List, [], _∷_, _++_, append-assoc}
 use lib.ListN.{length, getD, take, drop}
 use lib.Seq.{take-at, drop-at, drop-drop}
-use Rattle.sheet.specs.Sheet.{number, lay, layAll, Section, countOf, itemsOf, laySection}
-use Rattle.sheet.proofs.Numbers.{length-lay}
+use Rattle.bytes.specs.Bytes.{number, lay, layAll}
+use Rattle.sheet.specs.Sheet.{Section, countOf, itemsOf, laySection}
+use Rattle.bytes.proofs.Numbers.{length-lay}
 use Rattle.sheet.proofs.Places.{InFront, item-in-front, number-at}
 use Rattle.stated.specs.Paper.{StandsAt, LaidAt}
 
 -- a section that is read from a place on into a lent list
-pub stands-at : (k : Section) (s t old new : List ℕ) (from n : ℕ) → t ≡ drop from s → n ≡ countOf t → InFront n (itemsOf k t) old new → StandsAt s from (k .width) n new
+pub stands-at : (k : Section) (s t old new : List ℕ) (from n : ℕ) → t ≡ drop from s → n ≡ countOf t → InFront n (itemsOf k t) old new →
+    StandsAt s from (k .width) n new
 unfolding itemsOf
 stands-at k s t old new from n e c a =
     record {
@@ -35,7 +37,12 @@ all-laid-at w [] t j h = absurd (omega arith)
 all-laid-at w (x ∷ xs) t zero h = rw (mul-zero w, append-assoc (lay w x) (layAll w xs) t) (take-at (lay w x) (layAll w xs ++ t) w (length-lay w x))
 all-laid-at w (x ∷ xs) t (suc j) h =
     let e : w * suc j ≡ w + w * j = omega (arith, mul-suc w j) in
-    rw (e, ← drop-drop (w * j) w ((lay w x ++ layAll w xs) ++ t), append-assoc (lay w x) (layAll w xs) t, drop-at (lay w x) (layAll w xs ++ t) w (length-lay w x))
+    rw (
+      e,
+      ← drop-drop (w * j) w ((lay w x ++ layAll w xs) ++ t),
+      append-assoc (lay w x) (layAll w xs) t,
+      drop-at (lay w x) (layAll w xs ++ t) w (length-lay w x),
+    )
     (all-laid-at w xs t j (omega arith))
 
 -- a section that is laid from a place on

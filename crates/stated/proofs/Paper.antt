@@ -13,9 +13,8 @@ use Rattle.rule.proofs.Answers.{within-true}
 use Rattle.sheet.specs.declared.Counted.{Counted}
 use Rattle.sheet.specs.declared.SheetCounts.the-variants as Counts'
 use Rattle.sheet.specs.declared.HowMany.the-variants as HowMany'
+use Rattle.bytes.specs.Bytes.{number, lay}
 use Rattle.sheet.specs.Sheet.{
-  number,
-  lay,
   Section,
   ranged,
   yearItems,
@@ -45,7 +44,7 @@ use Rattle.sheet.specs.Promises.{counted, countsAre, countsIn, ReadSheet, Write
 use Rattle.sheet.proofs.Deciding.{if-given, reason-iff, made-of, refused-of}
 use Rattle.sheet.proofs.Reading.{reading, section-long, sheet-decided, into-decided}
 use Rattle.sheet.proofs.Writing.{writing, buffer-decided}
-use Rattle.sheet.proofs.Filling.{length-section, length-sheet}
+use Rattle.sheet.proofs.Laying.{length-section, length-sheet}
 use Rattle.sheet.proofs.Sheets.{lists-read, counted-lists, read-refused, read-given, write-refused, write-given}
 use Rattle.sheet.proofs.Places.{unlike, InFront, rest-kept, front, counts-once, how-many-once}
 use Rattle.stated.specs.Paper as Paper
@@ -243,7 +242,10 @@ lists-same a b y m d =
 
 is-read : (l : Lists) (s : List ℕ) → IsSheetOf l s → GoodSections sheetSections s × (listsIn s ≡ l)
 is-read l s h =
-    let r = read-as s (l .years) (l .months) (l .days) _ _ _ (counted l) (h .reads (l .years) (l .months) (l .days) (omega arith) (omega arith) (omega arith)) in
+    let r =
+    read-as s (l .years) (l .months) (l .days) _ _ _ (counted l)
+    (h .reads (l .years) (l .months) (l .days) (omega arith) (omega arith) (omega arith))
+    in
     (r .good .0, lists-same (listsIn s) l (same (l .years) (r .years)) (same (l .months) (r .months)) (same (l .days) (r .days)))
   where
     same : (xs : List ℕ) {zs old : List ℕ} → InFront (length xs) zs old (placed xs old) → zs ≡ xs

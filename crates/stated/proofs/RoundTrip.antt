@@ -7,22 +7,11 @@ use mathlib.Core.Bool.{true}
 use mathlib.Core.List.{List, [], _∷_, _++_, append-assoc}
 use lib.ListN.{length, drop, length-append}
 use lib.Seq.{drop-at, drop-drop, getD-drop}
-use Rattle.sheet.specs.Sheet.{
-  number,
-  lay,
-  numbers,
-  layAll,
-  Section,
-  itemsOf,
-  leftAfter,
-  ListsFor,
-  listsOf,
-  laySection,
-  laySections,
-}
+use Rattle.bytes.specs.Bytes.{number, lay, numbers, layAll}
+use Rattle.sheet.specs.Sheet.{Section, itemsOf, leftAfter, ListsFor, listsOf, laySection, laySections}
 use Rattle.sheet.specs.Faults.{GoodItems, GoodSection, GoodSections, GoodValues, GoodList, GoodEach}
-use Rattle.sheet.proofs.Numbers.{length-lay}
-use Rattle.sheet.proofs.Filling.{length-layAll}
+use Rattle.bytes.proofs.Numbers.{length-lay}
+use Rattle.bytes.proofs.Filling.{length-layAll}
 use Rattle.sheet.proofs.Sheets.{length-numbers}
 use Rattle.stated.specs.Paper.{AreBytes}
 

@@ -15,9 +15,8 @@ use Rattle.sheet.specs.declared.SheetCounts.{SheetCounts}
 use Rattle.sheet.specs.declared.SheetCounts.the-variants as Counts'
 use Rattle.sheet.specs.declared.HowMany.{HowMany}
 use Rattle.sheet.specs.declared.HowMany.the-variants as HowMany'
+use Rattle.bytes.specs.Bytes.{number, lay}
 use Rattle.sheet.specs.Sheet.{
-  number,
-  lay,
   Section,
   ranged,
   yearItems,

@@ -1,9 +1,9 @@
 -- `sheet::check_sheet` meets its contract. The invariant: what is left gives the same answer. Assumes nothing.
-use Prim.Native.Nat.{_+_, _-_, _*_, _≤_}
+use Prim.Native.Nat.{_-_, _*_, _≤_}
 use native.Mathlib.Nat.{mul-le-mul}
 use native.Mathlib.Omega.{arith}
 use mathlib.Core.Path.{_≡_, refl, ap, sym, _∙_}
-use lib.ListN.{drop, drop-of-length-le}
+use lib.ListN.{drop}
 use borrow.Author.Needs.{needs}
 use Rattle.rule.specs.Reasons.{is, andThen, reasonNumber}
 use Rattle.sheet.specs.Sheet.{ranged, sectionsRead, sheetSections}
@@ -21,7 +21,8 @@ abbrev μ-loop : tie.MeasureT-loop
 
 -- a section found good
 good : (c : tie.After-n Inv-loop μ-loop) →
-    let a = c .before .before .before in Found (ranged (a .section-at .result)) (a .before .before .loop .t .now) (a .before .before .loop .t .now) (c .n .given .0 .0)
+    let a = c .before .before .before in
+    Found (ranged (a .section-at .result)) (a .before .before .loop .t .now) (a .before .before .loop .t .now) (c .n .given .0 .0)
 good c = found _ _ _ _ refl (sym (c .before .before .check-section .ensures) ∙ ap saidHowMany (c .n .given .1))
 
 few : (c : tie.After-n Inv-loop μ-loop) → c .before .before .before .section-at .result .width * c .n .given .0 .0 ≤ 4000
@@ -41,13 +42,13 @@ check-sheet-spec =
     (λ c κs. c .section-at .ensures .width)
     (λ c. search needs)
     (λ c.
-      let c3 = c .before .before .before in
-      let c4 = c3 .before in
-      let c6 = c4 .before .before in
-      let loop = c6 .loop in
-      sym (stops-at _ _ _ (c4 .section-at .ensures .there) (loop .t .now) (loop .y) (loop .m) (loop .d) (reasonNumber (c .before .r .given .0 .0))
-      (sym (c3 .check-section .ensures) ∙ ap saidHowMany (c .before .r .given .1)))
-      ∙ loop .inv .1)
+    let c3 = c .before .before .before in
+    let c4 = c3 .before in
+    let c6 = c4 .before .before in
+    let loop = c6 .loop in
+    sym (stops-at _ _ _ (c4 .section-at .ensures .there) (loop .t .now) (loop .y) (loop .m) (loop .d) (reasonNumber (c .before .r .given .0 .0))
+    (sym (c3 .check-section .ensures) ∙ ap saidHowMany (c .before .r .given .1)))
+    ∙ loop .inv .1)
     (λ c. search needs)
     (λ c. omega (arith, few (c .before)))
     (λ c. omega (arith, few (c .before)))
@@ -57,21 +58,20 @@ check-sheet-spec =
     (λ c. omega arith)
     (λ c. omega arith)
     (λ c.
-      let c4 = c .before .before .before .before in
-      let c5 = c4 .before in
-      let c7 = c5 .before .before in
-      let loop = c7 .loop in
-      (
+    let c4 = c .before .before .before .before in
+    let c5 = c4 .before in
+    let c7 = c5 .before .before in
+    let loop = c7 .loop in (
       omega arith,
       passes-at _ _ _ (c5 .section-at .ensures .there) (loop .t .now) (loop .y) (loop .m) (loop .d) (c .before .before .n .given .0 .0)
-      (sym (c4 .check-section .ensures) ∙ ap saidHowMany (c .before .before .n .given .1))
-      ∙ loop .inv .1,
-      ))
+          (sym (c4 .check-section .ensures) ∙ ap saidHowMany (c .before .before .n .given .1))
+          ∙ loop .inv .1,
+    ))
     (λ c.
-      let loop = c .before .before .loop in
-      let e : loop .j ≡ 3 = omega arith in
-      sym (bytes-after (drop (loop .j) sheetSections) (rw (e)) (loop .t .now) (loop .y) (loop .m) (loop .d) (omega arith)) ∙ loop .inv .1)
+    let loop = c .before .before .loop in
+    let e : loop .j ≡ 3 = omega arith in
+    sym (bytes-after (drop (loop .j) sheetSections) (rw (e)) (loop .t .now) (loop .y) (loop .m) (loop .d) (omega arith)) ∙ loop .inv .1)
     (λ c.
-      let loop = c .before .before .loop in
-      let e : loop .j ≡ 3 = omega arith in
-      sym (nothing-after (drop (loop .j) sheetSections) (rw (e)) (loop .t .now) (loop .y) (loop .m) (loop .d) (omega arith)) ∙ loop .inv .1))
+    let loop = c .before .before .loop in
+    let e : loop .j ≡ 3 = omega arith in
+    sym (nothing-after (drop (loop .j) sheetSections) (rw (e)) (loop .t .now) (loop .y) (loop .m) (loop .d) (omega arith)) ∙ loop .inv .1))

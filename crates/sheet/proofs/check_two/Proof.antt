@@ -26,44 +26,43 @@ check-two-spec =
     Inv-loop
     μ-loop
     (λ c.
-      let c3 = c .before .before .before in
-      let args = c3 .args in
-      sym (list-long (ranged (args .k)) (args .xs .now) (length (args .xs .now)) (omega arith)))
+    let c3 = c .before .before .before in
+    let args = c3 .args in
+    sym (list-long (ranged (args .k)) (args .xs .now) (length (args .xs .now)) (omega arith)))
     (λ c.
-      let c3 = c .before .before .before in
-      let args = c3 .args in
-      (omega arith, sym (list-short (ranged (args .k)) (args .xs .now) (length (args .xs .now)) (omega arith))))
+    let c3 = c .before .before .before in
+    let args = c3 .args in
+    (omega arith, sym (list-short (ranged (args .k)) (args .xs .now) (length (args .xs .now)) (omega arith))))
     (λ c. omega arith)
     (λ c. omega arith)
     (λ c.
-      let c5 = c .before .before .before .before .before in
-      omega (arith, c5 .shared-slice-known .given (c .before .before .loop .i)))
+    let c5 = c .before .before .before .before .before in
+    omega (arith, c5 .shared-slice-known .given (c .before .before .loop .i)))
     (λ c κs. search needs)
     (λ c.
-      let c4 = c .before .before .before .before in
-      let c8 = c4 .before .before .before .before in
-      let args = c8 .args in
-      let loop = c4 .loop in
-      let inside = c .before .is-in-section in
-      sym (item-bad (ranged (args .k)) (args .xs .now) (length (args .xs .now)) (loop .i) (omega arith)
-      (failed (inside .result) _ (inside .ensures) (c .if2 .taken)))
-      ∙ loop .inv .1)
+    let c4 = c .before .before .before .before in
+    let c8 = c4 .before .before .before .before in
+    let args = c8 .args in
+    let loop = c4 .loop in
+    let inside = c .before .is-in-section in
+    sym (item-bad (ranged (args .k)) (args .xs .now) (length (args .xs .now)) (loop .i) (omega arith)
+    (failed (inside .result) _ (inside .ensures) (c .if2 .taken)))
+    ∙ loop .inv .1)
     (λ c. omega arith)
     (λ c. omega arith)
     (λ c.
-      let c4 = c .before .before .before .before in
-      let c8 = c4 .before .before .before .before in
-      let args = c8 .args in
-      let loop = c4 .loop in
-      let inside = c .before .is-in-section in
-      (
+    let c4 = c .before .before .before .before in
+    let c8 = c4 .before .before .before .before in
+    let args = c8 .args in
+    let loop = c4 .loop in
+    let inside = c .before .is-in-section in (
       omega arith,
       sym (item-on (ranged (args .k)) (args .xs .now) (length (args .xs .now)) (loop .i) (omega arith)
-      (passed (inside .result) _ (inside .ensures) (c .if2 .left)))
-      ∙ loop .inv .1,
-      ))
+          (passed (inside .result) _ (inside .ensures) (c .if2 .left)))
+          ∙ loop .inv .1,
+    ))
     (λ c.
-      let c5 = c .before .before .before .before .before in
-      let args = c5 .args in
-      let loop = c .before .loop in
-      sym (items-end (ranged (args .k)) (args .xs .now) (length (args .xs .now)) (loop .i) (omega arith)) ∙ loop .inv .1))
+    let c5 = c .before .before .before .before .before in
+    let args = c5 .args in
+    let loop = c .before .loop in
+    sym (items-end (ranged (args .k)) (args .xs .now) (length (args .xs .now)) (loop .i) (omega arith)) ∙ loop .inv .1))

@@ -1,7 +1,6 @@
 -- `sheet::section_at` meets its contract. Assumes nothing.
 use native.Mathlib.Omega.{arith}
 use mathlib.Core.Path.{_≡_}
-use borrow.Author.Needs.{needs}
 use Rattle.sheet.proofs.section_at.Statement.{statement}
 use Rattle.sheet.proofs.section_at.Tie as tie
 

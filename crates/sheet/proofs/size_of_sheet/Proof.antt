@@ -8,7 +8,7 @@ use borrow.Author.Needs.{needs}
 use Rattle.rule.specs.Reasons.{is, andThen, reasonNumber}
 use Rattle.sheet.specs.Sheet.{ranged, yearItems, monthItems, dayItems, Lists, threeLists, inOrder, sectionsWritten, sheetOf, writeSheet}
 use Rattle.sheet.specs.Promises.{saidHowMany}
-use Rattle.sheet.proofs.Filling.{length-sheet}
+use Rattle.sheet.proofs.Laying.{length-sheet}
 use Rattle.sheet.proofs.Writing.{list-found, list-stops, list-passes, no-list}
 use Rattle.sheet.proofs.size_of_sheet.Statement.{statement}
 use Rattle.sheet.proofs.size_of_sheet.Tie as tie
@@ -92,18 +92,19 @@ size-of-sheet-spec =
     (λ c. omega (arith, size (c .before), few (c .before)))
     (λ c. omega (arith, size (c .before), few (c .before)))
     (λ c.
-      let c3 = c .before .before .before in
-      sym (list-stops (ranged yearItems) _ (inOrder (lists (c .before .before .before))) _ _ (reasonNumber (c .before .r .given .0 .0)) (sym (c3 .check-two .ensures) ∙ ap saidHowMany (c .before .r .given .1))))
+    let c3 = c .before .before .before in
+    sym (list-stops (ranged yearItems) _ (inOrder (lists (c .before .before .before))) _ _ (reasonNumber (c .before .r .given .0 .0))
+    (sym (c3 .check-two .ensures) ∙ ap saidHowMany (c .before .r .given .1))))
     (λ c.
-      let c3 = c .before .before .before in
-      let r2 = c .before .r2 in
-      let y = c .before .before .before .before .before in
-      sym (after-years _ y
-      ∙ list-stops (ranged monthItems) _ _ _ _ (reasonNumber (r2 .given .0 .0)) (sym (c3 .check-four .ensures) ∙ ap saidHowMany (r2 .given .1))))
+    let c3 = c .before .before .before in
+    let r2 = c .before .r2 in
+    let y = c .before .before .before .before .before in
+    sym (after-years _ y
+    ∙ list-stops (ranged monthItems) _ _ _ _ (reasonNumber (r2 .given .0 .0)) (sym (c3 .check-four .ensures) ∙ ap saidHowMany (r2 .given .1))))
     (λ c.
-      let c3 = c .before .before .before in
-      let r3 = c .before .r3 in
-      let m = c .before .before .before .before .before in
-      sym (after-months _ m
-      ∙ list-stops (ranged dayItems) _ _ _ _ (reasonNumber (r3 .given .0 .0)) (sym (c3 .check-four2 .ensures) ∙ ap saidHowMany (r3 .given .1))))
+    let c3 = c .before .before .before in
+    let r3 = c .before .r3 in
+    let m = c .before .before .before .before .before in
+    sym (after-months _ m
+    ∙ list-stops (ranged dayItems) _ _ _ _ (reasonNumber (r3 .given .0 .0)) (sym (c3 .check-four2 .ensures) ∙ ap saidHowMany (r3 .given .1))))
     (λ c. ap is (size (c .before)) ∙ sym (after-days _ (c .before))))

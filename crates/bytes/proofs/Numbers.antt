@@ -6,7 +6,7 @@ use mathlib.Core.Path.{_≡_, refl, ap}
 use mathlib.Core.List.{List, [], _∷_, _++_}
 use lib.ListN.{length, getD, drop}
 use lib.Seq.{getD-drop, drop-drop}
-use Rattle.sheet.specs.Sheet.{number, lay}
+use Rattle.bytes.specs.Bytes.{number, lay}
 
 -- one byte more in front
 number-more : (w i : ℕ) (s : List ℕ) → number (suc w) (drop i s) ≡ getD s i 0 + 256 * number w (drop (i + 1) s)
@@ -27,7 +27,7 @@ length-lay zero x = refl
 length-lay (suc w) x = ap suc (length-lay w (x / 256))
 
 -- up to three bytes
-pub up-to-three : (n : ℕ) → n ≤ 3 → 256 ^ n ≤ 16777216
+up-to-three : (n : ℕ) → n ≤ 3 → 256 ^ n ≤ 16777216
 up-to-three zero h = omega arith
 up-to-three (suc zero) h = omega arith
 up-to-three (suc (suc zero)) h = omega arith
