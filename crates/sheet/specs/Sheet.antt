@@ -10,7 +10,8 @@ use Rattle.rule.specs.declared.Reason.the-variants.{NoSuchYear, NoSuchMonth, No
 use Rattle.bytes.specs.Bytes.{number, numbers, lay, layAll}
 use Rattle.sheet.specs.declared.Items.{Items}
 
--- a section of a sheet: the bytes of an item, the most items, whether an item's number is good, and the reason where it is not
+-- a section of a sheet: the bytes of an item, the most items, whether an item is good, and the reason where it is not. An item is
+-- the number in its bytes, least byte first, of whatever fields it is made up
 pub record Section : Type 0 where
   pub width : ℕ
   pub most : ℕ

@@ -70,12 +70,12 @@ least-byte-first =
       laid-in-four = λ x. refl;
     }
 
-pub ranges-of-items : Paper.Ranges-of-items
-ranges-of-items =
+pub sections-literally : Paper.Sections-literally
+sections-literally =
     record {
-      years = record { good = within-true 1 41040; reason = λ x. refl };
-      months = record { good = within-true 0 507599; reason = λ x. refl };
-      days = record { good = within-true 0 14989859; reason = λ x. refl };
+      years = record { bytes = refl; counts = refl; good = within-true 1 41040; reason = λ x. refl };
+      months = record { bytes = refl; counts = refl; good = within-true 0 507599; reason = λ x. refl };
+      days = record { bytes = refl; counts = refl; good = within-true 0 14989859; reason = λ x. refl };
     }
 
 -- the three sections' values fit their bytes

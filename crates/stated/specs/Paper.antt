@@ -108,16 +108,18 @@ Calls-back-and-there =
     WriteSheet (take (c .years) y′) (take (c .months) m′) (take (c .days) d′) o r o′ →
     length s ≤ length o → (r ≡ HowMany'.Is (length s)) × (o′ ≡ placed s o)
 
--- the items of a section are good from the least to the most, and come back with reason r where they are not
-pub record InRange (k : Section) (least most r : ℕ) : Type 0 where
+-- a section of items of w bytes, each from the least to the most, or else reason r; "Each count is at most 1,000"
+pub record SectionIs (k : Section) (w least most r : ℕ) : Type 0 where
+  pub bytes : k .width ≡ w
+  pub counts : k .most ≡ 1000
   pub good : (x : ℕ) → (k .good x ≡ true) ↔ ((least ≤ x) × (x ≤ most))
   pub reason : (x : ℕ) → k .reason x ≡ r
 
--- a year from 1 to 41,040 (1), a month count to 507,599 (7), a day to 14,989,859 (6)
-pub record Ranges-of-items : Type 0 where
-  pub years : InRange (ranged yearItems) 1 41040 1
-  pub months : InRange (ranged monthItems) 0 507599 7
-  pub days : InRange (ranged dayItems) 0 14989859 6
+-- "years (2 bytes each), months (4), days (4)": what each asks of an item, and its reason, 1, 7 or 6
+pub record Sections-literally : Type 0 where
+  pub years : SectionIs (ranged yearItems) 2 1 41040 1
+  pub months : SectionIs (ranged monthItems) 4 0 507599 7
+  pub days : SectionIs (ranged dayItems) 4 0 14989859 6
 
 -- each reason if and only if its row holds and no earlier fault does (`SheetFault`: the first fault in byte order); and the sheet's
 -- own counts and items if and only if there is no fault
