@@ -1,64 +1,43 @@
--- The front of a sheet that is long enough says what the whole does, over any section. Assumes nothing.
+-- The front of a sheet that is long enough says what the whole does, over any list of sections. Assumes nothing.
 use Prim.Native.Nat.{ℕ, zero, suc, _+_, _*_, _≤_, _<_}
 use native.Mathlib.Nat.{mul-suc, mul-le-mul-left}
 use native.Mathlib.Omega.{arith}
 use mathlib.Core.Path.{_≡_, refl, ap, sym, _∙_}
+use mathlib.Core.Logic.{⊎-elim}
 use mathlib.Core.Bool.{Bool, true, false}
-use mathlib.Core.List.{List, _++_}
+use mathlib.Core.List.{List, [], _∷_, _++_}
 use lib.Dec.{leb}
 use lib.ListN.{length, drop, length-append, length-drop}
 use lib.Seq.{drop-append-le}
 use borrow.Author.Tests.{leb-true, le-leb, lt-leb}
-use Rattle.rule.specs.Reasons.{Answer, guard, reasonNumber}
-use Rattle.rule.proofs.Answers.{stops}
-use Rattle.sheet.specs.declared.Section.{Section}
-use Rattle.sheet.specs.Sheet.{
-  number,
-  yearItems,
-  monthItems,
-  dayItems,
-  itemHolds,
-  itemsRead,
-  countOf,
-  countRead,
-  sectionRead,
-  leftAfter,
-  daysRead,
-  monthsRead,
-  sheetRead,
-}
-use Rattle.sheet.proofs.Numbers.{number-append}
+use Rattle.rule.specs.Reasons.{Answer, is, andThen}
+use Rattle.sheet.specs.Sheet.{Section, itemRead, itemsRead, countOf, countRead, sectionRead, leftAfter, ListsFor, sectionsRead}
+use Rattle.sheet.specs.Faults.{GoodSection, SectionFault}
+use Rattle.bytes.proofs.Numbers.{number-append}
+use Rattle.sheet.proofs.Reading.{section-decided, left-append}
 
 module _ (k : Section) where
-  -- n items that lie in p are read alike in p and in p ++ q
-  items-front : {A : Type 0} (n : ℕ) (p q : List ℕ) (a b : Answer A) → k .width * n ≤ length p → a ≡ b → itemsRead k n p a ≡ itemsRead k n (p ++ q) b
+  -- items that lie in p are read alike in p and in p ++ q
+  item-front : (p q : List ℕ) → k .width ≤ length p → itemRead k p ≡ itemRead k (p ++ q)
+  unfolding itemRead
+  item-front p q l =
+      let g : k .width ≤ length (p ++ q) = omega (arith, length-append p q) in
+      rw (le-leb (k .width) (length p) l, le-leb (k .width) (length (p ++ q)) g, number-append (k .width) p q l)
+
+  items-front : (n : ℕ) (p q : List ℕ) → k .width * n ≤ length p → itemsRead k n p ≡ itemsRead k n (p ++ q)
   unfolding itemsRead
-  items-front zero p q a b h e = e
-  items-front (suc n) p q a b h e =
+  items-front zero p q h = refl
+  items-front (suc n) p q h =
+      let u : List ℕ = drop (k .width) p in
       let l : k .width ≤ length p = omega (arith, h, mul-suc (k .width) n) in
-      let f : leb (k .width) (length p) ≡ true = le-leb (k .width) (length p) l in
-      let g : leb (k .width) (length (p ++ q)) ≡ true = le-leb (k .width) (length (p ++ q)) (omega (arith, length-append p q)) in
-      rw (f, g, number-append (k .width) p q l, drop-append-le (k .width) p q l)
-      (ap (guard (itemHolds k (number (k .width) p)) (reasonNumber (k .reason)))
-      (items-front n (drop (k .width) p) q a b (omega (arith, h, mul-suc (k .width) n, length-drop (k .width) p)) e))
+      ap (λ (a : Answer ℕ). andThen a (λ x. andThen (itemsRead k n u) (λ xs. is (x ∷ xs)))) (item-front p q l)
+      ∙ ap (λ (a : Answer (List ℕ)). andThen (itemRead k (p ++ q)) (λ x. andThen a (λ xs. is (x ∷ xs))))
+      (items-front n u q (omega (arith, h, mul-suc (k .width) n, length-drop (k .width) p)) ∙ ap (itemsRead k n) (sym (drop-append-le (k .width) p q l)))
 
-  -- a section whose count is not too large lies in p, where p has room for the most items
-  lies : (p : List ℕ) → 2 + k .width * k .items ≤ length p → countOf p ≤ k .items → 2 + k .width * countOf p ≤ length p
-  lies p h c = omega (arith, h, mul-le-mul-left (k .width) c)
-
-  left-front : (p q : List ℕ) → 2 + k .width * k .items ≤ length p → countOf p ≤ k .items → leftAfter k (p ++ q) ≡ leftAfter k p ++ q
-  unfolding leftAfter
-  left-front p q h c =
-      let m : countOf (p ++ q) ≡ countOf p = number-append 2 p q (omega (arith, h)) in
-      rw (m) (drop-append-le (2 + k .width * countOf p) p q (lies p h c))
-
-  left-length : (p : List ℕ) → 2 + k .width * k .items ≤ length p → countOf p ≤ k .items → length p ≤ length (leftAfter k p) + (2 + k .width * k .items)
-  unfolding leftAfter
-  left-length p h c = omega (arith, length-drop (2 + k .width * countOf p) p, mul-le-mul-left (k .width) c)
-
-  section-front : {A : Type 0} (p q : List ℕ) (a b : Answer A) → 2 + k .width * k .items ≤ length p → (countOf p ≤ k .items → a ≡ b) → sectionRead k p a ≡ sectionRead k (p ++ q) b
+  -- a section is read alike where p has room for the most items
+  section-front : (p q : List ℕ) → 2 + k .width * k .most ≤ length p → sectionRead k p ≡ sectionRead k (p ++ q)
   unfolding sectionRead countRead
-  section-front {A} p q a b h e = go (leb (countOf p) (k .items)) refl
+  section-front p q h = go (leb (countOf p) (k .most)) refl
     where
       m : countOf (p ++ q) ≡ countOf p
       m = number-append 2 p q (omega (arith, h))
@@ -69,36 +48,30 @@ module _ (k : Section) where
       g : leb 2 (length (p ++ q)) ≡ true
       g = le-leb 2 (length (p ++ q)) (omega (arith, h, length-append p q))
 
-      go : (t : Bool) → leb (countOf p) (k .items) ≡ t → sectionRead k p a ≡ sectionRead k (p ++ q) b
+      go : (t : Bool) → leb (countOf p) (k .most) ≡ t → sectionRead k p ≡ sectionRead k (p ++ q)
       go false o = rw (f, g, m, o)
       go true o =
-          let c : countOf p ≤ k .items = leb-true (countOf p) (k .items) o in
+          let c : countOf p ≤ k .most = leb-true (countOf p) (k .most) o in
           rw (f, g, m, o, drop-append-le 2 p q (omega (arith, h)))
-          (items-front (countOf p) (drop 2 p) q a b (omega (arith, lies p h c, length-drop 2 p)) (e c))
+          (items-front (countOf p) (drop 2 p) q (omega (arith, h, mul-le-mul-left (k .width) c, length-drop 2 p)))
 
-module _ {A : Type 0} (q : List ℕ) (a b : Answer A) where
-  days-front : (p : List ℕ) → 4003 ≤ length p → daysRead p a ≡ daysRead (p ++ q) b
-  unfolding daysRead
-  days-front p h =
-      section-front dayItems p q _ _ (omega arith)
-      (λ c.
-      let l : 0 < length (leftAfter dayItems p) = omega (arith, left-length dayItems p (omega arith) c) in
-      let r : 0 < length (leftAfter dayItems (p ++ q)) = omega (arith, l, ap length (left-front dayItems p q (omega arith) c), length-append (leftAfter dayItems p) q) in
-      stops (leb (length (leftAfter dayItems p)) 0) 11 a (lt-leb (length (leftAfter dayItems p)) 0 l)
-      ∙ sym (stops (leb (length (leftAfter dayItems (p ++ q))) 0) 11 b (lt-leb (length (leftAfter dayItems (p ++ q))) 0 r)))
+  left-length : (p : List ℕ) → GoodSection k p → length p ≤ length (leftAfter k p) + (2 + k .width * k .most)
+  unfolding leftAfter
+  left-length p g = omega (arith, length-drop (2 + k .width * countOf p) p, mul-le-mul-left (k .width) (g .0 .1))
 
-  months-front : (p : List ℕ) → 8005 ≤ length p → monthsRead p a ≡ monthsRead (p ++ q) b
-  unfolding monthsRead
-  months-front p h =
-      section-front monthItems p q _ _ (omega arith)
-      (λ c.
-      days-front (leftAfter monthItems p) (omega (arith, left-length monthItems p (omega arith) c))
-      ∙ ap (λ (t : List ℕ). daysRead t b) (sym (left-front monthItems p q (omega arith) c)))
+-- the most bytes that sections have
+abbrev mostBytes : List Section → ℕ
+mostBytes [] = 0
+mostBytes (k ∷ ks) = 2 + k .width * k .most + mostBytes ks
 
-  pub sheet-front : (p : List ℕ) → 10007 ≤ length p → sheetRead p a ≡ sheetRead (p ++ q) b
-  unfolding sheetRead
-  sheet-front p h =
-      section-front yearItems p q _ _ (omega arith)
-      (λ c.
-      months-front (leftAfter yearItems p) (omega (arith, left-length yearItems p (omega arith) c))
-      ∙ ap (λ (t : List ℕ). monthsRead t b) (sym (left-front yearItems p q (omega arith) c)))
+pub sections-front : (ks : List Section) (p q : List ℕ) → mostBytes ks < length p → sectionsRead ks p ≡ sectionsRead ks (p ++ q)
+unfolding sectionsRead
+sections-front [] p q h = rw (lt-leb (length p) 0 h, lt-leb (length (p ++ q)) 0 (omega (arith, h, length-append p q)))
+sections-front (k ∷ ks) p q h =
+    let e : sectionRead k p ≡ sectionRead k (p ++ q) = section-front k p q (omega (arith, h)) in
+    ⊎-elim (λ (f : (r : ℕ) × SectionFault k p r). rw (← e, section-decided k p .told (f .0) (f .1)))
+    (λ (g : GoodSection k p).
+    ap (λ (a : Answer (List ℕ)). andThen a (λ xs. andThen (sectionsRead ks (leftAfter k p)) (λ l. is (xs, l)))) e
+    ∙ ap (λ (a : Answer (ListsFor ks)). andThen (sectionRead k (p ++ q)) (λ xs. andThen a (λ l. is (xs, l))))
+    (sections-front ks (leftAfter k p) q (omega (arith, h, left-length k p g)) ∙ ap (sectionsRead ks) (sym (left-append k p q g))))
+    (section-decided k p .decided)

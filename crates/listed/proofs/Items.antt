@@ -1,14 +1,28 @@
--- A loop that puts a text for each item of a list, w bytes at most for each. Assumes nothing.
-use Prim.Native.Nat.{ℕ, _+_, _*_, _≤_, _<_}
+-- Items of a good list are in their range; a loop that puts a text for each item of a list, w bytes at most for each.
+-- Assumes nothing.
+use Prim.Native.Nat.{ℕ, zero, suc, _+_, _*_, _≤_, _<_}
 use native.Mathlib.Nat.{mul-suc, mul-le-mul-left}
 use native.Mathlib.Numerals.{add-one}
 use native.Mathlib.Omega.{arith}
 use mathlib.Core.Path.{_≡_, ap}
-use mathlib.Core.List.{List}
+use mathlib.Core.List.{List, [], _∷_}
 use lib.ListN.{length, getD, take}
 use lib.Seq.{take-all}
+use Rattle.rule.proofs.Answers.{within-true}
+use Rattle.sheet.specs.declared.Items.{Items}
+use Rattle.sheet.specs.Sheet.{Section, ranged}
+use Rattle.sheet.specs.Faults.{GoodValue, GoodValues, GoodList}
 use Rattle.fields.specs.Fields.{each, Put}
 use Rattle.fields.proofs.Putting.{put-kept, wide, put-none, put-as, each-next, turn}
+
+value-at : (k : Section) (xs : List ℕ) → GoodValues k xs → (j : ℕ) → j < length xs → GoodValue k (getD xs j 0)
+unfolding GoodValues
+value-at k [] g j h = absurd (omega arith)
+value-at k (x ∷ xs) g zero h = g .0
+value-at k (x ∷ xs) g (suc j) h = value-at k xs (g .1) j (omega arith)
+
+pub in-range : (k : Items) (xs : List ℕ) → GoodList (ranged k) xs → (j : ℕ) → j < length xs → (k .least ≤ getD xs j 0) × (getD xs j 0 ≤ k .most)
+in-range k xs g j h = within-true (k .least) (k .most) (getD xs j 0) .0 (value-at (ranged k) xs (g .1) j h)
 
 -- the texts of the first i items are put
 pub record ItemsPut (w : ℕ) (f : ℕ → List ℕ) (xs old : List ℕ) (at : ℕ) (out : List ℕ) (to i : ℕ) : Type 0 where

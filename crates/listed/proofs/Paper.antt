@@ -3,13 +3,13 @@ use Prim.Native.Nat.{ℕ, _≤_, _<_}
 use native.Mathlib.Omega.{arith}
 use native.Mathlib.Decide.{decLt}
 use mathlib.Core.Path.{_≡_, ap, sym, _∙_}
-use mathlib.Core.List.{List, _++_}
+use mathlib.Core.List.{List}
 use lib.ListN.{length, take, drop, take-append-drop}
 use lib.Seq.{take-all, length-take-le}
-use Rattle.rule.specs.Reasons.{is}
-use Rattle.sheet.specs.Sheet.{listsIn, readSheet}
+use Rattle.rule.specs.Reasons.{Answer, is, andThen}
+use Rattle.sheet.specs.Sheet.{ListsFor, sheetSections, named, readSheet}
 use Rattle.penned.specs.Lines.{printed, listing}
-use Rattle.listed.proofs.Fronts.{sheet-front}
+use Rattle.listed.proofs.Fronts.{sections-front}
 use Rattle.listed.specs.Paper as Paper
 
 -- so many bytes or more are enough
@@ -20,8 +20,8 @@ front-of k h s = go (decLt k (length s))
     go : Dec (k < length s) → printed (readSheet (take k s)) ≡ printed (readSheet s)
     go (no g) = ap (λ (t : List ℕ). printed (readSheet t)) (take-all k s (omega (arith, g)))
     go (yes l) =
-        ap printed
-        (sheet-front (drop k s) (is (listsIn (take k s))) (is (listsIn (take k s ++ drop k s))) (take k s) (omega (arith, h, length-take-le k s (omega (arith, l)))))
+        ap (λ (a : Answer (ListsFor sheetSections)). printed (andThen a (λ l. is (named l))))
+        (sections-front sheetSections (take k s) (drop k s) (omega (arith, h, length-take-le k s (omega (arith, l)))))
         ∙ ap (λ (t : List ℕ). printed (readSheet t)) (take-append-drop k s)
 
 pub front-is-enough : Paper.Front-is-enough

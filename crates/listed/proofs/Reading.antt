@@ -1,55 +1,26 @@
 -- What a sheet read into three lists of 1,000 places says, for its listing. Assumes nothing.
-use Prim.Native.Nat.{ℕ, _≤_, _<_}
+use Prim.Native.Nat.{ℕ, _≤_}
 use native.Mathlib.Omega.{arith}
-use mathlib.Core.Path.{_≡_, refl, ap, sym, _∙_, subst}
+use mathlib.Core.Path.{_≡_, ap, sym, _∙_, subst}
 use mathlib.Core.List.{List}
 use lib.ListN.{length, take, drop, length-append}
 use Rattle.rule.specs.Lists.{placed}
-use Rattle.rule.specs.Reasons.{Answer, is, refused, refused-with, guard, andThen, reasonNumber, afterwards}
+use Rattle.rule.specs.Reasons.{Answer, is, refused, reasonNumber, afterwards}
 use Rattle.rule.specs.declared.Reason.{Reason}
-use Rattle.sheet.specs.declared.Section.{Section}
 use Rattle.sheet.specs.declared.Counted.{Counted}
 use Rattle.sheet.specs.declared.SheetCounts.{SheetCounts}
 use Rattle.sheet.specs.declared.SheetCounts.the-variants as Counts'
-use Rattle.sheet.specs.Sheet.{
-  yearItems,
-  monthItems,
-  dayItems,
-  countOf,
-  itemsOf,
-  monthsPart,
-  daysPart,
-  Lists,
-  listsIn,
-  readSheet,
-  readInto,
-  room,
-}
-use Rattle.sheet.specs.Promises.{saidCounts, counted, countsIn, ReadSheet}
-use Rattle.sheet.specs.Paper.{InSection, GoodSection, GoodSections, GoodList, GoodLists}
-use Rattle.sheet.proofs.Sheets.{sheet-then, each-read, sheet-lies, length-numbers, counted-lists}
-use Rattle.sheet.proofs.Places.{number-at}
-use Rattle.sheet.proofs.Paper.{made-of, read-with-room, into-read, front, reading-given}
+use Rattle.sheet.specs.Sheet.{sheetSections, Lists, listsIn, readSheet, readInto}
+use Rattle.sheet.specs.Faults.{here, later, SheetFault, GoodSections, GoodSheet, GoodEach, GoodLists}
+use Rattle.sheet.specs.Promises.{saidCounts, counted, ReadSheet}
+use Rattle.sheet.proofs.Deciding.{if-given, if-refused, made-of, refused-of}
+use Rattle.sheet.proofs.Reading.{sheet-decided, into-decided}
+use Rattle.sheet.proofs.Sheets.{lists-read}
+use Rattle.sheet.proofs.Places.{front}
 
-good-list : (k : Section) (t : List ℕ) → GoodSection k t → GoodList k (itemsOf k t)
-unfolding itemsOf
-good-list k t g =
-    let e = length-numbers (k .width) (countOf t) (drop 2 t) in
-    record {
-      few = omega (arith, e, g .count .few);
-      items = λ j h.
-          let l : j < countOf t = omega (arith, h, e) in
-          subst (InSection k) (sym (number-at (k .width) (countOf t) j (drop 2 t) l)) (g .items j l .1);
-    }
-
-good-lists : (s : List ℕ) → GoodSections s → GoodLists (listsIn s)
+good-lists : (s : List ℕ) → GoodSections sheetSections s → GoodLists (listsIn s)
 unfolding listsIn
-good-lists s g =
-    record {
-      years = good-list yearItems s (g .years);
-      months = good-list monthItems (monthsPart s) (g .months);
-      days = good-list dayItems (daysPart s) (g .days);
-    }
+good-lists s g = lists-read sheetSections s g
 
 -- a list filled from the front has room for what filled it
 fits : (xs old : List ℕ) (n : ℕ) (new : List ℕ) → new ≡ placed xs old → n ≡ length xs → n ≤ length new
@@ -60,11 +31,15 @@ module _ {s y m d y′ m′ d′ : List ℕ} {r : SheetCounts} (p : ReadSheet s 
   pub read : (l : Lists) × (readInto s (length y) (length m) (length d) ≡ is l) × (c ≡ counted l)
   read = made-of (readInto s (length y) (length m) (length d)) counted c (ap saidCounts (sym e) ∙ p .answer)
 
-  stands : (part : Lists → List ℕ) (old new : List ℕ) → new ≡ afterwards (readInto s (length y) (length m) (length d)) part old → new ≡ placed (part (read .0)) old
+  stands : (part : Lists → List ℕ) (old new : List ℕ) → new ≡ afterwards (readInto s (length y) (length m) (length d)) part old →
+      new ≡ placed (part (read .0)) old
   stands part old new e = e ∙ ap (λ (a : Answer Lists). afterwards a part old) (read .1)
 
+  is-good : GoodSheet s (length y) (length m) (length d) × (listsIn s ≡ read .0)
+  is-good = if-given (into-decided s (length y) (length m) (length d)) (read .0) (read .1)
+
   pub sheet-says : readSheet s ≡ is (read .0)
-  sheet-says = into-read s (length y) (length m) (length d) (read .0) (read .1)
+  sheet-says = sheet-decided s .given (is-good .0 .0) ∙ ap is (is-good .1)
 
   pub years-there : (take (c .years) y′ ≡ read .0 .years) × (c .years ≤ length y′) × (c .years ≡ length (take (c .years) y′))
   years-there =
@@ -91,50 +66,20 @@ module _ {s y m d y′ m′ d′ : List ℕ} {r : SheetCounts} (p : ReadSheet s 
   all-there = rw (years-there .0, months-there .0, days-there .0)
 
   pub all-good : GoodLists (read .0)
-  unfolding readSheet
-  all-good =
-      let e : listsIn s ≡ read .0 = each-read s (listsIn s) (read .0) sheet-says .1 in
-      let g = reading-given s (length y) (length m) (length d) .0 (read .1 ∙ ap is (sym e)) in
-      subst GoodLists e (good-lists s (g .sections))
+  all-good = subst GoodLists (is-good .1) (good-lists s (is-good .0 .0))
 
 -- a sheet that came back from lists of 1,000 places comes back for its own fault: such lists are never too short
-module _
-    {s y m d y′ m′ d′ : List ℕ} {a : SheetCounts} (p : ReadSheet s y m d a y′ m′ d′) {r : Reason} (e : a ≡ Counts'.Refused r)
+module _ {s y m d y′ m′ d′ : List ℕ} {a : SheetCounts} (p : ReadSheet s y m d a y′ m′ d′) {r : Reason} (e : a ≡ Counts'.Refused r)
     (hy : 1000 ≤ length y) (hm : 1000 ≤ length m) (hd : 1000 ≤ length d) where
-  back :
-      (a : Answer Lists) → readInto s (length y) (length m) (length d) ≡ a →
-      _≡_ {A = Answer Counted} (refused (reasonNumber r)) (andThen a (λ l. is (counted l)))
-  back b f = ap saidCounts (sym e) ∙ p .answer ∙ ap (λ (b : Answer Lists). andThen b (λ l. is (counted l))) f
-
-  no-list : (l : Lists) → readSheet s ≡ is l → readInto s (length y) (length m) (length d) ≡ is l
-  unfolding readSheet
-  no-list l e =
-      let a = sheet-lies s (listsIn s) l e in
-      let f : counted l ≡ countsIn s = ap counted (sym (a .1)) ∙ counted-lists s in
-      read-with-room s l (length y) (length m) (length d) e
-      (omega (arith, ap (λ (c : Counted). c .years) f, a .0 .years .few, hy))
-      (omega (arith, ap (λ (c : Counted). c .months) f, a .0 .months .few, hm))
-      (omega (arith, ap (λ (c : Counted). c .days) f, a .0 .days .few, hd))
-
-  -- what is read, where there is room for it
-  abbrev roomFor : Answer Lists
-  roomFor = guard (room (listsIn s) (length y) (length m) (length d)) 12 (is (listsIn s))
-
-  then-back : (a : Answer Lists) → readSheet s ≡ a → readInto s (length y) (length m) (length d) ≡ andThen a (λ z. roomFor)
-  unfolding readSheet readInto
-  then-back a e = sheet-then s (listsIn s) roomFor ∙ ap (λ (b : Answer Lists). andThen b (λ z. roomFor)) e
-
-  go : (a : Answer Lists) → readSheet s ≡ a → readSheet s ≡ refused (reasonNumber r)
-  go (is l) e =
-      let f : _≡_ {A = Answer Counted} (refused (reasonNumber r)) (is (counted l)) = back (is l) (no-list l e) in
-      absurd (let o : _≡_ {A = ℕ} 0 1 = cc in omega arith)
-  go (refused k) e =
-      let f : _≡_ {A = Answer Counted} (refused (reasonNumber r)) (refused k) = back (refused k) (then-back (refused k) e) in
-      let n : k ≡ reasonNumber r = cc in
-      e ∙ ap refused n
-  go (refused-with k n) e =
-      let f : _≡_ {A = Answer Counted} (refused (reasonNumber r)) (refused-with k n) = back (refused-with k n) (then-back (refused-with k n) e) in
-      absurd (let o : _≡_ {A = ℕ} 0 1 = cc in omega arith)
+  own-fault : SheetFault s (length y) (length m) (length d) (reasonNumber r) → readSheet s ≡ refused (reasonNumber r)
+  unfolding GoodEach
+  own-fault (here f) = sheet-decided s .told (reasonNumber r) f
+  own-fault (later g f) =
+      let l = good-lists s g in
+      absurd (f .fails (omega (arith, l .0 .0, hy), omega (arith, l .1 .0 .0, hm), omega (arith, l .1 .1 .0 .0, hd)))
 
   pub sheet-refused : readSheet s ≡ refused (reasonNumber r)
-  sheet-refused = go (readSheet s) refl
+  sheet-refused =
+      own-fault
+      (if-refused (into-decided s (length y) (length m) (length d)) (reasonNumber r)
+      (refused-of (readInto s (length y) (length m) (length d)) counted (reasonNumber r) (ap saidCounts (sym e) ∙ p .answer)))

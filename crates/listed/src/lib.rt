@@ -2,8 +2,8 @@
 ghost use Prim.Native.Nat.{_+_, _*_, _≤_};
 ghost use mathlib.Core.Path.{_≡_};
 ghost use lib.ListN.{length};
-ghost use Rattle.sheet.specs.Sheet.{yearItems, monthItems, dayItems};
-ghost use Rattle.sheet.specs.Paper.{GoodList, GoodLists};
+ghost use Rattle.sheet.specs.Sheet.{ranged, yearItems, monthItems, dayItems};
+ghost use Rattle.sheet.specs.Faults.{GoodList, GoodLists};
 ghost use Rattle.fields.specs.Fields.{Put, each};
 ghost use Rattle.penned.specs.Lines.{yearBlock, monthItem, dayItem, listingOf, listing};
 ghost use Rattle.listed.specs.Paper.{inputHeld, InputListed};
@@ -11,7 +11,7 @@ use sheet::SheetCounts;
 
 // The blocks of years.
 fn put_years(years: &[u16], out: &mut [u8], at: usize) -> usize
-    requires { ⌜ GoodList yearItems (now years) × (at + 674 * length (now years) ≤ length (now out)) ⌝ }
+    requires { ⌜ GoodList (ranged yearItems) (now years) × (at + 674 * length (now years) ≤ length (now out)) ⌝ }
     ensures { λ r. ⌜ Put (674 * length (now (years .entry))) (now (out .entry)) at (each yearBlock (now (years .entry)))
         (now (out .exit)) r ⌝ }
 {
@@ -26,7 +26,7 @@ fn put_years(years: &[u16], out: &mut [u8], at: usize) -> usize
 
 // The `MONTH` lines of month items.
 fn put_month_items(months: &[u32], out: &mut [u8], at: usize) -> usize
-    requires { ⌜ GoodList monthItems (now months) × (at + 54 * length (now months) ≤ length (now out)) ⌝ }
+    requires { ⌜ GoodList (ranged monthItems) (now months) × (at + 54 * length (now months) ≤ length (now out)) ⌝ }
     ensures { λ r. ⌜ Put (54 * length (now (months .entry))) (now (out .entry)) at (each monthItem (now (months .entry)))
         (now (out .exit)) r ⌝ }
 {
@@ -41,7 +41,7 @@ fn put_month_items(months: &[u32], out: &mut [u8], at: usize) -> usize
 
 // The `DAY` lines of day items.
 fn put_day_items(days: &[u32], out: &mut [u8], at: usize) -> usize
-    requires { ⌜ GoodList dayItems (now days) × (at + 61 * length (now days) ≤ length (now out)) ⌝ }
+    requires { ⌜ GoodList (ranged dayItems) (now days) × (at + 61 * length (now days) ≤ length (now out)) ⌝ }
     ensures { λ r. ⌜ Put (61 * length (now (days .entry))) (now (out .entry)) at (each dayItem (now (days .entry)))
         (now (out .exit)) r ⌝ }
 {

@@ -50,30 +50,10 @@ use Rattle.sheet.specs.declared.SheetCounts.{SheetCounts}
 use Rattle.sheet.specs.declared.SheetCounts.the-variants as Counts'
 use Rattle.sheet.specs.declared.HowMany.{HowMany}
 use Rattle.sheet.specs.declared.HowMany.the-variants as HowMany'
-use Rattle.sheet.specs.Sheet.{
-  Lists,
-  number,
-  numbers,
-  lay,
-  layAll,
-  laySection,
-  itemsOf,
-  leftAfter,
-  listsIn,
-  sheetOf,
-  itemsRead,
-  countRead,
-  sectionRead,
-  daysRead,
-  monthsRead,
-  sheetRead,
-  readInto,
-  itemsWritten,
-  sectionWritten,
-  listsWritten,
-  writeInto,
-}
+use Rattle.sheet.specs.Sheet.{Lists, readInto}
 use Rattle.sheet.specs.Promises.{counted, saidCounts, saidHowMany}
+use Rattle.sheet.proofs.Reading.{reading}
+use Rattle.sheet.proofs.Writing.{writing}
 use Rattle.penned.specs.Promises.{yearBlockAt, monthLineAt, monthItemAt, dayItemAt, Printed}
 use Rattle.offered.specs.declared.CDate.{CDate}
 use Rattle.offered.specs.declared.CDay.{CDay}
@@ -468,16 +448,8 @@ searches : ℕ
 unfolding searchAt total fitting fits monthFits dayFits inRanges those
 searches = 0
 
-sheets-read : ℕ
-unfolding readInto sheetRead monthsRead daysRead sectionRead countRead itemsRead number numbers listsIn itemsOf leftAfter
-sheets-read = 0
-
-sheets-written : ℕ
-unfolding writeInto listsWritten sectionWritten itemsWritten sheetOf laySection lay layAll
-sheets-written = 0
-
 pub wrong-exported : Paper.Wrong-exported
-unfolding dates dateOf dateIn facts planets searches sheets-read sheets-written
+unfolding dates dateOf dateIn facts planets searches reading writing
 wrong-exported =
     record {
       refusing-days = λ r p. no-refusal (λ (x : CDate). x .reason) p refl;

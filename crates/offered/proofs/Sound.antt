@@ -4,7 +4,7 @@ use native.Mathlib.Omega.{arith}
 use mathlib.Core.Path.{_≡_, ap, sym, _∙_}
 use mathlib.Core.Logic.{_≢_}
 use mathlib.Core.Bool.{Bool, true, false}
-use mathlib.Core.List.{List, [], _∷_}
+use mathlib.Core.List.{List, [], _∷_, _++_}
 use lib.Dec.{leb}
 use lib.IntN.{ℤ, pos, negsuc, _+ℤ_}
 use lib.ListN.{length, drop}
@@ -43,33 +43,9 @@ use Rattle.facts.specs.Facts.{
   termAt,
 }
 use Rattle.planets.specs.Planets.{numbersOf, conjunctionDay, conjunctionOf, conjunctionAt, nextCount, nextOf, nextAt, pairOf, pairAt}
-use Rattle.sheet.specs.declared.Section.{Section}
-use Rattle.sheet.specs.Sheet.{
-  Lists,
-  number,
-  itemHolds,
-  countOf,
-  leftAfter,
-  monthsPart,
-  daysPart,
-  listsIn,
-  room,
-  sheetOf,
-  yearItems,
-  monthItems,
-  dayItems,
-  itemsRead,
-  countRead,
-  sectionRead,
-  daysRead,
-  monthsRead,
-  sheetRead,
-  readInto,
-  itemsWritten,
-  sectionWritten,
-  listsWritten,
-  writeInto,
-}
+use Rattle.sheet.specs.declared.Items.{Items}
+use Rattle.bytes.specs.Bytes.{number, lay}
+use Rattle.sheet.specs.Sheet.{Section, itemRead, itemsRead, countOf, countRead, sectionRead, leftAfter, ListsFor, sectionsRead, itemsWritten, sectionWritten, sectionsWritten, ranged, yearItems, monthItems, dayItems, Lists, named, inOrder, readSheet, room, readInto, writeSheet, writeInto}
 use Rattle.penned.specs.Lines.{yearBlock, monthLined, monthItem, dayItem}
 use Rattle.penned.specs.Promises.{yearBlockAt, monthLineAt, monthItemAt, dayItemAt}
 
@@ -162,46 +138,80 @@ unfolding pairAt
 pair-sound p = guarded (within 1 5 p) NoSuchPlanet (given (pairOf (numbersOf p)))
 
 -- a sheet read
-count-sound : (most : ℕ) (s : List ℕ) → Sound (countRead most s)
+item-sound : (k : Items) (s : List ℕ) → Sound (itemRead (ranged k) s)
+unfolding itemRead
+item-sound k s =
+    guarded (leb (k .width) (length s)) SheetEndsEarly
+    (guarded (within (k .least) (k .most) (number (k .width) s)) (k .reason) (given (number (k .width) s)))
+
+items-sound : (k : Items) (n : ℕ) (s : List ℕ) → Sound (itemsRead (ranged k) n s)
+unfolding itemsRead
+items-sound k zero s = given []
+items-sound k (suc n) s =
+    sound-then (λ x. andThen (itemsRead (ranged k) n (drop (k .width) s)) (λ xs. is (x ∷ xs))) (item-sound k s)
+    (λ x. sound-then (λ xs. is (x ∷ xs)) (items-sound k n (drop (k .width) s)) (λ xs. given (x ∷ xs)))
+
+count-sound : (k : Section) (s : List ℕ) → Sound (countRead k s)
 unfolding countRead
-count-sound most s = guarded (leb 2 (length s)) SheetEndsEarly (guarded (leb (countOf s) most) CountTooLarge (given (countOf s)))
+count-sound k s = guarded (leb 2 (length s)) SheetEndsEarly (guarded (leb (countOf s) (k .most)) CountTooLarge (given (countOf s)))
 
-module _ {A : Type 0} where
-  items-sound : (k : Section) (n : ℕ) (s : List ℕ) {a : Answer A} → Sound a → Sound (itemsRead k n s a)
-  unfolding itemsRead
-  items-sound k zero s a = a
-  items-sound k (suc n) s a = guarded (leb (k .width) (length s)) SheetEndsEarly (guarded (itemHolds k (number (k .width) s)) (k .reason) (items-sound k n (drop (k .width) s) a))
+section-sound : (k : Items) (s : List ℕ) → Sound (sectionRead (ranged k) s)
+unfolding sectionRead
+section-sound k s = sound-then (λ n. itemsRead (ranged k) n (drop 2 s)) (count-sound (ranged k) s) (λ n. items-sound k n (drop 2 s))
 
-  section-sound : (k : Section) (s : List ℕ) {a : Answer A} → Sound a → Sound (sectionRead k s a)
-  unfolding sectionRead
-  section-sound k s {a} p = sound-then (λ n. itemsRead k n (drop 2 s) a) (count-sound (k .items) s) (λ n. items-sound k n (drop 2 s) p)
+module _ (k : Section) (ks : List Section) where
+  next-sound-read : ((s : List ℕ) → Sound (sectionRead k s)) → ((s : List ℕ) → Sound (sectionsRead ks s)) → (s : List ℕ) → Sound (sectionsRead (k ∷ ks) s)
+  unfolding sectionsRead
+  next-sound-read p q s =
+      sound-then (λ xs. andThen (sectionsRead ks (leftAfter k s)) (λ l. is (xs, l))) (p s)
+      (λ xs. sound-then (λ l. is (xs, l)) (q (leftAfter k s)) (λ l. given (xs, l)))
 
-  sheet-sound : (s : List ℕ) {a : Answer A} → Sound a → Sound (sheetRead s a)
-  unfolding sheetRead monthsRead daysRead
-  sheet-sound s p =
-      section-sound yearItems s
-      (section-sound monthItems (monthsPart s)
-      (section-sound dayItems (daysPart s) (guarded (leb (length (leftAfter dayItems (daysPart s))) 0) BytesAfterLast p)))
+  next-sound-written : (l : ListsFor (k ∷ ks)) → Sound (sectionWritten k (l .0)) → Sound (sectionsWritten ks (l .1)) → Sound (sectionsWritten (k ∷ ks) l)
+  unfolding sectionsWritten
+  next-sound-written l p q =
+      sound-then (λ b. andThen (sectionsWritten ks (l .1)) (λ c. is (b ++ c))) p (λ b. sound-then (λ c. is (b ++ c)) q (λ c. given (b ++ c)))
 
-  -- and written
-  written-sound : (k : Section) (xs : List ℕ) {a : Answer A} → Sound a → Sound (itemsWritten k xs a)
-  unfolding itemsWritten
-  written-sound k [] a = a
-  written-sound k (x ∷ xs) a = guarded (itemHolds k x) (k .reason) (written-sound k xs a)
-
-  list-sound : (k : Section) (xs : List ℕ) {a : Answer A} → Sound a → Sound (sectionWritten k xs a)
-  unfolding sectionWritten
-  list-sound k xs p = guarded (leb (length xs) (k .items)) CountTooLarge (written-sound k xs p)
+end-sound : (s : List ℕ) → Sound (sectionsRead [] s)
+unfolding sectionsRead
+end-sound s = guarded (leb (length s) 0) BytesAfterLast (given tt)
 
 pub read-sound : (s : List ℕ) (y m d : ℕ) → Sound (readInto s y m d)
-unfolding readInto
-read-sound s y m d = sheet-sound s (guarded (room (listsIn s) y m d) LentTooShort (given (listsIn s)))
+unfolding readInto readSheet
+read-sound s y m d =
+    sound-then (λ l. guard (room l y m d) 12 (is l))
+    (sound-then (λ l. is (named l))
+    (next-sound-read (ranged yearItems) (ranged monthItems ∷ ranged dayItems ∷ []) (section-sound yearItems)
+    (next-sound-read (ranged monthItems) (ranged dayItems ∷ []) (section-sound monthItems)
+    (next-sound-read (ranged dayItems) [] (section-sound dayItems) end-sound)) s)
+    (λ l. given (named l)))
+    (λ l. guarded (room l y m d) LentTooShort (given l))
+
+-- and written
+values-sound : (k : Items) (xs : List ℕ) → Sound (itemsWritten (ranged k) xs)
+unfolding itemsWritten
+values-sound k [] = given []
+values-sound k (x ∷ xs) =
+    guarded (within (k .least) (k .most) x) (k .reason)
+    (sound-then (λ b. is (lay (k .width) x ++ b)) (values-sound k xs) (λ b. given (lay (k .width) x ++ b)))
+
+list-sound : (k : Items) (xs : List ℕ) → Sound (sectionWritten (ranged k) xs)
+unfolding sectionWritten
+list-sound k xs =
+    guarded (leb (length xs) (k .items)) CountTooLarge
+    (sound-then (λ b. is (lay 2 (length xs) ++ b)) (values-sound k xs) (λ b. given (lay 2 (length xs) ++ b)))
+
+no-list-sound : Sound (sectionsWritten [] tt)
+unfolding sectionsWritten
+no-list-sound = given []
 
 pub write-sound : (l : Lists) (n : ℕ) → Sound (writeInto l n)
-unfolding writeInto listsWritten
+unfolding writeInto writeSheet
 write-sound l n =
-    list-sound yearItems (l .years)
-    (list-sound monthItems (l .months) (list-sound dayItems (l .days) (in-room n (sheetOf l))))
+    sound-then (λ b. intoRoom n b)
+    (next-sound-written (ranged yearItems) (ranged monthItems ∷ ranged dayItems ∷ []) (inOrder l) (list-sound yearItems (l .years))
+    (next-sound-written (ranged monthItems) (ranged dayItems ∷ []) (l .months, (l .days, tt)) (list-sound monthItems (l .months))
+    (next-sound-written (ranged dayItems) [] (l .days, tt) (list-sound dayItems (l .days)) no-list-sound)))
+    (λ b. in-room n b)
 
 -- printed lines
 pub year-printed-sound : (y n : ℕ) → Sound (yearBlockAt y n)

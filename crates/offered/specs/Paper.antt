@@ -60,7 +60,7 @@ use Rattle.sheet.specs.declared.SheetCounts.the-variants as Counts'
 use Rattle.sheet.specs.declared.HowMany.{HowMany}
 use Rattle.sheet.specs.declared.HowMany.the-variants as HowMany'
 use Rattle.sheet.specs.Promises.{saidCounts, saidHowMany, ReadSheet, WriteSheet}
-use Rattle.sheet.specs.Paper.{emptySheet, sheetOf11, sheetOfTwos}
+use Rattle.sheet.specs.Sheet.{emptySheet, sheetOf11, sheetOfTwos}
 use Rattle.penned.specs.Promises.{PrintYear, PrintMonthLine, PrintMonth, PrintDay}
 use Rattle.offered.specs.declared.CDate.{CDate}
 use Rattle.offered.specs.declared.CDay.{CDay}

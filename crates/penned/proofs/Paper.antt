@@ -19,23 +19,10 @@ use Rattle.dates.specs.Dates.{dateIn, dateOf}
 use Rattle.facts.specs.Facts.{monthFacts, yearFacts}
 use Rattle.sheet.specs.declared.HowMany.{HowMany}
 use Rattle.sheet.specs.declared.HowMany.the-variants as HowMany'
-use Rattle.sheet.specs.Paper.{RestKept}
-use Rattle.sheet.proofs.Places.{unlike, InFront, rest-kept}
-use Rattle.sheet.proofs.Paper.{how-many-once, made-of, refused-of}
-use Rattle.sheet.specs.Sheet.{
-  number,
-  numbers,
-  itemsRead,
-  countRead,
-  sectionRead,
-  itemsOf,
-  leftAfter,
-  listsIn,
-  daysRead,
-  monthsRead,
-  sheetRead,
-  readSheet,
-}
+use Rattle.sheet.specs.Promises.{RestKept}
+use Rattle.sheet.proofs.Deciding.{made-of, refused-of}
+use Rattle.sheet.proofs.Reading.{reading}
+use Rattle.sheet.proofs.Places.{unlike, InFront, rest-kept, how-many-once}
 use Rattle.fields.specs.Fields.{followed, joined, each}
 use Rattle.penned.specs.Lines.{
   fieldsOfYear,
@@ -57,17 +44,12 @@ use Rattle.penned.proofs.Cases.{year-lines, year-11, line-134, month-13
 use Rattle.penned.proofs.Refusing.{printed-refused}
 use Rattle.penned.specs.Paper as Paper
 
--- what a sheet is computed with: on an `unfolding` line such a name brings all that its own line names
-sheets : ℕ
-unfolding number numbers itemsRead countRead sectionRead itemsOf leftAfter listsIn daysRead monthsRead sheetRead readSheet
-sheets = 0
-
 pub example-of-the-paper : Paper.Example-of-the-paper
-unfolding listing listingOf year-lines sheets
+unfolding listing listingOf year-lines reading
 example-of-the-paper = refl
 
 pub empty-listing : Paper.Empty-listing
-unfolding listing listingOf sheets each
+unfolding listing listingOf reading each
 empty-listing = refl
 
 pub refused-listing : Paper.Refused-listing

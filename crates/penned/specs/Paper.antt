@@ -14,8 +14,8 @@ use Rattle.rule.specs.declared.Reason.{Reason}
 use Rattle.rule.specs.declared.Reason.the-variants.{NoSuchYear, NoSuchMonth, NoSuchDay, LentTooShort}
 use Rattle.sheet.specs.declared.HowMany.{HowMany}
 use Rattle.sheet.specs.declared.HowMany.the-variants as HowMany'
-use Rattle.sheet.specs.Sheet.{Lists, readSheet}
-use Rattle.sheet.specs.Paper.{RestKept, emptySheet, sheetOf11}
+use Rattle.sheet.specs.Sheet.{Lists, readSheet, emptySheet, sheetOf11}
+use Rattle.sheet.specs.Promises.{RestKept}
 use Rattle.rule.specs.Lists.{placed}
 use Rattle.fields.specs.Fields.{word, decimal, mark, each, letterL, letterE}
 use Rattle.penned.specs.Lines.{

@@ -1,13 +1,7 @@
--- Laws of numbers in bytes, of reading, filling and writing, and the proofs of the statements.
-pub mod Cases
-pub mod Numbers
+-- Laws of what decides an answer, of reading, laying and writing.
+pub mod Deciding
 pub mod Reading
-pub mod Filling
+pub mod Laying
 pub mod Writing
-pub mod Parts
 pub mod Sheets
-pub mod RoundTrip
-pub mod Ends
-pub mod Faults
 pub mod Places
-pub mod Paper

@@ -1,74 +1,122 @@
--- Laws of checking lists before they are written, over any section. Assumes nothing.
-use Prim.Native.Nat.{ℕ, _+_, _≤_, _<_}
+-- Laws of writing: what decides it, over any section and any list of sections, and what each turn of the code comes to.
+-- Assumes nothing.
+use Prim.Native.Nat.{ℕ, suc, _+_, _≤_, _<_}
 use native.Mathlib.Numerals.{add-one}
-use mathlib.Core.Path.{_≡_, refl, ap, _∙_}
-use mathlib.Core.Bool.{Bool, true, false}
-use mathlib.Core.List.{List, [], _∷_}
+use mathlib.Core.Path.{_≡_, refl}
+use mathlib.Core.Logic.{Iff·rfl}
+use mathlib.Core.Bool.{true, false}
+use mathlib.Core.List.{List, [], _∷_, _++_}
 use lib.Dec.{leb}
 use lib.ListN.{length, getD, drop, drop-of-length-le}
 use lib.Seq.{drop-cons}
-use borrow.Author.Tests.{leb-true, le-leb, lt-leb}
-use Rattle.rule.specs.Reasons.{Answer, is, refused, guard, andThen, reasonNumber}
-use Rattle.rule.proofs.Answers.{holds-all}
-use Rattle.sheet.specs.declared.Section.{Section}
-use Rattle.sheet.specs.Sheet.{itemHolds, itemsWritten, sectionWritten}
+use borrow.Author.Tests.{le-leb, lt-leb}
+use Rattle.rule.specs.Reasons.{is, refused, andThen, intoRoom}
+use Rattle.rule.proofs.Answers.{at-most}
+use Rattle.bytes.specs.Bytes.{lay, layAll}
+use Rattle.sheet.specs.Sheet.{
+  Section,
+  ListsFor,
+  itemsWritten,
+  sectionWritten,
+  sectionsWritten,
+  laySection,
+  laySections,
+  sheetSections,
+  Lists,
+  inOrder,
+  sheetOf,
+  writeSheet,
+  writeInto,
+}
+use Rattle.sheet.specs.Faults.{GoodValues, ValuesFault, GoodList, ListFault, GoodEach, EachFault, GoodLists, ListsFault}
+use Rattle.sheet.proofs.Deciding.{
+  Decides,
+  asks-nothing,
+  asks,
+  asks-first,
+  and-then,
+  made-into,
+  if-given,
+  then-made,
+  stops-there,
+  goes-on,
+}
 
-module _ {A : Type 0} (k : Section) (xs : List ℕ) (a : Answer A) where
-  pub list-long : k .items < length xs → sectionWritten k xs a ≡ refused 10
+-- what writing is computed with: on an `unfolding` line this name brings all that its own line names
+unfoldable pub writing : ℕ
+unfolding lay layAll itemsWritten sectionWritten sectionsWritten laySection laySections sheetOf writeSheet writeInto
+writing = 0
+
+-- each reason comes from the first fault, and what is given from there being none
+module _ (k : Section) where
+  values-decided : (xs : List ℕ) → Decides (itemsWritten k xs) (layAll (k .width) xs) (ValuesFault k xs) (GoodValues k xs)
+  unfolding itemsWritten layAll ValuesFault GoodValues
+  values-decided [] = asks-nothing []
+  values-decided (x ∷ xs) = asks-first (k .good x) (k .reason x) Iff·rfl (made-into (values-decided xs) (λ b. lay (k .width) x ++ b))
+
+  list-decided : (xs : List ℕ) → Decides (sectionWritten k xs) (laySection k xs) (ListFault k xs) (GoodList k xs)
+  unfolding sectionWritten laySection
+  list-decided xs =
+      asks-first (leb (length xs) (k .most)) 10 (at-most (length xs) (k .most))
+      (made-into (values-decided xs) (λ b. lay 2 (length xs) ++ b))
+
+each-decided : (ks : List Section) (l : ListsFor ks) → Decides (sectionsWritten ks l) (laySections ks l) (EachFault ks l) (GoodEach ks l)
+unfolding sectionsWritten laySections EachFault GoodEach
+each-decided [] l = asks-nothing []
+each-decided (k ∷ ks) l =
+    and-then (list-decided k (l .0)) (λ b. andThen (sectionsWritten ks (l .1)) (λ c. is (b ++ c)))
+    (made-into (each-decided ks (l .1)) (λ c. laySection k (l .0) ++ c))
+
+pub lists-decided : (l : Lists) → Decides (writeSheet l) (sheetOf l) (EachFault sheetSections (inOrder l)) (GoodLists l)
+unfolding writeSheet sheetOf
+lists-decided l = each-decided sheetSections (inOrder l)
+
+pub buffer-decided : (l : Lists) (n : ℕ) → Decides (writeInto l n) (sheetOf l) (ListsFault l n) (GoodLists l × (length (sheetOf l) ≤ n))
+unfolding writeInto
+buffer-decided l n =
+    and-then (lists-decided l) (λ b. intoRoom n b) (asks (leb (length (sheetOf l)) n) 12 (at-most (length (sheetOf l)) n) (sheetOf l))
+
+-- a list: too long, or its items one by one; only whether all are good is asked
+module _ {A : Type 0} (k : Section) (xs : List ℕ) (z : A) where
+  pub list-long : k .most < length xs → andThen (sectionWritten k xs) (λ b. is z) ≡ refused 10
   unfolding sectionWritten
-  list-long h = rw (lt-leb (length xs) (k .items) h)
+  list-long h = rw (lt-leb (length xs) (k .most) h)
 
-  pub list-short : length xs ≤ k .items → sectionWritten k xs a ≡ itemsWritten k xs a
+  pub list-short : length xs ≤ k .most → andThen (sectionWritten k xs) (λ b. is z) ≡ andThen (itemsWritten k xs) (λ b. is z)
   unfolding sectionWritten
-  list-short h = rw (le-leb (length xs) (k .items) h)
+  list-short h = rw (le-leb (length xs) (k .most) h) (then-made (itemsWritten k xs) (λ b. lay 2 (length xs) ++ b) (λ b. is z))
 
-  -- the next item
-  pub item-bad : (i : ℕ) → i < length xs → itemHolds k (getD xs i 0) ≡ false → itemsWritten k (drop i xs) a ≡ refused (reasonNumber (k .reason))
+  pub item-bad : (i : ℕ) → i < length xs → k .good (getD xs i 0) ≡ false →
+      andThen (itemsWritten k (drop i xs)) (λ b. is z) ≡ refused (k .reason (getD xs i 0))
   unfolding itemsWritten
   item-bad i h o = rw (drop-cons xs i 0 h, o)
 
-  pub item-on : (i : ℕ) → i < length xs → itemHolds k (getD xs i 0) ≡ true → itemsWritten k (drop i xs) a ≡ itemsWritten k (drop (i + 1) xs) a
+  pub item-on : (i : ℕ) → i < length xs → k .good (getD xs i 0) ≡ true →
+      andThen (itemsWritten k (drop i xs)) (λ b. is z) ≡ andThen (itemsWritten k (drop (i + 1) xs)) (λ b. is z)
   unfolding itemsWritten
-  item-on i h o = rw (drop-cons xs i 0 h, o, add-one i)
+  item-on i h o =
+      rw (drop-cons xs i 0 h, o, add-one i) (then-made (itemsWritten k (drop (suc i) xs)) (λ b. lay (k .width) (getD xs i 0) ++ b) (λ b. is z))
 
-  pub items-end : (i : ℕ) → length xs ≤ i → itemsWritten k (drop i xs) a ≡ a
+  pub items-end : (i : ℕ) → length xs ≤ i → andThen (itemsWritten k (drop i xs)) (λ b. is z) ≡ is z
   unfolding itemsWritten
   items-end i h = rw (drop-of-length-le xs h)
 
--- what goes on after a list does not bear on whether it is good
-written-then : {A B : Type 0} (k : Section) (xs : List ℕ) (x : A) (b : Answer B) → itemsWritten k xs b ≡ andThen (itemsWritten k xs (is x)) (λ y. b)
-unfolding itemsWritten
-written-then k [] x b = refl
-written-then {A} {B} k (z ∷ xs) x b = go (written-then k xs x b) (itemHolds k z)
-  where
-    go : itemsWritten k xs b ≡ andThen (itemsWritten k xs (is x)) (λ y. b) → (q : Bool) →
-        guard q (reasonNumber (k .reason)) (itemsWritten k xs b) ≡ andThen (guard q (reasonNumber (k .reason)) (itemsWritten k xs (is x))) (λ y. b)
-    go e true = e
-    go e false = refl
+-- a list found good, with n items
+pub list-found : (k : Section) (xs : List ℕ) (n : ℕ) → andThen (sectionWritten k xs) (λ b. is (length xs)) ≡ is n →
+    (length xs ≤ k .most) × (length xs ≡ n)
+list-found k xs n h = let a = if-given (made-into (list-decided k xs) (λ b. length xs)) n h in (a .0 .0, a .1)
 
-pub list-then : {A B : Type 0} (k : Section) (xs : List ℕ) (x : A) (b : Answer B) → sectionWritten k xs b ≡ andThen (sectionWritten k xs (is x)) (λ y. b)
-unfolding sectionWritten
-list-then {A} {B} k xs x b = go (leb (length xs) (k .items))
-  where
-    go : (q : Bool) → guard q 10 (itemsWritten k xs b) ≡ andThen (guard q 10 (itemsWritten k xs (is x))) (λ y. b)
-    go true = written-then k xs x b
-    go false = refl
+-- the list at the front stops the writing, or it goes on
+module _ {A : Type 0} (k : Section) (ks : List Section) (l : ListsFor (k ∷ ks)) (z : A) where
+  pub list-stops : (n r : ℕ) → andThen (sectionWritten k (l .0)) (λ b. is n) ≡ refused r → andThen (sectionsWritten (k ∷ ks) l) (λ b. is z) ≡ refused r
+  unfolding sectionsWritten
+  list-stops n r h = stops-there (sectionWritten k (l .0)) (sectionsWritten ks (l .1)) (λ b c. b ++ c) n z r h
 
-module _ {A B : Type 0} (k : Section) (xs : List ℕ) (x : A) (b : Answer B) where
-  pub list-on : (y : A) → sectionWritten k xs (is x) ≡ is y → sectionWritten k xs b ≡ b
-  list-on y h = list-then k xs x b ∙ ap (λ (c : Answer A). andThen c (λ y. b)) h
+  pub list-passes : (n m : ℕ) → andThen (sectionWritten k (l .0)) (λ b. is n) ≡ is m →
+      andThen (sectionsWritten (k ∷ ks) l) (λ b. is z) ≡ andThen (sectionsWritten ks (l .1)) (λ b. is z)
+  unfolding sectionsWritten
+  list-passes n m h = goes-on (sectionWritten k (l .0)) (sectionsWritten ks (l .1)) (λ b c. b ++ c) n z m h
 
-  pub list-stop : (r : ℕ) → sectionWritten k xs (is x) ≡ refused r → sectionWritten k xs b ≡ refused r
-  list-stop r h = list-then k xs x b ∙ ap (λ (c : Answer A). andThen c (λ y. b)) h
-
--- a list that is good is not too long
-items-same : {A : Type 0} (k : Section) (xs : List ℕ) (x y : A) → itemsWritten k xs (is x) ≡ is y → x ≡ y
-unfolding itemsWritten
-items-same {A} k [] x y h = let e : _≡_ {A = Answer A} (is x) (is y) = h in cc
-items-same k (z ∷ xs) x y h = items-same k xs x y (holds-all (itemHolds k z) (reasonNumber (k .reason)) _ y .0 h .1)
-
-pub list-few : {A : Type 0} (k : Section) (xs : List ℕ) (x y : A) → sectionWritten k xs (is x) ≡ is y → (length xs ≤ k .items) × (x ≡ y)
-unfolding sectionWritten
-list-few k xs x y h =
-    let a = holds-all (leb (length xs) (k .items)) 10 (itemsWritten k xs (is x)) y .0 h in
-    (leb-true (length xs) (k .items) (a .0), items-same k xs x y (a .1))
+pub no-list : {A : Type 0} (z : A) → andThen (sectionsWritten [] tt) (λ b. is z) ≡ is z
+unfolding sectionsWritten
+no-list z = refl

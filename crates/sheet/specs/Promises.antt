@@ -3,7 +3,7 @@
 use Prim.Native.Nat.{ℕ}
 use mathlib.Core.Path.{_≡_}
 use mathlib.Core.List.{List}
-use lib.ListN.{length}
+use lib.ListN.{length, drop}
 use Rattle.rule.specs.Reasons.{Answer, is, refused, reasonNumber, andThen, afterwards}
 use Rattle.sheet.specs.declared.Counted.{Counted}
 use Rattle.sheet.specs.declared.SheetCounts.{SheetCounts}
@@ -43,3 +43,8 @@ pub record ReadSheet (s y m d : List ℕ) (r : SheetCounts) (y′ m′ d′ : Li
 pub record WriteSheet (y m d o : List ℕ) (r : HowMany) (o′ : List ℕ) : Type 0 where
   pub answer : saidHowMany r ≡ andThen (writeInto (record { years = y; months = m; days = d }) (length o)) (λ b. is (length b))
   pub buffer : o′ ≡ afterwards (writeInto (record { years = y; months = m; days = d }) (length o)) (λ b. b) o
+
+-- "Both leave places beyond what they fill untouched", where n places are filled
+pub record RestKept (n : ℕ) (old new : List ℕ) : Type 0 where
+  pub places : length new ≡ length old
+  pub rest : drop n new ≡ drop n old

@@ -1,65 +1,45 @@
 -- "The sheet": its bytes, what reading it answers for every list of bytes, and what writing answers; refusals in the paper's order.
--- Assumes nothing.
-use Prim.Native.Nat.{ℕ, zero, suc, _+_, _*_, _/_, _%_}
+-- All but the last part is over any list of sections. Assumes nothing.
+use Prim.Native.Nat.{ℕ, zero, suc, _+_, _*_}
 use mathlib.Core.Bool.{Bool, _&&_}
 use mathlib.Core.List.{List, [], _∷_, _++_}
 use lib.Dec.{leb}
-use lib.ListN.{length, getD, drop}
+use lib.ListN.{length, drop}
 use Rattle.rule.specs.Reasons.{Answer, is, guard, andThen, within, reasonNumber, intoRoom}
 use Rattle.rule.specs.declared.Reason.the-variants.{NoSuchYear, NoSuchMonth, NoSuchDay}
-use Rattle.sheet.specs.declared.Section.{Section}
+use Rattle.bytes.specs.Bytes.{number, numbers, lay, layAll}
+use Rattle.sheet.specs.declared.Items.{Items}
 
--- "Numbers are least byte first": the number in the first w bytes, and the w bytes of a number
-unfoldable pub number : ℕ → List ℕ → ℕ
-number zero s = 0
-number (suc w) s = getD s 0 0 + 256 * number w (drop 1 s)
+-- a section of a sheet: the bytes of an item, the most items, whether an item is good, and the reason where it is not. An item is
+-- the number in its bytes, least byte first, of whatever fields it is made up
+pub record Section : Type 0 where
+  pub width : ℕ
+  pub most : ℕ
+  pub good : ℕ → Bool
+  pub reason : ℕ → ℕ
 
-unfoldable pub lay : ℕ → ℕ → List ℕ
-lay zero x = []
-lay (suc w) x = (x % 256) ∷ lay w (x / 256)
-
--- the first n numbers of w bytes each, and the bytes of a list of numbers
-unfoldable pub numbers : ℕ → ℕ → List ℕ → List ℕ
-numbers w zero s = []
-numbers w (suc n) s = number w s ∷ numbers w n (drop w s)
-
-unfoldable pub layAll : ℕ → List ℕ → List ℕ
-layAll w [] = []
-layAll w (x ∷ xs) = lay w x ++ layAll w xs
-
--- "Three sections in fixed order, each after its count: years (2 bytes each), months (4), days (4)": the bytes of an item, the
--- least and the most that it may be, the reason where it is not, and "Each count is at most 1,000"
-abbrev pub yearItems : Section
-yearItems = record { width = 2; least = 1; most = 41040; reason = NoSuchYear; items = 1000 }
-
-abbrev pub monthItems : Section
-monthItems = record { width = 4; least = 0; most = 507599; reason = NoSuchMonth; items = 1000 }
-
-abbrev pub dayItems : Section
-dayItems = record { width = 4; least = 0; most = 14989859; reason = NoSuchDay; items = 1000 }
-
--- an item of a section is in the section's range
-abbrev pub itemHolds : Section → ℕ → Bool
-itemHolds k x = within (k .least) (k .most) x
-
--- reading n items, one by one: 9 where an item is not whole, then the section's own reason; else the answer goes on
-unfoldable pub itemsRead : {A : Type 0} → Section → ℕ → List ℕ → Answer A → Answer A
-itemsRead k zero s a = a
-itemsRead k (suc n) s a =
+-- reading an item at the front of s: 9 where it is not whole, then its own reason
+unfoldable pub itemRead : Section → List ℕ → Answer ℕ
+itemRead k s =
     guard (leb (k .width) (length s)) 9
-    (guard (itemHolds k (number (k .width) s)) (reasonNumber (k .reason)) (itemsRead k n (drop (k .width) s) a))
+    (guard (k .good (number (k .width) s)) (k .reason (number (k .width) s)) (is (number (k .width) s)))
+
+-- n items, one by one
+unfoldable pub itemsRead : Section → ℕ → List ℕ → Answer (List ℕ)
+itemsRead k zero s = is []
+itemsRead k (suc n) s = andThen (itemRead k s) (λ x. andThen (itemsRead k n (drop (k .width) s)) (λ xs. is (x ∷ xs)))
 
 -- "A count is 2 bytes": a section's count
 abbrev pub countOf : List ℕ → ℕ
 countOf s = number 2 s
 
 -- reading a count: 9, then 10
-unfoldable pub countRead : ℕ → List ℕ → Answer ℕ
-countRead most s = guard (leb 2 (length s)) 9 (guard (leb (countOf s) most) 10 (is (countOf s)))
+unfoldable pub countRead : Section → List ℕ → Answer ℕ
+countRead k s = guard (leb 2 (length s)) 9 (guard (leb (countOf s) (k .most)) 10 (is (countOf s)))
 
 -- reading a section: its count, then item by item
-unfoldable pub sectionRead : {A : Type 0} → Section → List ℕ → Answer A → Answer A
-sectionRead k s a = andThen (countRead (k .items) s) (λ n. itemsRead k n (drop 2 s) a)
+unfoldable pub sectionRead : Section → List ℕ → Answer (List ℕ)
+sectionRead k s = andThen (countRead k s) (λ n. itemsRead k n (drop 2 s))
 
 -- the items of a section at the front of s, and what is left: "each section starts where the one before it ended"
 unfoldable pub itemsOf : Section → List ℕ → List ℕ
@@ -67,6 +47,67 @@ itemsOf k s = numbers (k .width) (countOf s) (drop 2 s)
 
 unfoldable pub leftAfter : Section → List ℕ → List ℕ
 leftAfter k s = drop (2 + k .width * countOf s) s
+
+-- a list for each of the sections
+abbrev pub ListsFor : List Section → Type 0
+ListsFor [] = Unit {0}
+ListsFor (k ∷ ks) = List ℕ × ListsFor ks
+
+-- the lists that stand in the sections
+unfoldable pub listsOf : (ks : List Section) → List ℕ → ListsFor ks
+listsOf [] s = tt
+listsOf (k ∷ ks) s = (itemsOf k s, listsOf ks (leftAfter k s))
+
+-- reading the sections in order, then 11 for bytes after the last
+unfoldable pub sectionsRead : (ks : List Section) → List ℕ → Answer (ListsFor ks)
+sectionsRead [] s = guard (leb (length s) 0) 11 (is tt)
+sectionsRead (k ∷ ks) s = andThen (sectionRead k s) (λ xs. andThen (sectionsRead ks (leftAfter k s)) (λ l. is (xs, l)))
+
+-- writing items, one by one: their own reason; then their bytes
+unfoldable pub itemsWritten : Section → List ℕ → Answer (List ℕ)
+itemsWritten k [] = is []
+itemsWritten k (x ∷ xs) = guard (k .good x) (k .reason x) (andThen (itemsWritten k xs) (λ b. is (lay (k .width) x ++ b)))
+
+-- writing a section: a list's length is its count (10), then its items
+unfoldable pub sectionWritten : Section → List ℕ → Answer (List ℕ)
+sectionWritten k xs = guard (leb (length xs) (k .most)) 10 (andThen (itemsWritten k xs) (λ b. is (lay 2 (length xs) ++ b)))
+
+-- writing the sections in order
+unfoldable pub sectionsWritten : (ks : List Section) → ListsFor ks → Answer (List ℕ)
+sectionsWritten [] l = is []
+sectionsWritten (k ∷ ks) l = andThen (sectionWritten k (l .0)) (λ b. andThen (sectionsWritten ks (l .1)) (λ c. is (b ++ c)))
+
+-- the bytes of a section, and of sections in order
+unfoldable pub laySection : Section → List ℕ → List ℕ
+laySection k xs = lay 2 (length xs) ++ layAll (k .width) xs
+
+unfoldable pub laySections : (ks : List Section) → ListsFor ks → List ℕ
+laySections [] l = []
+laySections (k ∷ ks) l = laySection k (l .0) ++ laySections ks (l .1)
+
+-- a section whose items lie in one range, with one reason
+abbrev pub ranged : Items → Section
+ranged k =
+    record {
+      width = k .width;
+      most = k .items;
+      good = λ x. within (k .least) (k .most) x;
+      reason = λ x. reasonNumber (k .reason);
+    }
+
+-- "Three sections in fixed order, each after its count: years (2 bytes each), months (4), days (4)": the bytes of an item, the
+-- least and the most that it may be, the reason where it is not, and "Each count is at most 1,000"
+abbrev pub yearItems : Items
+yearItems = record { width = 2; least = 1; most = 41040; reason = NoSuchYear; items = 1000 }
+
+abbrev pub monthItems : Items
+monthItems = record { width = 4; least = 0; most = 507599; reason = NoSuchMonth; items = 1000 }
+
+abbrev pub dayItems : Items
+dayItems = record { width = 4; least = 0; most = 14989859; reason = NoSuchDay; items = 1000 }
+
+abbrev pub sheetSections : List Section
+sheetSections = ranged yearItems ∷ ranged monthItems ∷ ranged dayItems ∷ []
 
 -- the three lists of a sheet
 pub record Lists : Type 0 where
@@ -78,29 +119,26 @@ pub record Lists : Type 0 where
 abbrev pub threeLists : List ℕ → List ℕ → List ℕ → Lists
 threeLists y m d = record { years = y; months = m; days = d }
 
+-- the lists of the three sections by their names, and in order
+abbrev pub named : ListsFor sheetSections → Lists
+named l = threeLists (l .0) (l .1 .0) (l .1 .1 .0)
+
+abbrev pub inOrder : Lists → ListsFor sheetSections
+inOrder l = (l .years, (l .months, (l .days, tt)))
+
+-- where the months and the days start in a sheet, and the three lists that stand in it
 abbrev pub monthsPart : List ℕ → List ℕ
-monthsPart s = leftAfter yearItems s
+monthsPart s = leftAfter (ranged yearItems) s
 
 abbrev pub daysPart : List ℕ → List ℕ
-daysPart s = leftAfter monthItems (monthsPart s)
+daysPart s = leftAfter (ranged monthItems) (monthsPart s)
 
 unfoldable pub listsIn : List ℕ → Lists
-listsIn s =
-    record { years = itemsOf yearItems s; months = itemsOf monthItems (monthsPart s); days = itemsOf dayItems (daysPart s) }
-
--- the sections in order, then 11 for bytes after the last
-unfoldable pub daysRead : {A : Type 0} → List ℕ → Answer A → Answer A
-daysRead s a = sectionRead dayItems s (guard (leb (length (leftAfter dayItems s)) 0) 11 a)
-
-unfoldable pub monthsRead : {A : Type 0} → List ℕ → Answer A → Answer A
-monthsRead s a = sectionRead monthItems s (daysRead (leftAfter monthItems s) a)
-
-unfoldable pub sheetRead : {A : Type 0} → List ℕ → Answer A → Answer A
-sheetRead s a = sectionRead yearItems s (monthsRead (leftAfter yearItems s) a)
+listsIn s = named (listsOf sheetSections s)
 
 -- what a sheet's bytes say, with room enough for the lists
 unfoldable pub readSheet : List ℕ → Answer Lists
-readSheet s = sheetRead s (is (listsIn s))
+readSheet s = andThen (sectionsRead sheetSections s) (λ l. is (named l))
 
 -- three lent lists of y, m and d places hold the lists
 abbrev pub room : Lists → ℕ → ℕ → ℕ → Bool
@@ -108,30 +146,28 @@ room l y m d = leb (length (l .years)) y && leb (length (l .months)) m && leb (l
 
 -- reading into three lent lists: 12 last
 unfoldable pub readInto : List ℕ → ℕ → ℕ → ℕ → Answer Lists
-readInto s y m d = sheetRead s (guard (room (listsIn s) y m d) 12 (is (listsIn s)))
+readInto s y m d = andThen (readSheet s) (λ l. guard (room l y m d) 12 (is l))
 
--- writing: a list's length is its count (10), then its items
-unfoldable pub itemsWritten : {A : Type 0} → Section → List ℕ → Answer A → Answer A
-itemsWritten k [] a = a
-itemsWritten k (x ∷ xs) a = guard (itemHolds k x) (reasonNumber (k .reason)) (itemsWritten k xs a)
-
-unfoldable pub sectionWritten : {A : Type 0} → Section → List ℕ → Answer A → Answer A
-sectionWritten k xs a = guard (leb (length xs) (k .items)) 10 (itemsWritten k xs a)
-
-unfoldable pub listsWritten : {A : Type 0} → Lists → Answer A → Answer A
-listsWritten l a =
-    sectionWritten yearItems (l .years) (sectionWritten monthItems (l .months) (sectionWritten dayItems (l .days) a))
-
--- the bytes of a section, and of the sheet
-unfoldable pub laySection : Section → List ℕ → List ℕ
-laySection k xs = lay 2 (length xs) ++ layAll (k .width) xs
-
+-- the sheet of three lists
 unfoldable pub sheetOf : Lists → List ℕ
-sheetOf l = laySection yearItems (l .years) ++ (laySection monthItems (l .months) ++ laySection dayItems (l .days))
+sheetOf l = laySections sheetSections (inOrder l)
 
 unfoldable pub writeSheet : Lists → Answer (List ℕ)
-writeSheet l = listsWritten l (is (sheetOf l))
+writeSheet l = sectionsWritten sheetSections (inOrder l)
 
 -- writing into a lent buffer of n bytes: 12 last
 unfoldable pub writeInto : Lists → ℕ → Answer (List ℕ)
-writeInto l n = listsWritten l (intoRoom n (sheetOf l))
+writeInto l n = andThen (writeSheet l) (λ b. intoRoom n b)
+
+-- the empty sheet of case 12, the paper's sheet of the year 11 alone, and a sheet with two items in each list: the years 11 and 12,
+-- the months 123 and 134, the days 28 and 29
+abbrev pub emptySheet : List ℕ
+emptySheet = 0 ∷ 0 ∷ 0 ∷ 0 ∷ 0 ∷ 0 ∷ []
+
+abbrev pub sheetOf11 : List ℕ
+sheetOf11 = 1 ∷ 0 ∷ 11 ∷ 0 ∷ 0 ∷ 0 ∷ 0 ∷ 0 ∷ []
+
+abbrev pub sheetOfTwos : List ℕ
+sheetOfTwos =
+    (2 ∷ 0 ∷ 11 ∷ 0 ∷ 12 ∷ 0 ∷ [])
+    ++ ((2 ∷ 0 ∷ 123 ∷ 0 ∷ 0 ∷ 0 ∷ 134 ∷ 0 ∷ 0 ∷ 0 ∷ []) ++ (2 ∷ 0 ∷ 28 ∷ 0 ∷ 0 ∷ 0 ∷ 29 ∷ 0 ∷ 0 ∷ 0 ∷ []))

@@ -1,35 +1,30 @@
 // The sheet: three sections of years, months and days, read into three lent lists and written into a lent buffer.
 ghost use mathlib.Core.Path.{_≡_};
-ghost use Prim.Native.Nat.{_+_, _*_, _^_, _≤_, _<_};
+ghost use Prim.Native.Nat.{_≤_, _<_};
 ghost use mathlib.Core.Bool.{_&&_};
 ghost use lib.Dec.{leb};
-ghost use lib.ListN.{length, drop};
+ghost use lib.ListN.{length};
 ghost use lib.Seq.{sets};
-ghost use Rattle.rule.specs.Reasons.{is};
+ghost use Rattle.rule.specs.Reasons.{is, andThen, within};
 ghost use Rattle.sheet.specs.Sheet.{
-  number,
-  numbers,
-  lay,
-  layAll,
-  monthItems,
-  itemHolds,
-  itemsRead,
+  ranged,
   countOf,
+  itemsRead,
   countRead,
   sectionRead,
-  leftAfter,
-  daysRead,
-  monthsRead,
-  sheetRead,
+  sectionsRead,
+  sheetSections,
   sectionWritten,
+  threeLists,
   sheetOf,
+  writeSheet,
 };
-ghost use Rattle.sheet.specs.Steps.{Filling, Filled, RoomToLay, sizeWithDays, sizeWithMonths, sizeWithYears};
-ghost use Rattle.sheet.specs.Promises.{saidCounts, countsAre, countsIn, saidHowMany, ReadSheet, WriteSheet};
+ghost use Rattle.sheet.specs.Steps.{SectionAt, ToFill, Filled, ToLay};
+ghost use Rattle.sheet.specs.Promises.{saidCounts, countsIn, saidHowMany, ReadSheet, WriteSheet};
 use rule::Reason;
 
-// A section: the bytes of an item, the least and the most that it may be, the reason where it is not, and the most items.
-pub struct Section {
+// The items of a section: the bytes of one, the least and the most that it may be, the reason where it is not, and the most items.
+pub struct Items {
     pub width: usize,
     pub least: u32,
     pub most: u32,
@@ -56,7 +51,7 @@ pub enum HowMany {
     Refused(Reason),
 }
 
-const YEARS: Section = Section {
+const YEARS: Items = Items {
     width: 2,
     least: 1,
     most: 41040,
@@ -64,7 +59,7 @@ const YEARS: Section = Section {
     items: 1000,
 };
 
-const MONTHS: Section = Section {
+const MONTHS: Items = Items {
     width: 4,
     least: 0,
     most: 507599,
@@ -72,27 +67,13 @@ const MONTHS: Section = Section {
     items: 1000,
 };
 
-const DAYS: Section = Section {
+const DAYS: Items = Items {
     width: 4,
     least: 0,
     most: 14989859,
     reason: Reason::NoSuchDay,
     items: 1000,
 };
-
-// The number in the first bytes, least byte first.
-fn number_in(s: &[u8], width: usize) -> u32
-    requires { ⌜ (width ≤ 4) × (width ≤ length (now s)) ⌝ }
-    ensures { λ r. ⌜ (r ≡ number width (now (s .entry))) × (r < 256 ^ width) ⌝ }
-{
-    let mut x: u32 = 0;
-    let mut i = width;
-    while 0 < i {
-        i -= 1;
-        x = x * 256 + s[i] as u32;
-    }
-    x
-}
 
 // Are so many bytes left?
 fn is_whole(s: &[u8], width: usize) -> bool
@@ -102,30 +83,30 @@ fn is_whole(s: &[u8], width: usize) -> bool
 }
 
 // Is an item in its section's range?
-fn is_in_section(k: Section, x: u32) -> bool
-    ensures { λ r. ⌜ r ≡ itemHolds k x ⌝ }
+fn is_in_section(k: Items, x: u32) -> bool
+    ensures { λ r. ⌜ r ≡ within (k .least) (k .most) x ⌝ }
 {
     rule::in_range(k.least, k.most, x)
 }
 
 // A section's count: reason 9, then 10.
-fn count_at(s: &[u8], most: usize) -> HowMany
-    ensures { λ r. ⌜ saidHowMany r ≡ countRead most (now (s .entry)) ⌝ }
+fn count_at(s: &[u8], k: Items) -> HowMany
+    ensures { λ r. ⌜ saidHowMany r ≡ countRead (ranged k) (now (s .entry)) ⌝ }
 {
     if !is_whole(s, 2) {
         return HowMany::Refused(Reason::SheetEndsEarly);
     }
-    let n = number_in(s, 2) as usize;
-    if most < n {
+    let n = bytes::number_in(s, 2) as usize;
+    if k.items < n {
         return HowMany::Refused(Reason::CountTooLarge);
     }
     HowMany::Is(n)
 }
 
 // The items of a section, one by one: reason 9, then the section's own.
-fn check_items(s: &[u8], k: Section, n: usize) -> HowMany
+fn check_items(s: &[u8], k: Items, n: usize) -> HowMany
     requires { ⌜ k .width ≤ 4 ⌝ }
-    ensures { λ r. ⌜ saidHowMany r ≡ itemsRead k n (now (s .entry)) (is n) ⌝ }
+    ensures { λ r. ⌜ saidHowMany r ≡ andThen (itemsRead (ranged k) n (now (s .entry))) (λ xs. is n) ⌝ }
 {
     let width = k.width;
     let reason = k.reason;
@@ -135,7 +116,7 @@ fn check_items(s: &[u8], k: Section, n: usize) -> HowMany
         if !is_whole(t, width) {
             return HowMany::Refused(Reason::SheetEndsEarly);
         }
-        if !is_in_section(k, number_in(t, width)) {
+        if !is_in_section(k, bytes::number_in(t, width)) {
             return HowMany::Refused(reason);
         }
         t = &t[width..];
@@ -145,99 +126,79 @@ fn check_items(s: &[u8], k: Section, n: usize) -> HowMany
 }
 
 // A section at the front of what is left: its count, then its items.
-fn check_section(s: &[u8], k: Section) -> HowMany
+fn check_section(s: &[u8], k: Items) -> HowMany
     requires { ⌜ k .width ≤ 4 ⌝ }
-    ensures { λ r. ⌜ saidHowMany r ≡ sectionRead k (now (s .entry)) (is (countOf (now (s .entry)))) ⌝ }
+    ensures { λ r. ⌜ saidHowMany r ≡ andThen (sectionRead (ranged k) (now (s .entry))) (λ xs. is (countOf (now (s .entry)))) ⌝ }
 {
-    match count_at(s, k.items) {
+    match count_at(s, k) {
         HowMany::Refused(r) => HowMany::Refused(r),
         HowMany::Is(n) => check_items(&s[2..], k, n),
     }
 }
 
-// What is left after the years and the months: the days, and nothing after them.
-fn check_days(s: &[u8], years: usize, months: usize) -> SheetCounts
-    ensures { λ r. ⌜ saidCounts r ≡ daysRead (now (s .entry))
-        (is (countsAre years months (countOf (now (s .entry))))) ⌝ }
+// The section in a place of the sheet: the years, the months, the days.
+fn section_at(j: usize) -> Items
+    requires { ⌜ j < 3 ⌝ }
+    ensures { λ r. ⌜ SectionAt j r ⌝ }
 {
-    match check_section(s, DAYS) {
-        HowMany::Refused(r) => SheetCounts::Refused(r),
-        HowMany::Is(n) => {
-            if 2 + 4 * n < s.len() {
-                return SheetCounts::Refused(Reason::BytesAfterLast);
-            }
-            SheetCounts::Is(Counted {
-                years: years,
-                months: months,
-                days: n,
-            })
-        }
+    if j == 0 {
+        return YEARS;
     }
+    if j == 1 {
+        return MONTHS;
+    }
+    DAYS
 }
 
-// What is left after the years: the months, and then what is left after them.
-fn check_months(s: &[u8], years: usize) -> SheetCounts
-    ensures { λ r. ⌜ saidCounts r ≡ monthsRead (now (s .entry))
-        (is (countsAre years (countOf (now (s .entry))) (countOf (leftAfter monthItems (now (s .entry)))))) ⌝ }
-{
-    match check_section(s, MONTHS) {
-        HowMany::Refused(r) => SheetCounts::Refused(r),
-        HowMany::Is(n) => check_days(&s[2 + 4 * n..], years, n),
-    }
-}
-
-// The whole sheet: the years, and then what is left after them.
+// The whole sheet: each section is handed what the one before it left, and after the last nothing is left.
 fn check_sheet(s: &[u8]) -> SheetCounts
-    ensures { λ r. ⌜ saidCounts r ≡ sheetRead (now (s .entry)) (is (countsIn (now (s .entry)))) ⌝ }
+    ensures { λ r. ⌜ saidCounts r ≡ andThen (sectionsRead sheetSections (now (s .entry))) (λ l. is (countsIn (now (s .entry)))) ⌝ }
 {
-    match check_section(s, YEARS) {
-        HowMany::Refused(r) => SheetCounts::Refused(r),
-        HowMany::Is(n) => check_months(&s[2 + 2 * n..], n),
+    let mut t = s;
+    let mut y = 0;
+    let mut m = 0;
+    let mut d = 0;
+    let mut j = 0;
+    while j < 3 {
+        let k = section_at(j);
+        let width = k.width;
+        match check_section(t, k) {
+            HowMany::Refused(r) => {
+                return SheetCounts::Refused(r);
+            }
+            HowMany::Is(n) => {
+                t = &t[2 + width * n..];
+                y = m;
+                m = d;
+                d = n;
+            }
+        }
+        j += 1;
     }
-}
-
-// The items of the section at the front of what is left, put into a lent list: numbers of 2 bytes.
-fn fill_two(s: &[u8], out: &mut [u16], n: usize)
-    requires { ⌜ (2 + 2 * n ≤ length (now s)) × (n ≤ length (now out)) ⌝ }
-    ensures { λ r. ⌜ now (out .exit) ≡ sets (now (out .entry)) 0 (numbers 2 n (drop 2 (now (s .entry)))) ⌝ }
-{
-    let mut t = &s[2..];
-    let mut i = 0;
-    while i < n {
-        out[i] = number_in(t, 2) as u16;
-        t = &t[2..];
-        i += 1;
+    if 0 < t.len() {
+        return SheetCounts::Refused(Reason::BytesAfterLast);
     }
-}
-
-// The same with numbers of 4 bytes.
-fn fill_four(s: &[u8], out: &mut [u32], n: usize)
-    requires { ⌜ (2 + 4 * n ≤ length (now s)) × (n ≤ length (now out)) ⌝ }
-    ensures { λ r. ⌜ now (out .exit) ≡ sets (now (out .entry)) 0 (numbers 4 n (drop 2 (now (s .entry)))) ⌝ }
-{
-    let mut t = &s[2..];
-    let mut i = 0;
-    while i < n {
-        out[i] = number_in(t, 4);
-        t = &t[4..];
-        i += 1;
-    }
+    SheetCounts::Is(Counted {
+        years: y,
+        months: m,
+        days: d,
+    })
 }
 
 // The items of a sheet that is good, put into three lists with room for them.
 fn fill_sheet(s: &[u8], years: &mut [u16], months: &mut [u32], days: &mut [u32], c: Counted)
-    requires { ⌜ Filling (now s) (length (now years)) (length (now months)) (length (now days)) c ⌝ }
+    requires { ⌜ ToFill (now s) (length (now years)) (length (now months)) (length (now days)) c ⌝ }
     ensures { λ r. ⌜ Filled (now (s .entry)) (now (years .entry)) (now (months .entry)) (now (days .entry))
         (now (years .exit)) (now (months .exit)) (now (days .exit)) ⌝ }
 {
     let y = c.years;
     let m = c.months;
     let d = c.days;
-    fill_two(s, years, y);
+    bytes::fill_two(s, years, y);
     let t = &s[2 + 2 * y..];
-    fill_four(t, months, m);
+    bytes::fill_four(t, months, m);
     let u = &t[2 + 4 * m..];
-    fill_four(u, days, d);
+    bytes::fill_four(u, days, d);
 }
 
 // Have three lent lists of these lengths room for so many?
@@ -273,8 +234,8 @@ pub fn read_sheet(
 }
 
 // A list for a section, of numbers that take 2 bytes: its length (reason 10), then its items.
-fn check_two(xs: &[u16], k: Section) -> HowMany
-    ensures { λ r. ⌜ saidHowMany r ≡ sectionWritten k (now (xs .entry)) (is (length (now (xs .entry)))) ⌝ }
+fn check_two(xs: &[u16], k: Items) -> HowMany
+    ensures { λ r. ⌜ saidHowMany r ≡ andThen (sectionWritten (ranged k) (now (xs .entry))) (λ b. is (length (now (xs .entry)))) ⌝ }
 {
     let reason = k.reason;
     if k.items < xs.len() {
@@ -291,8 +252,8 @@ fn check_two(xs: &[u16], k: Section) -> HowMany
 }
 
 // The same with numbers that take 4 bytes.
-fn check_four(xs: &[u32], k: Section) -> HowMany
-    ensures { λ r. ⌜ saidHowMany r ≡ sectionWritten k (now (xs .entry)) (is (length (now (xs .entry)))) ⌝ }
+fn check_four(xs: &[u32], k: Items) -> HowMany
+    ensures { λ r. ⌜ saidHowMany r ≡ andThen (sectionWritten (ranged k) (now (xs .entry))) (λ b. is (length (now (xs .entry)))) ⌝ }
 {
     let reason = k.reason;
     if k.items < xs.len() {
@@ -308,90 +269,37 @@ fn check_four(xs: &[u32], k: Section) -> HowMany
     HowMany::Is(xs.len())
 }
 
-// The days, after so many bytes: how many bytes there are with them.
-fn size_with_days(days: &[u32], size: usize) -> HowMany
-    requires { ⌜ size ≤ 6004 ⌝ }
-    ensures { λ r. ⌜ saidHowMany r ≡ sizeWithDays size (now (days .entry)) ⌝ }
-{
-    match check_four(days, DAYS) {
-        HowMany::Refused(r) => HowMany::Refused(r),
-        HowMany::Is(n) => HowMany::Is(size + (2 + 4 * n)),
-    }
-}
-
-// The months, after so many bytes, and then the days.
-fn size_with_months(months: &[u32], days: &[u32], size: usize) -> HowMany
-    requires { ⌜ size ≤ 2002 ⌝ }
-    ensures { λ r. ⌜ saidHowMany r ≡ sizeWithMonths size (now (months .entry)) (now (days .entry)) ⌝ }
-{
-    match check_four(months, MONTHS) {
-        HowMany::Refused(r) => HowMany::Refused(r),
-        HowMany::Is(n) => size_with_days(days, size + (2 + 4 * n)),
-    }
-}
-
 // The three lists, one after the other; then how many bytes their sheet has.
 fn size_of_sheet(years: &[u16], months: &[u32], days: &[u32]) -> HowMany
-    ensures { λ r. ⌜ saidHowMany r ≡ sizeWithYears (now (years .entry)) (now (months .entry)) (now (days .entry)) ⌝ }
+    ensures { λ r. ⌜ saidHowMany r ≡ andThen (writeSheet (threeLists (now (years .entry)) (now (months .entry)) (now (days .entry))))
+        (λ b. is (length (sheetOf (threeLists (now (years .entry)) (now (months .entry)) (now (days .entry)))))) ⌝ }
 {
     match check_two(years, YEARS) {
         HowMany::Refused(r) => HowMany::Refused(r),
-        HowMany::Is(n) => size_with_months(months, days, 2 + 2 * n),
-    }
-}
-
-// The bytes of a number, least byte first.
-fn lay_number(out: &mut [u8], at: usize, width: usize, x: u32)
-    requires { ⌜ at + width ≤ length (now out) ⌝ }
-    ensures { λ r. ⌜ now (out .exit) ≡ sets (now (out .entry)) at (lay width x) ⌝ }
-{
-    let mut rest = x;
-    let mut i = 0;
-    while i < width {
-        out[at + i] = (rest % 256) as u8;
-        rest = rest / 256;
-        i += 1;
-    }
-}
-
-// The bytes of numbers that take 2 each.
-fn lay_two(out: &mut [u8], at: usize, xs: &[u16])
-    requires { ⌜ at + 2 * length (now xs) ≤ length (now out) ⌝ }
-    ensures { λ r. ⌜ now (out .exit) ≡ sets (now (out .entry)) at (layAll 2 (now (xs .entry))) ⌝ }
-{
-    let mut i = 0;
-    while i < xs.len() {
-        lay_number(out, at + 2 * i, 2, xs[i] as u32);
-        i += 1;
-    }
-}
-
-// The bytes of numbers that take 4 each.
-fn lay_four(out: &mut [u8], at: usize, xs: &[u32])
-    requires { ⌜ at + 4 * length (now xs) ≤ length (now out) ⌝ }
-    ensures { λ r. ⌜ now (out .exit) ≡ sets (now (out .entry)) at (layAll 4 (now (xs .entry))) ⌝ }
-{
-    let mut i = 0;
-    while i < xs.len() {
-        lay_number(out, at + 4 * i, 4, xs[i]);
-        i += 1;
+        HowMany::Is(y) => match check_four(months, MONTHS) {
+            HowMany::Refused(r) => HowMany::Refused(r),
+            HowMany::Is(m) => match check_four(days, DAYS) {
+                HowMany::Refused(r) => HowMany::Refused(r),
+                HowMany::Is(d) => HowMany::Is(6 + 2 * y + 4 * m + 4 * d),
+            },
+        },
     }
 }
 
 // The bytes of three lists that are good, in a buffer with room for them.
 fn lay_sheet(years: &[u16], months: &[u32], days: &[u32], out: &mut [u8])
-    requires { ⌜ RoomToLay (length (now years)) (length (now months)) (length (now days)) (length (now out)) ⌝ }
+    requires { ⌜ ToLay (length (now years)) (length (now months)) (length (now days)) (length (now out)) ⌝ }
     ensures { λ r. ⌜ now (out .exit) ≡ sets (now (out .entry)) 0
-        (sheetOf (record { years = now (years .entry); months = now (months .entry); days = now (days .entry) })) ⌝ }
+        (sheetOf (threeLists (now (years .entry)) (now (months .entry)) (now (days .entry)))) ⌝ }
 {
     let m = 2 + 2 * years.len();
     let d = m + (2 + 4 * months.len());
-    lay_number(out, 0, 2, years.len() as u32);
-    lay_two(out, 2, years);
-    lay_number(out, m, 2, months.len() as u32);
-    lay_four(out, m + 2, months);
-    lay_number(out, d, 2, days.len() as u32);
-    lay_four(out, d + 2, days);
+    bytes::lay_number(out, 0, 2, years.len() as u32);
+    bytes::lay_two(out, 2, years);
+    bytes::lay_number(out, m, 2, months.len() as u32);
+    bytes::lay_four(out, m + 2, months);
+    bytes::lay_number(out, d, 2, days.len() as u32);
+    bytes::lay_four(out, d + 2, days);
 }
 
 // Writes three lists into a lent buffer. Nothing is written before the lists and the buffer are known to be good.

@@ -14,7 +14,7 @@ use Rattle.rule.proofs.Answers.{fails-later, goes-on, holds-all, holds-with, gi
 use Rattle.rule.proofs.Lists.{complement, at-place}
 use Rattle.told.specs.Answers.{places}
 use Rattle.told.proofs.Refusing.{NeverWith, never-is}
-use Rattle.sheet.proofs.Paper.{front}
+use Rattle.sheet.proofs.Places.{front}
 use Rattle.reading.specs.declared.Reading.{Reading}
 use Rattle.reading.specs.declared.Found.{Found}
 use Rattle.reading.specs.declared.Found.the-variants.{Is}

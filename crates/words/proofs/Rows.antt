@@ -11,7 +11,7 @@ use borrow.Author.Tests.{ltb-true, leb-true}
 use Rattle.rule.specs.Reasons.{reasonNumber, reasonsInOrder}
 use Rattle.rule.specs.declared.Reason.{Reason}
 use Rattle.rule.proofs.Answers.{both-true, each-reason}
-use Rattle.lines.specs.Lines.{wordsOf}
+use Rattle.penned.specs.Lines.{wordsOf}
 use Rattle.fields.specs.Fields.{Put}
 use Rattle.fields.proofs.Putting.{put-as}
 use Rattle.words.specs.Rows.{behind, rowOf, wholeTo, hasRow}

@@ -1,7 +1,7 @@
 -- `listed::list_sheet` meets its contract: `REFUSED` and the number, or the lists' listing. Assumes nothing.
 use native.Mathlib.Omega.{arith}
 use mathlib.Core.Path.{ap, sym, subst, _∙_}
-use Rattle.sheet.specs.Paper.{GoodLists}
+use Rattle.sheet.specs.Faults.{GoodLists}
 use Rattle.fields.proofs.Putting.{wide, put-as}
 use Rattle.penned.specs.Lines.{printed, listingOf, listing}
 use Rattle.listed.proofs.Reading.{sheet-says, years-there, months-there, days-there, all-there, all-good, sheet-refused}

@@ -3,8 +3,9 @@ use Prim.Native.Nat.{_-_}
 use native.Mathlib.Omega.{arith}
 use lib.ListN.{length}
 use Rattle.fields.proofs.Putting.{put-kept}
+use Rattle.sheet.specs.Sheet.{monthItems}
 use Rattle.penned.specs.Lines.{monthItem}
-use Rattle.listed.proofs.Items.{ItemsPut, no-item, room-for-item, next-item, all-items}
+use Rattle.listed.proofs.Items.{in-range, ItemsPut, no-item, room-for-item, next-item, all-items}
 use Rattle.listed.proofs.put_month_items.Statement.{statement}
 use Rattle.listed.proofs.put_month_items.Tie as tie
 
@@ -26,8 +27,8 @@ put-month-items-spec =
     (λ c κs.
     let l = c .before .before .before in
     let h = c .before .before .loop-test .taken in
-    let asked = l .before .before .before .pre in
-    (asked .0 .items (l .loop .i) h .1, room-for-item (l .loop .inv) h (asked .1)))
+    let a = l .before .before .before in
+    (in-range monthItems (a .args .months .now) (a .pre .0) (l .loop .i) h .1, room-for-item (l .loop .inv) h (a .pre .1)))
     (λ c. omega arith)
     (λ c. omega arith)
     (λ c.

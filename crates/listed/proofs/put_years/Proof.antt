@@ -3,8 +3,9 @@ use Prim.Native.Nat.{_-_}
 use native.Mathlib.Omega.{arith}
 use lib.ListN.{length}
 use Rattle.fields.proofs.Putting.{put-kept}
+use Rattle.sheet.specs.Sheet.{yearItems}
 use Rattle.penned.specs.Lines.{yearBlock}
-use Rattle.listed.proofs.Items.{ItemsPut, no-item, room-for-item, next-item, all-items}
+use Rattle.listed.proofs.Items.{in-range, ItemsPut, no-item, room-for-item, next-item, all-items}
 use Rattle.listed.proofs.put_years.Statement.{statement}
 use Rattle.listed.proofs.put_years.Tie as tie
 
@@ -26,8 +27,8 @@ put-years-spec =
     (λ c κs.
     let l = c .before .before .before in
     let h = c .before .before .loop-test .taken in
-    let asked = l .before .before .before .pre in
-    (asked .0 .items _ (omega (arith, h)), room-for-item (l .loop .inv) h (asked .1)))
+    let a = l .before .before .before in
+    (in-range yearItems (a .args .years .now) (a .pre .0) _ (omega (arith, h)), room-for-item (l .loop .inv) h (a .pre .1)))
     (λ c. omega arith)
     (λ c. omega arith)
     (λ c.

@@ -1,72 +1,77 @@
--- `sheet::check_sheet` meets its contract. Assumes nothing.
-use Prim.Native.Nat.{ℕ}
+-- `sheet::check_sheet` meets its contract. The invariant: what is left gives the same answer. Assumes nothing.
+use Prim.Native.Nat.{_-_, _*_, _≤_}
+use native.Mathlib.Nat.{mul-le-mul}
 use native.Mathlib.Omega.{arith}
-use mathlib.Core.Path.{ap, sym, _∙_}
-use mathlib.Core.List.{List}
-use Rattle.rule.specs.Reasons.{is, reasonNumber}
-use Rattle.sheet.specs.Sheet.{yearItems, monthItems, countOf, leftAfter, monthsRead, sheetRead}
-use Rattle.sheet.specs.Promises.{saidHowMany, countsAre}
-use Rattle.sheet.proofs.Reading.{section-on, section-stop, found}
+use mathlib.Core.Path.{_≡_, refl, ap, sym, _∙_}
+use lib.ListN.{drop}
 use borrow.Author.Needs.{needs}
+use Rattle.rule.specs.Reasons.{is, andThen, reasonNumber}
+use Rattle.sheet.specs.Sheet.{ranged, sectionsRead, sheetSections}
+use Rattle.sheet.specs.Promises.{saidHowMany, countsIn}
+use Rattle.sheet.proofs.Reading.{Found, found, checked, all-to-check, stops-at, passes-at, bytes-after, nothing-after}
 use Rattle.sheet.proofs.check_sheet.Statement.{statement}
 use Rattle.sheet.proofs.check_sheet.Tie as tie
 
-check-section-requires : tie.Need-check-section-requires
-check-section-requires c κs = search needs
+abbrev Inv-loop : tie.InvT-loop
+Inv-loop s t₀ y₀ m₀ d₀ j₀ t y m d j =
+    (j ≤ 3) × (checked (drop j sheetSections) t y m d ≡ andThen (sectionsRead sheetSections s) (λ l. is (countsIn s)))
 
-enum-known-r : tie.Need-enum-known-r
-enum-known-r c = search needs
+abbrev μ-loop : tie.MeasureT-loop
+μ-loop s t₀ y₀ m₀ d₀ j₀ t y m d j = 3 - j
 
-enum-known-n : tie.Need-enum-known-n
-enum-known-n c = search needs
+-- a section found good
+good : (c : tie.After-n Inv-loop μ-loop) →
+    let a = c .before .before .before in
+    Found (ranged (a .section-at .result)) (a .before .before .loop .t .now) (a .before .before .loop .t .now) (c .n .given .0 .0)
+good c = found _ _ _ _ refl (sym (c .before .before .check-section .ensures) ∙ ap saidHowMany (c .n .given .1))
 
-mul-check-months : tie.Need-mul-check-months
-mul-check-months c = omega (arith, found yearItems (c .before .before .before .before .before .args .s .now) (c .before .n .given .0 .0) (sym (c .before .before .before .check-section .ensures) ∙ ap saidHowMany (c .before .n .given .1)) .few)
-
-add-check-months : tie.Need-add-check-months
-add-check-months c = omega (arith, found yearItems (c .before .before .before .before .before .args .s .now) (c .before .n .given .0 .0) (sym (c .before .before .before .check-section .ensures) ∙ ap saidHowMany (c .before .n .given .1)) .few)
-
-sub-check-months : tie.Need-sub-check-months
-sub-check-months c = omega (arith, found yearItems (c .before .before .before .before .before .args .s .now) (c .before .n .given .0 .0) (sym (c .before .before .before .check-section .ensures) ∙ ap saidHowMany (c .before .n .given .1)) .long)
-
-part-check-months-start : tie.Need-part-check-months-start
-part-check-months-start c = omega (arith, found yearItems (c .before .before .before .before .before .args .s .now) (c .before .n .given .0 .0) (sym (c .before .before .before .check-section .ensures) ∙ ap saidHowMany (c .before .n .given .1)) .long)
-
-part-check-months-end : tie.Need-part-check-months-end
-part-check-months-end c = search needs
-
-check-months-requires : tie.Need-check-months-requires
-check-months-requires c κs = search needs
-
-returns : tie.Need-returns
-unfolding sheetRead
-returns c =
-    let c5 = c .before .before .before .before .before in
-    sym (section-stop yearItems (c5 .args .s .now) (countOf (c5 .args .s .now)) _ (reasonNumber (c .before .r .given .0 .0)) (sym (c .before .before .before .check-section .ensures) ∙ ap saidHowMany (c .before .r .given .1)))
-
-returns-2 : tie.Need-returns-2
-unfolding sheetRead
-returns-2 c =
-    let c3 = c .before .before .before in
-    let c5 = c .before .before .before .before .before in
-    let c7 = c .before .before .before .before .before .before .before in
-    c .check-months .ensures
-    ∙ ap (λ (t : List ℕ). monthsRead t (is (countsAre (c3 .n .given .0 .0) (countOf t) (countOf (leftAfter monthItems t))))) ((found yearItems (c7 .args .s .now) (c3 .n .given .0 .0) (sym (c5 .check-section .ensures) ∙ ap saidHowMany (c3 .n .given .1))) .next)
-    ∙ ap (λ (m : ℕ). monthsRead (leftAfter yearItems (c7 .args .s .now)) (is (countsAre m (countOf (leftAfter yearItems (c7 .args .s .now))) (countOf (leftAfter monthItems (leftAfter yearItems (c7 .args .s .now))))))) (sym ((found yearItems (c7 .args .s .now) (c3 .n .given .0 .0) (sym (c5 .check-section .ensures) ∙ ap saidHowMany (c3 .n .given .1))) .count))
-    ∙ sym (section-on yearItems (c7 .args .s .now) (countOf (c7 .args .s .now)) _ (c3 .n .given .0 .0) (sym (c5 .check-section .ensures) ∙ ap saidHowMany (c3 .n .given .1)))
+few : (c : tie.After-n Inv-loop μ-loop) → c .before .before .before .section-at .result .width * c .n .given .0 .0 ≤ 4000
+few c =
+    let k = c .before .before .before .section-at in
+    let n : c .n .given .0 .0 ≤ 1000 = omega (arith, good c .few, k .ensures .items) in
+    omega (arith, mul-le-mul (k .ensures .width) n)
 
 pub check-sheet-spec : {M : Type 1} → statement M
 check-sheet-spec =
     tie.close
     (tie.spec
-    check-section-requires
-    enum-known-r
-    enum-known-n
-    mul-check-months
-    add-check-months
-    sub-check-months
-    part-check-months-start
-    part-check-months-end
-    check-months-requires
-    returns
-    returns-2)
+    Inv-loop
+    μ-loop
+    (λ c. (omega arith, all-to-check (c .before .args .s .now) 0 0 0))
+    (λ c κs. search needs)
+    (λ c κs. c .section-at .ensures .width)
+    (λ c. search needs)
+    (λ c.
+    let c3 = c .before .before .before in
+    let c4 = c3 .before in
+    let c6 = c4 .before .before in
+    let loop = c6 .loop in
+    sym (stops-at _ _ _ (c4 .section-at .ensures .there) (loop .t .now) (loop .y) (loop .m) (loop .d) (reasonNumber (c .before .r .given .0 .0))
+    (sym (c3 .check-section .ensures) ∙ ap saidHowMany (c .before .r .given .1)))
+    ∙ loop .inv .1)
+    (λ c. search needs)
+    (λ c. omega (arith, few (c .before)))
+    (λ c. omega (arith, few (c .before)))
+    (λ c. omega (arith, good (c .before) .long))
+    (λ c. omega (arith, good (c .before) .long))
+    (λ c. search needs)
+    (λ c. omega arith)
+    (λ c. omega arith)
+    (λ c.
+    let c4 = c .before .before .before .before in
+    let c5 = c4 .before in
+    let c7 = c5 .before .before in
+    let loop = c7 .loop in (
+      omega arith,
+      passes-at _ _ _ (c5 .section-at .ensures .there) (loop .t .now) (loop .y) (loop .m) (loop .d) (c .before .before .n .given .0 .0)
+          (sym (c4 .check-section .ensures) ∙ ap saidHowMany (c .before .before .n .given .1))
+          ∙ loop .inv .1,
+    ))
+    (λ c.
+    let loop = c .before .before .loop in
+    let e : loop .j ≡ 3 = omega arith in
+    sym (bytes-after (drop (loop .j) sheetSections) (rw (e)) (loop .t .now) (loop .y) (loop .m) (loop .d) (omega arith)) ∙ loop .inv .1)
+    (λ c.
+    let loop = c .before .before .loop in
+    let e : loop .j ≡ 3 = omega arith in
+    sym (nothing-after (drop (loop .j) sheetSections) (rw (e)) (loop .t .now) (loop .y) (loop .m) (loop .d) (omega arith)) ∙ loop .inv .1))

@@ -4,59 +4,20 @@ use native.Mathlib.Omega.{arith}
 use mathlib.Core.Path.{_≡_, sym, _∙_}
 use lib.ListN.{length, drop}
 use borrow.Author.Needs.{needs}
-use Rattle.rule.specs.Reasons.{is}
+use Rattle.rule.specs.Reasons.{is, andThen}
 use Rattle.rule.proofs.Answers.{failed, passed}
-use Rattle.sheet.specs.Sheet.{itemsWritten, sectionWritten}
+use Rattle.sheet.specs.Sheet.{ranged, itemsWritten, sectionWritten}
 use Rattle.sheet.proofs.Writing.{list-long, list-short, item-bad, item-on, items-end}
 use Rattle.sheet.proofs.check_two.Statement.{statement}
 use Rattle.sheet.proofs.check_two.Tie as tie
 
 abbrev Inv-loop : tie.InvT-loop
-Inv-loop xs k reason i₀ i = (i ≤ length xs) × (itemsWritten k (drop i xs) (is (length xs)) ≡ sectionWritten k xs (is (length xs)))
+Inv-loop xs k reason i₀ i =
+    (i ≤ length xs)
+    × (andThen (itemsWritten (ranged k) (drop i xs)) (λ b. is (length xs)) ≡ andThen (sectionWritten (ranged k) xs) (λ b. is (length xs)))
 
 abbrev μ-loop : tie.MeasureT-loop
 μ-loop xs k reason i₀ i = length xs - i
-
-returns : tie.Need-returns Inv-loop μ-loop
-returns c = sym (list-long (c .before .before .before .args .k) (c .before .before .before .args .xs .now) (is (length (c .before .before .before .args .xs .now))) (omega arith))
-
-loop-holds : tie.Need-loop-holds Inv-loop μ-loop
-loop-holds c = (omega arith, sym (list-short (c .before .before .before .args .k) (c .before .before .before .args .xs .now) (is (length (c .before .before .before .args .xs .now))) (omega arith)))
-
-mul-is-in-section : tie.Need-mul-is-in-section Inv-loop μ-loop
-mul-is-in-section c = omega arith
-
-shared-slice-read-is-in-section : tie.Need-shared-slice-read-is-in-section Inv-loop μ-loop
-shared-slice-read-is-in-section c = omega arith
-
-cast-is-in-section : tie.Need-cast-is-in-section Inv-loop μ-loop
-cast-is-in-section c = omega (arith, c .before .before .before .before .before .shared-slice-known .given (c .before .before .loop .i))
-
-is-in-section-requires : tie.Need-is-in-section-requires Inv-loop μ-loop
-is-in-section-requires c κs = search needs
-
-returns-2 : tie.Need-returns-2 Inv-loop μ-loop
-returns-2 c =
-    let c4 = c .before .before .before .before in
-    let c8 = c .before .before .before .before .before .before .before .before in
-    sym (item-bad (c8 .args .k) (c8 .args .xs .now) (is (length (c8 .args .xs .now))) (c4 .loop .i) (omega arith) (failed (c .before .is-in-section .result) _ (c .before .is-in-section .ensures) (c .if2 .taken))) ∙ c4 .loop .inv .1
-
-add-i : tie.Need-add-i Inv-loop μ-loop
-add-i c = omega arith
-
-loop-less : tie.Need-loop-less Inv-loop μ-loop
-loop-less c = omega arith
-
-loop-again : tie.Need-loop-again Inv-loop μ-loop
-loop-again c =
-    let c4 = c .before .before .before .before in
-    let c8 = c .before .before .before .before .before .before .before .before in
-    (omega arith, sym (item-on (c8 .args .k) (c8 .args .xs .now) (is (length (c8 .args .xs .now))) (c4 .loop .i) (omega arith) (passed (c .before .is-in-section .result) _ (c .before .is-in-section .ensures) (c .if2 .left))) ∙ c4 .loop .inv .1)
-
-returns-3 : tie.Need-returns-3 Inv-loop μ-loop
-returns-3 c =
-    let c5 = c .before .before .before .before .before in
-    sym (items-end (c5 .args .k) (c5 .args .xs .now) (is (length (c5 .args .xs .now))) (c .before .loop .i) (omega arith)) ∙ c .before .loop .inv .1
 
 pub check-two-spec : {M : Type 1} → statement M
 check-two-spec =
@@ -64,14 +25,44 @@ check-two-spec =
     (tie.spec
     Inv-loop
     μ-loop
-    returns
-    loop-holds
-    mul-is-in-section
-    shared-slice-read-is-in-section
-    cast-is-in-section
-    is-in-section-requires
-    returns-2
-    add-i
-    loop-less
-    loop-again
-    returns-3)
+    (λ c.
+    let c3 = c .before .before .before in
+    let args = c3 .args in
+    sym (list-long (ranged (args .k)) (args .xs .now) (length (args .xs .now)) (omega arith)))
+    (λ c.
+    let c3 = c .before .before .before in
+    let args = c3 .args in
+    (omega arith, sym (list-short (ranged (args .k)) (args .xs .now) (length (args .xs .now)) (omega arith))))
+    (λ c. omega arith)
+    (λ c. omega arith)
+    (λ c.
+    let c5 = c .before .before .before .before .before in
+    omega (arith, c5 .shared-slice-known .given (c .before .before .loop .i)))
+    (λ c κs. search needs)
+    (λ c.
+    let c4 = c .before .before .before .before in
+    let c8 = c4 .before .before .before .before in
+    let args = c8 .args in
+    let loop = c4 .loop in
+    let inside = c .before .is-in-section in
+    sym (item-bad (ranged (args .k)) (args .xs .now) (length (args .xs .now)) (loop .i) (omega arith)
+    (failed (inside .result) _ (inside .ensures) (c .if2 .taken)))
+    ∙ loop .inv .1)
+    (λ c. omega arith)
+    (λ c. omega arith)
+    (λ c.
+    let c4 = c .before .before .before .before in
+    let c8 = c4 .before .before .before .before in
+    let args = c8 .args in
+    let loop = c4 .loop in
+    let inside = c .before .is-in-section in (
+      omega arith,
+      sym (item-on (ranged (args .k)) (args .xs .now) (length (args .xs .now)) (loop .i) (omega arith)
+          (passed (inside .result) _ (inside .ensures) (c .if2 .left)))
+          ∙ loop .inv .1,
+    ))
+    (λ c.
+    let c5 = c .before .before .before .before .before in
+    let args = c5 .args in
+    let loop = c .before .loop in
+    sym (items-end (ranged (args .k)) (args .xs .now) (length (args .xs .now)) (loop .i) (omega arith)) ∙ loop .inv .1))

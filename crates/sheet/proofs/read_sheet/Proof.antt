@@ -8,64 +8,49 @@ use Rattle.sheet.proofs.Sheets.{read-refused, read-bad, read-short, to-
 use Rattle.sheet.proofs.read_sheet.Statement.{statement}
 use Rattle.sheet.proofs.read_sheet.Tie as tie
 
-check-sheet-requires : tie.Need-check-sheet-requires
-check-sheet-requires c κs = search needs
-
-enum-known-r : tie.Need-enum-known-r
-enum-known-r c = search needs
-
-enum-known-c : tie.Need-enum-known-c
-enum-known-c c = search needs
-
-has-room-requires : tie.Need-has-room-requires
-has-room-requires c κs = search needs
-
-returns : tie.Need-returns
-returns c =
-    let c3 = c .before .before .before in
-    let c10 = c .before .before .before .before .before .before .before .before .before .before in
-    read-refused (c10 .args .bytes .now) (c10 .args .years .now) (c10 .args .months .now) (c10 .args .days .now) LentTooShort (read-short (c10 .args .bytes .now) (c10 .args .years .now) (c10 .args .months .now) (c10 .args .days .now) (c3 .c .given .0 .0) (sym (c .before .before .before .before .before .check-sheet .ensures) ∙ ap saidCounts (c3 .c .given .1)) (c .before .has-room .result) (c .before .has-room .ensures) (c .if1 .taken))
-
-fill-sheet-requires : tie.Need-fill-sheet-requires
-fill-sheet-requires c κs =
-    let c4 = c .before .before .before .before in
-    let c6 = c .before .before .before .before .before .before in
-    let c13 = c .before .before .before .before .before .before .before .before .before .before .before .before .before in
-    to-fill (c13 .args .bytes .now) (c13 .args .years .now) (c13 .args .months .now) (c13 .args .days .now) (c6 .c .given .0 .0) (sym (c .before .before .before .before .before .before .before .before .check-sheet .ensures) ∙ ap saidCounts (c6 .c .given .1)) (c4 .has-room .result) (c4 .has-room .ensures) (c .before .before .before .if1 .left)
-
-returns-2 : tie.Need-returns-2
-returns-2 c =
-    let c8 = c .before .before .before .before .before .before .before .before in
-    read-refused (c8 .args .bytes .now) (c8 .args .years .now) (c8 .args .months .now) (c8 .args .days .now) (c .before .r .given .0 .0) (read-bad (c8 .args .bytes .now) (c8 .args .years .now) (c8 .args .months .now) (c8 .args .days .now) (reasonNumber (c .before .r .given .0 .0)) (sym (c .before .before .before .check-sheet .ensures) ∙ ap saidCounts (c .before .r .given .1)))
-
-same-length : tie.Need-same-length
-same-length c = search needs
-
-same-length-2 : tie.Need-same-length-2
-same-length-2 c = search needs
-
-same-length-3 : tie.Need-same-length-3
-same-length-3 c = search needs
-
-returns-3 : tie.Need-returns-3
-returns-3 c =
-    let c11 = c .before .before .before .before .before .before .before .before .before .before .before in
-    let c13 = c .before .before .before .before .before .before .before .before .before .before .before .before .before in
-    let c20 = c .before .before .before .before .before .before .before .before .before .before .before .before .before .before .before .before .before .before .before .before in
-    read-filled (c20 .args .bytes .now) (c20 .args .years .now) (c20 .args .months .now) (c20 .args .days .now) (c13 .c .given .0 .0) (sym (c .before .before .before .before .before .before .before .before .before .before .before .before .before .before .before .check-sheet .ensures) ∙ ap saidCounts (c13 .c .given .1)) (c11 .has-room .result) (c11 .has-room .ensures) (c .before .before .before .before .before .before .before .before .before .before .if1 .left) _ _ _ (c .before .before .before .before .before .before .fill-sheet .ensures)
-
 pub read-sheet-spec : {M : Type 1} → statement M
 read-sheet-spec =
     tie.close
     (tie.spec
-    check-sheet-requires
-    enum-known-r
-    enum-known-c
-    has-room-requires
-    returns
-    fill-sheet-requires
-    returns-2
-    same-length
-    same-length-2
-    same-length-3
-    returns-3)
+    (λ c κs. search needs)
+    (λ c. search needs)
+    (λ c. search needs)
+    (λ c κs. search needs)
+    (λ c.
+    let c3 = c .before .before .before in
+    let c5 = c3 .before .before in
+    let c10 = c5 .before .before .before .before .before in
+    let args = c10 .args in
+    let room = c .before .has-room in
+    read-refused _ _ _ _ LentTooShort
+    (read-short _ (args .years .now) (args .months .now) (args .days .now) (c3 .c .given .0 .0)
+    (sym (c5 .check-sheet .ensures) ∙ ap saidCounts (c3 .c .given .1)) (room .result) (room .ensures) (c .if1 .taken)))
+    (λ c κs.
+    let c3 = c .before .before .before in
+    let c4 = c3 .before in
+    let c6 = c4 .before .before in
+    let c8 = c6 .before .before in
+    let c13 = c8 .before .before .before .before .before in
+    let args = c13 .args in
+    let room = c4 .has-room in
+    to-fill _ (args .years .now) (args .months .now) (args .days .now) (c6 .c .given .0 .0)
+    (sym (c8 .check-sheet .ensures) ∙ ap saidCounts (c6 .c .given .1)) (room .result) (room .ensures) (c3 .if1 .left))
+    (λ c.
+    let c3 = c .before .before .before in
+    let c8 = c3 .before .before .before .before .before in
+    let args = c8 .args in
+    read-refused _ _ _ _ (c .before .r .given .0 .0) (read-bad _ (args .years .now) (args .months .now) (args .days .now)
+    (reasonNumber (c .before .r .given .0 .0)) (sym (c3 .check-sheet .ensures) ∙ ap saidCounts (c .before .r .given .1))))
+    (λ c. search needs)
+    (λ c. search needs)
+    (λ c. search needs)
+    (λ c.
+    let c6 = c .before .before .before .before .before .before in
+    let c10 = c6 .before .before .before .before in
+    let c11 = c10 .before in
+    let c13 = c11 .before .before in
+    let c15 = c13 .before .before in
+    let room = c11 .has-room in
+    read-filled _ _ _ _ (c13 .c .given .0 .0) (sym (c15 .check-sheet .ensures) ∙ ap saidCounts (c13 .c .given .1))
+    (room .result) (room .ensures) (c10 .if1 .left)
+    _ _ _ (c6 .fill-sheet .ensures)))

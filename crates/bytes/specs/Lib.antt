@@ -1,0 +1,2 @@
+-- Numbers in bytes: definitions.
+pub mod Bytes
