@@ -1,4 +1,4 @@
-// Answers laid flat for C, each into its struct. Numbers are widened, nothing is decided here.
+// Answers laid flat for C, each into its struct of the crate `offered`. Numbers are widened, nothing is decided here.
 ghost use mathlib.Core.Path.{_≡_};
 ghost use Rattle.dates.specs.Promises.{saidDate, saidDay};
 ghost use Rattle.facts.specs.Promises.{saidSolsticeYear, saidYear, saidMonth, saidQuarter, saidTerm};

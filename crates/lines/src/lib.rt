@@ -1,4 +1,5 @@
-// The printed lines of "The listing program", put into a lent buffer. The listing of a whole sheet is the crate `listed`.
+// The printed lines of "The listing program", put into a lent buffer. What they are is said in the crate `penned`; the listing of a whole
+// sheet is the crate `listed`.
 ghost use mathlib.Core.Bool.{true};
 ghost use mathlib.Core.List.{[], _∷_};
 ghost use Prim.Native.Nat.{_+_, _*_, _≤_};
