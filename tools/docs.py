@@ -10,7 +10,7 @@
   the name of a must-fail edit or of a crate, or as a path that exists. (That it stands where the row says is for a reader.)
 - docs/CALLS.md lists every must-fail edit and every `pub fn` of a library, each with its crate: the one whose name the heading above
   has, or the one that the row begins with (`dates::date_of_day(..)`). Edits are listed in a column `Must-fail edits` or `Edit`, or in
-  a line that begins with `Edits:`; functions in a column `Call` or `Function`, or in a line that begins with `Functions:`. What is
+  a line that begins with `Edits:`, one that stands in another crate with that in front (`penned::last_day_refused`); functions in a column `Call` or `Function`, or in a line that begins with `Functions:`. What is
   listed and stands in no such crate is told too, and a signature that is not the code's.
 - CONTRIBUTING.md's table of the crates names each crate once.
 - With --run, docs/TRUST.md's table of what each program assumes is what rt printed of it (target/log/), and the archive for C, where
@@ -152,6 +152,11 @@ def source(crate):
     return re.sub(r",? \)", ")", re.sub(r"\s+", " ", text)).replace("( ", "(")
 
 
+def named_crate(name):
+    """The crate that a name has in front, as `dates::date_of_day(..)`."""
+    return name.partition("::")[0] if "::" in name.partition("(")[0] else None
+
+
 def listings(crates):
     """What docs/CALLS.md lists: line number, `fn` or `edit`, its crate or None, and the name between backticks."""
     here, columns = None, None
@@ -164,10 +169,10 @@ def listings(crates):
             first = names(row[0])[0] if names(row[0]) else ""
             crate = first.partition("::")[0] if "::" in first else here
             for kind, cell in zip(columns, row):
-                yield from ((number, kind, crate, name) for name in names(cell) if kind)
+                yield from ((number, kind, named_crate(name) or crate, name) for name in names(cell) if kind)
         elif not row:
             kind = LINES.get(line.partition(" ")[0])
-            yield from ((number, kind, here, name) for name in names(line) if kind)
+            yield from ((number, kind, named_crate(name) or here, name) for name in names(line) if kind)
         columns = (columns or [COLUMNS.get(cell) for cell in row]) if row else None
 
 
