@@ -45,7 +45,32 @@ use Rattle.facts.specs.Facts.{
 use Rattle.planets.specs.Planets.{numbersOf, conjunctionDay, conjunctionOf, conjunctionAt, nextCount, nextOf, nextAt, pairOf, pairAt}
 use Rattle.sheet.specs.declared.Items.{Items}
 use Rattle.bytes.specs.Bytes.{number, lay}
-use Rattle.sheet.specs.Sheet.{Section, itemRead, itemsRead, countOf, countRead, sectionRead, leftAfter, ListsFor, sectionsRead, itemsWritten, sectionWritten, sectionsWritten, ranged, yearItems, monthItems, dayItems, Lists, named, inOrder, readSheet, room, readInto, writeSheet, writeInto}
+use Rattle.sheet.specs.Sheet.{
+  Section,
+  itemRead,
+  itemsRead,
+  countOf,
+  countRead,
+  sectionRead,
+  leftAfter,
+  ListsFor,
+  sectionsRead,
+  itemsWritten,
+  sectionWritten,
+  sectionsWritten,
+  ranged,
+  yearItems,
+  monthItems,
+  dayItems,
+  Lists,
+  named,
+  inOrder,
+  readSheet,
+  room,
+  readInto,
+  writeSheet,
+  writeInto,
+}
 use Rattle.penned.specs.Lines.{yearBlock, monthLined, monthItem, dayItem}
 use Rattle.penned.specs.Promises.{yearBlockAt, monthLineAt, monthItemAt, dayItemAt}
 
