@@ -35,9 +35,9 @@ module _ (k : Section) where
       (items-front n u q (omega (arith, h, mul-suc (k .width) n, length-drop (k .width) p)) ∙ ap (itemsRead k n) (sym (drop-append-le (k .width) p q l)))
 
   -- a section is read alike where p has room for the most items
-  section-front : (p q : List ℕ) → 2 + k .width * k .most ≤ length p → sectionRead k p ≡ sectionRead k (p ++ q)
+  section-front : (p q : List ℕ) → 2 + k .width * k .items ≤ length p → sectionRead k p ≡ sectionRead k (p ++ q)
   unfolding sectionRead countRead
-  section-front p q h = go (leb (countOf p) (k .most)) refl
+  section-front p q h = go (leb (countOf p) (k .items)) refl
     where
       m : countOf (p ++ q) ≡ countOf p
       m = number-append 2 p q (omega (arith, h))
@@ -48,21 +48,21 @@ module _ (k : Section) where
       g : leb 2 (length (p ++ q)) ≡ true
       g = le-leb 2 (length (p ++ q)) (omega (arith, h, length-append p q))
 
-      go : (t : Bool) → leb (countOf p) (k .most) ≡ t → sectionRead k p ≡ sectionRead k (p ++ q)
+      go : (t : Bool) → leb (countOf p) (k .items) ≡ t → sectionRead k p ≡ sectionRead k (p ++ q)
       go false o = rw (f, g, m, o)
       go true o =
-          let c : countOf p ≤ k .most = leb-true (countOf p) (k .most) o in
+          let c : countOf p ≤ k .items = leb-true (countOf p) (k .items) o in
           rw (f, g, m, o, drop-append-le 2 p q (omega (arith, h)))
           (items-front (countOf p) (drop 2 p) q (omega (arith, h, mul-le-mul-left (k .width) c, length-drop 2 p)))
 
-  left-length : (p : List ℕ) → GoodSection k p → length p ≤ length (leftAfter k p) + (2 + k .width * k .most)
+  left-length : (p : List ℕ) → GoodSection k p → length p ≤ length (leftAfter k p) + (2 + k .width * k .items)
   unfolding leftAfter
   left-length p g = omega (arith, length-drop (2 + k .width * countOf p) p, mul-le-mul-left (k .width) (g .0 .1))
 
 -- the most bytes that sections have
 abbrev mostBytes : List Section → ℕ
 mostBytes [] = 0
-mostBytes (k ∷ ks) = 2 + k .width * k .most + mostBytes ks
+mostBytes (k ∷ ks) = 2 + k .width * k .items + mostBytes ks
 
 pub sections-front : (ks : List Section) (p q : List ℕ) → mostBytes ks < length p → sectionsRead ks p ≡ sectionsRead ks (p ++ q)
 unfolding sectionsRead

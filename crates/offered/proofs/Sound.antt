@@ -178,7 +178,7 @@ items-sound k (suc n) s =
 
 count-sound : (k : Section) (s : List ℕ) → Sound (countRead k s)
 unfolding countRead
-count-sound k s = guarded (leb 2 (length s)) SheetEndsEarly (guarded (leb (countOf s) (k .most)) CountTooLarge (given (countOf s)))
+count-sound k s = guarded (leb 2 (length s)) SheetEndsEarly (guarded (leb (countOf s) (k .items)) CountTooLarge (given (countOf s)))
 
 section-sound : (k : Items) (s : List ℕ) → Sound (sectionRead (ranged k) s)
 unfolding sectionRead

@@ -2,23 +2,12 @@
 use native.Mathlib.Omega.{arith}
 use mathlib.Core.Path.{refl}
 use Rattle.rule.specs.Rule.{monthStart}
-use Rattle.planets.specs.Planets.{
-  numbersOf,
-  conjunctionDay,
-  conjunctionParts,
-  phase,
-  conjunctionOf,
-  conjunctionAt,
-  nextCount,
-  nextOf,
-  nextAt,
-  pairAt,
-}
 use Rattle.planets.specs.Divisors.{Remainders, none-left, again}
 use Rattle.planets.specs.Table.{cases, Table-of-planets}
+use Rattle.planets.proofs.Computing.{planets-computed}
 
 pub table-of-planets : Table-of-planets
-unfolding cases monthStart numbersOf conjunctionDay conjunctionParts phase conjunctionOf conjunctionAt nextCount nextOf nextAt pairAt
+unfolding cases monthStart planets-computed
 table-of-planets = refl
 
 -- 12 by 18, 18 by 12, 12 by 6: none is left

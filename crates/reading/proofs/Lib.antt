@@ -1,4 +1,5 @@
 -- Laws of runs of days, of tests and of answers, and the proofs of the statements.
+pub mod Computing
 pub mod Runs
 pub mod Fits
 pub mod Answered

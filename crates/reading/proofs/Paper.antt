@@ -339,10 +339,13 @@ wrong-searches =
       refusing-all = λ why new s. let e : _≡_ {A = Answer ℕ} (refused (reasonNumber why)) (is 1) = s .answered in let o : _≡_ {A = ℕ} 0 1 = cc in omega arith;
       short-for-all = λ n new s. let e : _≡_ {A = Answer ℕ} (refused-with 12 n) (is 1) = s .answered in let o : _≡_ {A = ℕ} 0 1 = cc in omega arith;
       filling-none = λ a s. let e : _≡_ {A = List ℕ} (5 ∷ []) (0 ∷ []) = s .lent in omega (arith, ap (λ (l : List ℕ). getD l 0 0) e);
+      filling-noughts = λ a s. let e : _≡_ {A = List ℕ} (0 ∷ 0 ∷ []) (3 ∷ 4 ∷ []) = s .lent in omega (arith, ap (λ (l : List ℕ). getD l 0 0) e);
       inventing = λ n new h s. h (let e : _≡_ {A = Answer ℕ} (is n) (is 2) = s .answered in cc);
       inventing-at-12 = λ n new h s. h (let e : _≡_ {A = Answer ℕ} (refused-with 12 n) (refused-with 12 2) = s .answered in cc);
       copying-first = λ a s. let e : _≡_ {A = List ℕ} (3 ∷ 3 ∷ []) (3 ∷ 4 ∷ []) = s .lent in omega (arith, ap (λ (l : List ℕ). getD l 1 0) e);
       first-alone = λ a s. let e : _≡_ {A = List ℕ} (3 ∷ 0 ∷ []) (3 ∷ 4 ∷ []) = s .lent in omega (arith, ap (λ (l : List ℕ). getD l 1 0) e);
+      in-one-place = λ a s. let e : _≡_ {A = List ℕ} (4 ∷ 0 ∷ []) (3 ∷ 4 ∷ []) = s .lent in omega (arith, ap (λ (l : List ℕ). getD l 0 0) e);
+      one-place-on = λ a s. let e : _≡_ {A = List ℕ} (0 ∷ 3 ∷ 4 ∷ []) (3 ∷ 4 ∷ 5 ∷ []) = s .lent in omega (arith, ap (λ (l : List ℕ). getD l 0 0) e);
       written-before-refusal = λ a x h s. h (let e : _≡_ {A = List ℕ} (x ∷ []) (0 ∷ []) = s .lent in ap (λ (l : List ℕ). getD l 0 0) e);
       tail-cleared = λ a x h s. h (let e : _≡_ {A = List ℕ} (3 ∷ 4 ∷ x ∷ []) (3 ∷ 4 ∷ 5 ∷ []) = s .lent in ap (λ (l : List ℕ). getD l 2 0) e);
       second-big-left-out = λ a s. let e : _≡_ {A = List ℕ} (0 ∷ []) (3838 ∷ []) = s .lent in omega (arith, ap (λ (l : List ℕ). getD l 0 0) e);

@@ -208,17 +208,20 @@ allRead d =
     }
 
 -- wrong versions, each shut out at a named input: one that refuses all, one that finds every list too short, one that fills no
--- list, an invented total, given or told at 12, the first day copied over the rest, the first day alone, a list written before
--- the refusal, its tail cleared, and days of the second of two big months left out ("months 128 and 129 are both big", and day
--- 3,838 is the last of month 129)
+-- list, or with noughts, an invented total, given or told at 12, the first day copied over the rest, the first day alone, all days
+-- in one place, or one place too far, a list written before the refusal, its tail cleared, and days of the second of two big months
+-- left out ("months 128 and 129 are both big", and day 3,838 is the last of month 129)
 pub record Wrong-searches : Type 0 where
   pub refusing-all : (why : Reason) (new : List ℕ) → Searched allUnread 0 0 (5 ∷ []) (Refused why) new → ⊥
   pub short-for-all : (n : ℕ) (new : List ℕ) → Searched allUnread 0 0 (5 ∷ []) (TooShort n) new → ⊥
   pub filling-none : (a : Found) → Searched allUnread 0 0 (5 ∷ []) a (5 ∷ []) → ⊥
+  pub filling-noughts : (a : Found) → Searched allUnread 3 4 (5 ∷ 5 ∷ []) a (0 ∷ 0 ∷ []) → ⊥
   pub inventing : (n : ℕ) (new : List ℕ) → n ≢ 2 → Searched allUnread 0 1 (5 ∷ 5 ∷ []) (Is n) new → ⊥
   pub inventing-at-12 : (n : ℕ) (new : List ℕ) → n ≢ 2 → Searched allUnread 0 1 [] (TooShort n) new → ⊥
   pub copying-first : (a : Found) → Searched allUnread 3 4 (0 ∷ 0 ∷ []) a (3 ∷ 3 ∷ []) → ⊥
   pub first-alone : (a : Found) → Searched allUnread 3 4 (0 ∷ 0 ∷ []) a (3 ∷ 0 ∷ []) → ⊥
+  pub in-one-place : (a : Found) → Searched allUnread 3 4 (0 ∷ 0 ∷ []) a (4 ∷ 0 ∷ []) → ⊥
+  pub one-place-on : (a : Found) → Searched allUnread 3 4 (0 ∷ 0 ∷ 5 ∷ []) a (0 ∷ 3 ∷ 4 ∷ []) → ⊥
   pub written-before-refusal : (a : Found) (x : ℕ) → x ≢ 0 → Searched allUnread 3 4 (0 ∷ []) a (x ∷ []) → ⊥
   pub tail-cleared : (a : Found) (x : ℕ) → x ≢ 5 → Searched allUnread 3 4 (0 ∷ 0 ∷ 5 ∷ []) a (3 ∷ 4 ∷ x ∷ []) → ⊥
   pub second-big-left-out : (a : Found) → Searched (allRead 3838) 3838 3838 (0 ∷ []) a (0 ∷ []) → ⊥

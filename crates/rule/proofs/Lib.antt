@@ -1,5 +1,6 @@
 -- The laws of the rule by topic, the laws of answers and lists, and the proofs of the paper's sentences.
 pub mod Cases
+pub mod Computing
 pub mod Lists
 pub mod Stores
 pub mod Calendar

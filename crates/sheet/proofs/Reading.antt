@@ -88,7 +88,7 @@ module _ (k : Section) where
   unfolding countRead
   count-decided s =
       asks-first (leb 2 (length s)) 9 (at-most 2 (length s))
-      (asks (leb (countOf s) (k .most)) 10 (at-most (countOf s) (k .most)) (countOf s))
+      (asks (leb (countOf s) (k .items)) 10 (at-most (countOf s) (k .items)) (countOf s))
 
   pub section-decided : (s : List ℕ) → Decides (sectionRead k s) (itemsOf k s) (SectionFault k s) (GoodSection k s)
   unfolding sectionRead itemsOf
@@ -168,7 +168,7 @@ left-append k p q g =
 -- the section k of s, found good at the front of a part t, with n items: how it lies, its items, and where the next one starts
 pub record Found (k : Section) (s t : List ℕ) (n : ℕ) : Type 0 where
   pub count : countOf s ≡ n
-  pub few : n ≤ k .most
+  pub few : n ≤ k .items
   pub long : 2 + k .width * n ≤ length t
   pub stored : numbers (k .width) n (drop 2 t) ≡ itemsOf k s
   pub next : take (length t - (2 + k .width * n)) (drop (2 + k .width * n) t) ≡ leftAfter k s

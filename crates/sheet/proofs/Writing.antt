@@ -57,7 +57,7 @@ module _ (k : Section) where
   list-decided : (xs : List ℕ) → Decides (sectionWritten k xs) (laySection k xs) (ListFault k xs) (GoodList k xs)
   unfolding sectionWritten laySection
   list-decided xs =
-      asks-first (leb (length xs) (k .most)) 10 (at-most (length xs) (k .most))
+      asks-first (leb (length xs) (k .items)) 10 (at-most (length xs) (k .items))
       (made-into (values-decided xs) (λ b. lay 2 (length xs) ++ b))
 
 each-decided : (ks : List Section) (l : ListsFor ks) → Decides (sectionsWritten ks l) (laySections ks l) (EachFault ks l) (GoodEach ks l)
@@ -78,13 +78,13 @@ buffer-decided l n =
 
 -- a list: too long, or its items one by one; only whether all are good is asked
 module _ {A : Type 0} (k : Section) (xs : List ℕ) (z : A) where
-  pub list-long : k .most < length xs → andThen (sectionWritten k xs) (λ b. is z) ≡ refused 10
+  pub list-long : k .items < length xs → andThen (sectionWritten k xs) (λ b. is z) ≡ refused 10
   unfolding sectionWritten
-  list-long h = rw (lt-leb (length xs) (k .most) h)
+  list-long h = rw (lt-leb (length xs) (k .items) h)
 
-  pub list-short : length xs ≤ k .most → andThen (sectionWritten k xs) (λ b. is z) ≡ andThen (itemsWritten k xs) (λ b. is z)
+  pub list-short : length xs ≤ k .items → andThen (sectionWritten k xs) (λ b. is z) ≡ andThen (itemsWritten k xs) (λ b. is z)
   unfolding sectionWritten
-  list-short h = rw (le-leb (length xs) (k .most) h) (then-made (itemsWritten k xs) (λ b. lay 2 (length xs) ++ b) (λ b. is z))
+  list-short h = rw (le-leb (length xs) (k .items) h) (then-made (itemsWritten k xs) (λ b. lay 2 (length xs) ++ b) (λ b. is z))
 
   pub item-bad : (i : ℕ) → i < length xs → k .good (getD xs i 0) ≡ false →
       andThen (itemsWritten k (drop i xs)) (λ b. is z) ≡ refused (k .reason (getD xs i 0))
@@ -103,7 +103,7 @@ module _ {A : Type 0} (k : Section) (xs : List ℕ) (z : A) where
 
 -- a list found good, with n items
 pub list-found : (k : Section) (xs : List ℕ) (n : ℕ) → andThen (sectionWritten k xs) (λ b. is (length xs)) ≡ is n →
-    (length xs ≤ k .most) × (length xs ≡ n)
+    (length xs ≤ k .items) × (length xs ≡ n)
 list-found k xs n h = let a = if-given (made-into (list-decided k xs) (λ b. length xs)) n h in (a .0 .0, a .1)
 
 -- the list at the front stops the writing, or it goes on

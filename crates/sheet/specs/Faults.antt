@@ -49,10 +49,10 @@ ItemsFault k (suc n) s = First (ItemFault k s) (GoodItem k s) (ItemsFault k n (d
 
 -- a count: it is whole (9), then "a count above 1,000" (10)
 abbrev pub GoodCount : Section → List ℕ → Type 0
-GoodCount k s = (2 ≤ length s) × (countOf s ≤ k .most)
+GoodCount k s = (2 ≤ length s) × (countOf s ≤ k .items)
 
 abbrev pub CountFault : Section → List ℕ → ℕ → Type 0
-CountFault k s = First (Row (2 ≤ length s) 9) (2 ≤ length s) (Row (countOf s ≤ k .most) 10)
+CountFault k s = First (Row (2 ≤ length s) 9) (2 ≤ length s) (Row (countOf s ≤ k .items) 10)
 
 -- a section: its count, then its items
 abbrev pub GoodSection : Section → List ℕ → Type 0
@@ -90,10 +90,10 @@ ValuesFault k [] = NoFault
 ValuesFault k (x ∷ xs) = First (ValueFault k x) (GoodValue k x) (ValuesFault k xs)
 
 abbrev pub GoodList : Section → List ℕ → Type 0
-GoodList k xs = (length xs ≤ k .most) × GoodValues k xs
+GoodList k xs = (length xs ≤ k .items) × GoodValues k xs
 
 abbrev pub ListFault : Section → List ℕ → ℕ → Type 0
-ListFault k xs = First (Row (length xs ≤ k .most) 10) (length xs ≤ k .most) (ValuesFault k xs)
+ListFault k xs = First (Row (length xs ≤ k .items) 10) (length xs ≤ k .items) (ValuesFault k xs)
 
 -- a list for each section
 unfoldable pub GoodEach : (ks : List Section) → ListsFor ks → Type 0

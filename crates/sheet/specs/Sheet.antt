@@ -14,7 +14,7 @@ use Rattle.sheet.specs.declared.Items.{Items}
 -- the number in its bytes, least byte first, of whatever fields it is made up
 pub record Section : Type 0 where
   pub width : ℕ
-  pub most : ℕ
+  pub items : ℕ
   pub good : ℕ → Bool
   pub reason : ℕ → ℕ
 
@@ -35,7 +35,7 @@ countOf s = number 2 s
 
 -- reading a count: 9, then 10
 unfoldable pub countRead : Section → List ℕ → Answer ℕ
-countRead k s = guard (leb 2 (length s)) 9 (guard (leb (countOf s) (k .most)) 10 (is (countOf s)))
+countRead k s = guard (leb 2 (length s)) 9 (guard (leb (countOf s) (k .items)) 10 (is (countOf s)))
 
 -- reading a section: its count, then item by item
 unfoldable pub sectionRead : Section → List ℕ → Answer (List ℕ)
@@ -70,7 +70,7 @@ itemsWritten k (x ∷ xs) = guard (k .good x) (k .reason x) (andThen (itemsWritt
 
 -- writing a section: a list's length is its count (10), then its items
 unfoldable pub sectionWritten : Section → List ℕ → Answer (List ℕ)
-sectionWritten k xs = guard (leb (length xs) (k .most)) 10 (andThen (itemsWritten k xs) (λ b. is (lay 2 (length xs) ++ b)))
+sectionWritten k xs = guard (leb (length xs) (k .items)) 10 (andThen (itemsWritten k xs) (λ b. is (lay 2 (length xs) ++ b)))
 
 -- writing the sections in order
 unfoldable pub sectionsWritten : (ks : List Section) → ListsFor ks → Answer (List ℕ)
@@ -90,7 +90,7 @@ abbrev pub ranged : Items → Section
 ranged k =
     record {
       width = k .width;
-      most = k .items;
+      items = k .items;
       good = λ x. within (k .least) (k .most) x;
       reason = λ x. reasonNumber (k .reason);
     }

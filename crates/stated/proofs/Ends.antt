@@ -46,7 +46,7 @@ module _ (k : Section) where
       go (no l) = inl (here (here (record { fails = l; reason = refl })))
       go (yes l) =
           let m : countOf (p ++ q) ≡ countOf p = number-append 2 p q l in
-          let c : countOf p ≤ k .most = rw (m) at (g .0 .1) in
+          let c : countOf p ≤ k .items = rw (m) at (g .0 .1) in
           let i : GoodItems k (countOf p) (drop 2 p ++ q) = rw (m, drop-append-le 2 p q l) at (g .1) in
           ⊎-elim (λ (f : ItemsFault k (countOf p) (drop 2 p) 9). inl (later (l, c) f))
           (λ (h : GoodItems k (countOf p) (drop 2 p)). inr ((l, c), h)) (items-part (countOf p) (drop 2 p) q i)

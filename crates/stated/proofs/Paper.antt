@@ -73,6 +73,7 @@ least-byte-first =
 pub sections-literally : Paper.Sections-literally
 sections-literally =
     record {
+      order = refl;
       years = record { bytes = refl; counts = refl; good = within-true 1 41040; reason = λ x. refl };
       months = record { bytes = refl; counts = refl; good = within-true 0 507599; reason = λ x. refl };
       days = record { bytes = refl; counts = refl; good = within-true 0 14989859; reason = λ x. refl };
@@ -295,7 +296,7 @@ unfolding GoodValues
 equal-values k v zero h = tt
 equal-values k v (suc n) h = (h, equal-values k v n h)
 
-same-items : (k : Section) (v n : ℕ) → GoodValue k v → n ≤ k .most → GoodList k (replicate n v)
+same-items : (k : Section) (v n : ℕ) → GoodValue k v → n ≤ k .items → GoodList k (replicate n v)
 same-items k v n h l = (omega (arith, l, length-replicate n v), equal-values k v n h)
 
 full : (n : ℕ) → n ≤ 1000 → (s : List ℕ) × (l : Lists) × IsSheetOf l s × (length s ≡ 6 + 2 * n + 4 * n + 4 * n)
@@ -415,6 +416,14 @@ wrong-sheets =
       first-year-alone = λ a m d p. unlike 1 0 12 (p .years) refl refl (omega arith);
       first-month-alone = λ a y d p. unlike 1 0 134 (p .months) refl refl (omega arith);
       first-day-alone = λ a y m p. unlike 1 0 29 (p .days) refl refl (omega arith);
+      month-as-a-day = λ c y m d p.
+          let o : _≡_ {A = Answer Counted} (is c) (refused 7) = p .answer in
+          let z : _≡_ {A = ℕ} 0 1 = cc in
+          omega arith;
+      day-as-a-month = λ why y m d p.
+          let o : _≡_ {A = Answer Counted} (refused (reasonNumber why)) (is (countsAre 0 0 1)) = p .answer in
+          let z : _≡_ {A = ℕ} 0 1 = cc in
+          omega arith;
     }
 
 pub wrong-writings : Paper.Wrong-writings
@@ -432,4 +441,12 @@ wrong-writings =
       first-year-alone = λ a p. unlike 4 0 12 (p .buffer) refl refl (omega arith);
       first-month-alone = λ a p. unlike 8 0 134 (p .buffer) refl refl (omega arith);
       first-day-alone = λ a p. unlike 10 0 29 (p .buffer) refl refl (omega arith);
+      month-as-a-day = λ n o p.
+          let e : _≡_ {A = Answer ℕ} (is n) (refused 7) = p .answer in
+          let z : _≡_ {A = ℕ} 0 1 = cc in
+          omega arith;
+      day-as-a-month = λ why o p.
+          let e : _≡_ {A = Answer ℕ} (refused (reasonNumber why)) (is 10) = p .answer in
+          let z : _≡_ {A = ℕ} 0 1 = cc in
+          omega arith;
     }

@@ -65,7 +65,7 @@ bytes-laid (k ∷ ks) l =
 -- a section whose good values fit its bytes, and whose items fit its count
 pub record Fit (k : Section) : Type 0 where
   pub values : (x : ℕ) → k .good x ≡ true → x < 256 ^ k .width
-  pub counts : k .most < 65536
+  pub counts : k .items < 65536
 
 abbrev pub AllFit : List Section → Type 0
 AllFit [] = Unit {0}

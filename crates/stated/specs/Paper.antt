@@ -22,6 +22,7 @@ use Rattle.sheet.specs.Sheet.{
   yearItems,
   monthItems,
   dayItems,
+  sheetSections,
   Lists,
   threeLists,
   listsIn,
@@ -111,12 +112,14 @@ Calls-back-and-there =
 -- a section of items of w bytes, each from the least to the most, or else reason r; "Each count is at most 1,000"
 pub record SectionIs (k : Section) (w least most r : ℕ) : Type 0 where
   pub bytes : k .width ≡ w
-  pub counts : k .most ≡ 1000
+  pub counts : k .items ≡ 1000
   pub good : (x : ℕ) → (k .good x ≡ true) ↔ ((least ≤ x) × (x ≤ most))
   pub reason : (x : ℕ) → k .reason x ≡ r
 
--- "years (2 bytes each), months (4), days (4)": what each asks of an item, and its reason, 1, 7 or 6
+-- "Three sections in fixed order": the years, the months, the days; "years (2 bytes each), months (4), days (4)": what each asks of
+-- an item, and its reason, 1, 7 or 6
 pub record Sections-literally : Type 0 where
+  pub order : sheetSections ≡ ranged yearItems ∷ ranged monthItems ∷ ranged dayItems ∷ []
   pub years : SectionIs (ranged yearItems) 2 1 41040 1
   pub months : SectionIs (ranged monthItems) 4 0 507599 7
   pub days : SectionIs (ranged dayItems) 4 0 14989859 6
@@ -207,8 +210,15 @@ Empty-sheet =
 abbrev pub ReadTwos : SheetCounts → List ℕ → List ℕ → List ℕ → Type 0
 ReadTwos = ReadSheet sheetOfTwos (0 ∷ 0 ∷ []) (0 ∷ 0 ∷ []) (0 ∷ 0 ∷ [])
 
--- wrong versions, each shut out at a named input: refusing all, filling no list, copying the first item over the rest, and
--- leaving out the rest
+-- a sheet of the month 507,600 alone, which is past the last, and one of the day 507,600 alone, which is there
+abbrev pub sheetPastMonths : List ℕ
+sheetPastMonths = 0 ∷ 0 ∷ 1 ∷ 0 ∷ 208 ∷ 190 ∷ 7 ∷ 0 ∷ 0 ∷ 0 ∷ []
+
+abbrev pub sheetOfADay : List ℕ
+sheetOfADay = 0 ∷ 0 ∷ 0 ∷ 0 ∷ 1 ∷ 0 ∷ 208 ∷ 190 ∷ 7 ∷ 0 ∷ []
+
+-- wrong versions, each shut out at a named input: refusing all, filling no list, copying the first item over the rest, leaving out
+-- the rest, and months and days in each other's place
 pub record Wrong-sheets : Type 0 where
   pub refusing-all : (why : Reason) (y m d : List ℕ) → ReadSheet emptySheet [] [] [] (Counts'.Refused why) y m d → ⊥
   pub filling-none : (a : SheetCounts) (m d : List ℕ) → ReadSheet sheetOf11 (0 ∷ []) [] [] a (0 ∷ []) m d → ⊥
@@ -218,6 +228,8 @@ pub record Wrong-sheets : Type 0 where
   pub first-year-alone : (a : SheetCounts) (m d : List ℕ) → ReadTwos a (11 ∷ 0 ∷ []) m d → ⊥
   pub first-month-alone : (a : SheetCounts) (y d : List ℕ) → ReadTwos a y (123 ∷ 0 ∷ []) d → ⊥
   pub first-day-alone : (a : SheetCounts) (y m : List ℕ) → ReadTwos a y m (28 ∷ 0 ∷ []) → ⊥
+  pub month-as-a-day : (c : Counted) (y m d : List ℕ) → ReadSheet sheetPastMonths [] (0 ∷ []) [] (Counts'.Is c) y m d → ⊥
+  pub day-as-a-month : (why : Reason) (y m d : List ℕ) → ReadSheet sheetOfADay [] [] (0 ∷ []) (Counts'.Refused why) y m d → ⊥
 
 -- what a call may do that writes two years, two months or two days into a buffer of noughts
 abbrev pub WriteYears : HowMany → List ℕ → Type 0
@@ -238,3 +250,5 @@ pub record Wrong-writings : Type 0 where
   pub first-year-alone : (a : HowMany) → WriteYears a (2 ∷ 0 ∷ 11 ∷ 0 ∷ 0 ∷ 0 ∷ 0 ∷ 0 ∷ 0 ∷ 0 ∷ []) → ⊥
   pub first-month-alone : (a : HowMany) → WriteMonths a (0 ∷ 0 ∷ 2 ∷ 0 ∷ 123 ∷ 0 ∷ 0 ∷ 0 ∷ 0 ∷ 0 ∷ 0 ∷ 0 ∷ 0 ∷ 0 ∷ []) → ⊥
   pub first-day-alone : (a : HowMany) → WriteDays a (0 ∷ 0 ∷ 0 ∷ 0 ∷ 2 ∷ 0 ∷ 28 ∷ 0 ∷ 0 ∷ 0 ∷ 0 ∷ 0 ∷ 0 ∷ 0 ∷ []) → ⊥
+  pub month-as-a-day : (n : ℕ) (o : List ℕ) → WriteSheet [] (507600 ∷ []) [] (replicate 10 0) (HowMany'.Is n) o → ⊥
+  pub day-as-a-month : (why : Reason) (o : List ℕ) → WriteSheet [] [] (507600 ∷ []) (replicate 10 0) (HowMany'.Refused why) o → ⊥

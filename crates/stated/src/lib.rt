@@ -1,2 +1,2 @@
-// What the paper says of the sheet, as statements over the promises of `sheet` (specs/) with their proofs. No code: an edit of the
-// code or of a definition is refused by `sheet` alone, and one of a statement without checking the code again.
+// What the paper says of the sheet, as statements over the promises of `sheet` (specs/) with their proofs. No code: an edit of a
+// statement is refused without checking the code again, and one of the code, or of a definition alone, without checking these.
