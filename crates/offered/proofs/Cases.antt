@@ -1,55 +1,17 @@
 -- The paper's known dates laid flat and a slip, at which a wrong definition shows at once. Assumes nothing.
 use mathlib.Core.Path.{_≡_, refl}
 use mathlib.Core.Bool.{true, false}
-use Rattle.rule.specs.Counts.{dayName, yearName, ji, bu, yearInBu, headName}
-use Rattle.rule.specs.Lists.{those}
-use Rattle.rule.specs.Rule.{
-  monthStart,
-  smallRemainder,
-  monthLength,
-  monthOfDay,
-  quarterDay,
-  quarterParts,
-  termDay,
-  firstMonth,
-  leapRemainder,
-  monthsInYear,
-  yearOfMonth,
-  midTermsBefore,
-  leap,
-  midTermNumber,
-  monthNumber,
-  monthAt,
-  eclipse,
-}
-use Rattle.dates.specs.Dates.{dateIn, dateOf, dateAt, namedMonth, dayOfNamed, dayOfDate}
-use Rattle.facts.specs.Facts.{
-  solsticeYear,
-  solsticeYearAt,
-  leapMonth,
-  yearFacts,
-  yearFactsAt,
-  monthFacts,
-  monthFactsAt,
-  quarterOf,
-  quarterAt,
-  termAt,
-}
-use Rattle.planets.specs.Planets.{
-  numbersOf,
-  conjunctionDay,
-  conjunctionParts,
-  phase,
-  conjunctionOf,
-  conjunctionAt,
-  nextCount,
-  nextOf,
-  nextAt,
-  pairAt,
-}
+use Rattle.rule.specs.Counts.{ji, bu}
+use Rattle.rule.specs.Rule.{leap, eclipse}
+use Rattle.dates.specs.Dates.{dateAt, dayOfDate}
+use Rattle.facts.specs.Facts.{solsticeYearAt, yearFactsAt, monthFactsAt, quarterAt, termAt}
+use Rattle.planets.specs.Planets.{phase, conjunctionAt, nextAt, pairAt}
 use Rattle.reading.specs.declared.Field.the-variants.{Known, Unread}
 use Rattle.offered.specs.Flat.{flatDate, flatDay, flatSolstice, flatYear, flatMonth, flatQuarter, flatConjunction, flatNext, flatPair}
 use Rattle.offered.specs.Promises.{readingOf}
+use Rattle.dates.proofs.Computing.{dates-computed}
+use Rattle.facts.proofs.Computing.{facts-computed}
+use Rattle.planets.proofs.Computing.{planets-computed}
 
 -- case 3: the last day, leap 10, and the day after it
 pub last-day :
@@ -64,7 +26,7 @@ pub last-day :
       «day_name» = 60;
       «year_name» = 16;
     }
-unfolding dateAt dateOf dateIn yearOfMonth monthOfDay monthAt leap monthNumber midTermNumber midTermsBefore monthStart monthLength dayName yearName
+unfolding dates-computed
 last-day = refl
 
 pub day-after-the-last :
@@ -84,7 +46,7 @@ day-after-the-last = refl
 
 -- case 9: "Year 11, leap 8, day 1: reason 4"
 pub leap-8-of-11 : flatDay (dayOfDate 11 8 true 1) ≡ record { reason = 4; day = 0 }
-unfolding dayOfDate dayOfNamed namedMonth leap midTermsBefore monthOfDay monthStart termDay
+unfolding dates-computed
 leap-8-of-11 = refl
 
 -- cases 5 and 6: the place of year 9,366, its full moon and its solstice
@@ -100,15 +62,15 @@ pub place-of-9366 :
       «leap_remainder» = 5;
       months = 12;
     }
-unfolding solsticeYearAt solsticeYear ji bu yearInBu headName dayName firstMonth leapRemainder monthsInYear
+unfolding facts-computed
 place-of-9366 = refl
 
 pub full-moon-of-115830 : flatQuarter (quarterAt 115830 2) ≡ record { reason = 0; day = 3420573; parts = 918 }
-unfolding quarterAt quarterOf quarterDay quarterParts
+unfolding facts-computed
 full-moon-of-115830 = refl
 
 pub solstice-of-9366 : flatDay (termAt 9366 0) ≡ record { reason = 0; day = 3420566 }
-unfolding termAt termDay
+unfolding facts-computed
 solstice-of-9366 = refl
 
 -- cases 8 and 10: "Year 11: leap 9, month 134", an eclipse month
@@ -123,7 +85,7 @@ pub year-11 :
       «leap_number» = 9;
       «leap_month» = 134;
     }
-unfolding yearFactsAt yearFacts leapMonth those yearName firstMonth monthsInYear leap monthNumber midTermNumber midTermsBefore monthStart
+unfolding facts-computed
 year-11 = refl
 
 pub month-134 :
@@ -138,30 +100,30 @@ pub month-134 :
       «first_name» = 58;
       eclipse = true;
     }
-unfolding monthFactsAt monthFacts monthAt leap monthNumber midTermNumber midTermsBefore monthStart smallRemainder monthLength dayName eclipse
+unfolding facts-computed
 month-134 = refl
 
 -- W11: the first conjunction of Venus, a morning one; the one that 004 counts to by the end of year 9,455, an evening one; its pair
 pub first-of-venus : flatConjunction (conjunctionAt 4 1) ≡ record { reason = 0; day = 292; parts = 281; divisor = 23320; phase = 1 }
-unfolding conjunctionAt conjunctionOf numbersOf conjunctionDay conjunctionParts phase
+unfolding planets-computed
 first-of-venus = refl
 
 pub first-of-jupiter : flatConjunction (conjunctionAt 1 1) ≡ record { reason = 0; day = 398; parts = 14641; divisor = 17308; phase = 0 }
-unfolding conjunctionAt conjunctionOf numbersOf conjunctionDay conjunctionParts phase
+unfolding planets-computed
 first-of-jupiter = refl
 
 pub venus-in-9455 :
     flatNext (nextAt 4 3453334)
     ≡ record { reason = 0; k = 11826; day = 3453334; parts = 11666; divisor = 23320; phase = 2 }
-unfolding nextAt nextOf nextCount conjunctionOf numbersOf conjunctionDay conjunctionParts phase
+unfolding planets-computed
 venus-in-9455 = refl
 
 pub none-left : flatNext (nextAt 4 14989855) ≡ record { reason = 20; k = 0; day = 0; parts = 0; divisor = 0; phase = 0 }
-unfolding nextAt nextOf nextCount conjunctionOf numbersOf conjunctionDay conjunctionParts phase
+unfolding planets-computed
 none-left = refl
 
 pub pair-of-venus : flatPair (pairAt 4) ≡ record { reason = 0; years = 4661; conjunctions = 5830 }
-unfolding pairAt numbersOf
+unfolding planets-computed
 pair-of-venus = refl
 
 -- the solstice day of case 6, of a slip on which the leap mark and the day of month were not read: what stands there is not taken

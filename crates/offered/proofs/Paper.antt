@@ -8,16 +8,13 @@ use mathlib.Core.List.{List}
 use lib.Dec.{leb}
 use lib.ListN.{length, getD}
 use Rattle.rule.specs.Reasons.{Answer, is, refused, refused-with, guard, andThen, reasonNumber, guard-with, afterwards}
-use Rattle.rule.specs.Counts.{dayName, yearName}
-use Rattle.rule.specs.Lists.{those}
-use Rattle.rule.specs.Rule.{monthStart, monthLength, monthOfDay, termDay, yearOfMonth, midTermsBefore, leap, midTermNumber, monthNumber}
 use Rattle.rule.specs.declared.Reason.{Reason}
 use Rattle.rule.specs.declared.Reason.the-variants.{NoSuchDay, BadWindow, FieldOutOfRange}
 use Rattle.dates.specs.declared.Date.{Date}
 use Rattle.dates.specs.declared.Dated.{Dated}
 use Rattle.dates.specs.declared.Dated.the-variants as Dated'
 use Rattle.dates.specs.declared.DayTold.the-variants as DayTold'
-use Rattle.dates.specs.Dates.{dateIn, dateOf, dateAt, namedMonth, dayInMonth, dayOfNamed, dayOfDate}
+use Rattle.dates.specs.Dates.{dateAt, dayOfDate}
 use Rattle.dates.specs.Promises.{saidDate, saidDay}
 use Rattle.moves.specs.Moves.{moved}
 use Rattle.facts.specs.declared.SolsticeYearTold.the-variants as Solstice'
@@ -30,20 +27,13 @@ use Rattle.facts.specs.Promises.{saidSolsticeYear, saidYear, saidMonth, saidQua
 use Rattle.planets.specs.declared.ConjunctionTold.the-variants as Conjunction'
 use Rattle.planets.specs.declared.NextTold.the-variants as Next'
 use Rattle.planets.specs.declared.PairTold.the-variants as Pair'
-use Rattle.planets.specs.Planets.{
-  numbersOf,
-  conjunctionDay,
-  conjunctionAt,
-  nextCount,
-  nextAt,
-  pairAt,
-}
+use Rattle.planets.specs.Planets.{conjunctionAt, nextAt, pairAt}
 use Rattle.planets.specs.Promises.{saidConjunction, saidNext, saidPair}
 use Rattle.planets.proofs.Reducing.{as-printed}
 use Rattle.reading.specs.declared.Reading.{Reading}
 use Rattle.reading.specs.declared.Found.{Found}
 use Rattle.reading.specs.declared.Found.the-variants as Found'
-use Rattle.reading.specs.Readings.{monthFits, dayFits, fits, inRanges, windowDays, windowHolds, fitting}
+use Rattle.reading.specs.Readings.{inRanges, windowDays, windowHolds, fitting}
 use Rattle.reading.specs.Search.{total, searchAt, saidFound}
 use Rattle.sheet.specs.declared.Counted as Counts
 use Rattle.sheet.specs.declared.SheetCounts.{SheetCounts}
@@ -124,6 +114,10 @@ use Rattle.offered.specs.Paper as Paper
 use Rattle.offered.proofs.Sound as Sound
 use Rattle.offered.proofs.Sound.{Sound, given, numbered, none-is-0}
 use Rattle.offered.proofs.Texts.{text-said, unwritten, year-11, line-134, month-134, day-0}
+use Rattle.dates.proofs.Computing.{dates-computed}
+use Rattle.facts.proofs.Computing.{facts-computed}
+use Rattle.planets.proofs.Computing.{planets-computed}
+use Rattle.reading.proofs.Computing.{searches-computed}
 
 -- printed bytes leave one answer and one buffer
 one-printed :
@@ -433,23 +427,11 @@ unlike i e differ = differ (ap (λ (l : List ℕ). getD l i 0) e)
 
 -- what the named inputs are computed with: on an `unfolding` line such a name brings all that its own line names
 dates : ℕ
-unfolding dateAt dayOfDate dayOfNamed dayInMonth namedMonth moved monthLength monthStart monthOfDay termDay yearOfMonth
+unfolding moved dates-computed
 dates = 0
 
-facts : ℕ
-unfolding solsticeYearAt yearFactsAt monthFactsAt quarterAt termAt
-facts = 0
-
-planets : ℕ
-unfolding conjunctionAt numbersOf conjunctionDay nextAt nextCount pairAt
-planets = 0
-
-searches : ℕ
-unfolding searchAt total fitting fits monthFits dayFits inRanges those
-searches = 0
-
 pub wrong-exported : Paper.Wrong-exported
-unfolding dates dateOf dateIn facts planets searches reading writing
+unfolding dates facts-computed planets-computed searches-computed reading writing
 wrong-exported =
     record {
       refusing-days = λ r p. no-refusal (λ (x : CDate). x .reason) p refl;
@@ -490,7 +472,7 @@ wrong-exported =
     }
 
 pub wrong-low-bits : Paper.Wrong-low-bits
-unfolding dates facts planets searches yearBlockAt monthLineAt monthItemAt dayItemAt yearName dayName leap monthNumber midTermNumber midTermsBefore
+unfolding dates facts-computed planets-computed searches-computed yearBlockAt monthLineAt monthItemAt dayItemAt
 wrong-low-bits =
     record {
       days = λ r p q. not-alike (λ (x : CDate). x .reason) p q (above 6 (omega arith));

@@ -8,32 +8,18 @@ use mathlib.Core.List.{List}
 use lib.Dec.{leb}
 use lib.ListN.{length, getD, drop, List·getD-append}
 use borrow.Author.Tests.{le-leb}
-use Rattle.rule.specs.Counts.{dayName, yearName}
-use Rattle.rule.specs.Lists.{those, placed}
-use Rattle.rule.specs.Rule.{
-  monthStart,
-  monthLength,
-  monthOfDay,
-  firstMonth,
-  monthsInYear,
-  yearOfMonth,
-  midTermsBefore,
-  leap,
-  midTermNumber,
-  monthNumber,
-  monthAt,
-  eclipse,
-}
+use Rattle.rule.specs.Lists.{placed}
 use Rattle.rule.specs.Reasons.{Answer, is, andThen, intoRoom, afterwards}
 use Rattle.rule.proofs.Answers.{passes}
-use Rattle.dates.specs.Dates.{dateIn, dateOf}
-use Rattle.facts.specs.Facts.{yearFacts, monthFacts}
 use Rattle.fields.specs.Fields.{digits, decimal, followed, each}
 use Rattle.penned.specs.Lines.{yearBlock, monthLined, monthItem, dayItem}
 use Rattle.penned.specs.Promises.{yearBlockAt, monthLineAt, monthItemAt, dayItemAt}
 use Rattle.offered.specs.declared.CLength.{CLength}
 use Rattle.offered.specs.Flat.{givenLength, flatLength}
 use Rattle.offered.specs.Promises.{CPrinted}
+use Rattle.rule.proofs.Computing.{rule-computed}
+use Rattle.dates.proofs.Computing.{dates-computed}
+use Rattle.facts.proofs.Computing.{facts-computed}
 
 -- what is printed into any room is a text of n bytes, the first of which is no nought
 pub record Text (a : ℕ → Answer (List ℕ)) (n : ℕ) : Type 0 where
@@ -59,21 +45,21 @@ module _ {a : ℕ → Answer (List ℕ)} {n : ℕ} (t : Text a n) (o : List ℕ)
 
 -- what a line is computed with: on an `unfolding` line such a name brings all that its own line names
 lines : ℕ
-unfolding dayName monthStart monthLength midTermsBefore leap midTermNumber monthNumber monthAt digits decimal followed
+unfolding digits decimal followed rule-computed
 lines = 0
 
 pub year-11 : Text (yearBlockAt 11) 235
-unfolding yearBlockAt yearBlock monthLined monthFacts yearFacts yearName firstMonth monthsInYear eclipse those each lines
+unfolding yearBlockAt yearBlock monthLined each lines facts-computed
 year-11 = record { text = yearBlock 11; into = λ k. refl; has = refl; begins = λ e. let f : _≡_ {A = ℕ} 89 0 = e in omega arith }
 
 pub line-134 : Text (monthLineAt 134) 16
-unfolding monthLineAt monthLined monthFacts eclipse lines
+unfolding monthLineAt monthLined lines facts-computed
 line-134 = record { text = monthLined 134; into = λ k. refl; has = refl; begins = λ e. let f : _≡_ {A = ℕ} 49 0 = e in omega arith }
 
 pub month-134 : Text (monthItemAt 134) 22
-unfolding monthItemAt monthItem monthFacts eclipse lines
+unfolding monthItemAt monthItem lines facts-computed
 month-134 = record { text = monthItem 134; into = λ k. refl; has = refl; begins = λ e. let f : _≡_ {A = ℕ} 77 0 = e in omega arith }
 
 pub day-0 : Text (dayItemAt 0) 17
-unfolding dayItemAt dayItem dateOf dateIn yearName monthOfDay yearOfMonth lines
+unfolding dayItemAt dayItem lines dates-computed
 day-0 = record { text = dayItem 0; into = λ k. refl; has = refl; begins = λ e. let f : _≡_ {A = ℕ} 68 0 = e in omega arith }

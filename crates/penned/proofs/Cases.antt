@@ -2,41 +2,21 @@
 use Prim.Native.Nat.{ℕ}
 use mathlib.Core.Path.{_≡_, refl}
 use mathlib.Core.List.{[], _∷_}
-use Rattle.rule.specs.Counts.{dayName, yearName}
-use Rattle.rule.specs.Rule.{
-  monthStart,
-  monthLength,
-  monthOfDay,
-  yearOfMonth,
-  firstMonth,
-  monthsInYear,
-  midTermsBefore,
-  leap,
-  midTermNumber,
-  monthNumber,
-  monthAt,
-  eclipse,
-}
-use Rattle.rule.specs.Lists.{those}
 use Rattle.rule.specs.Reasons.{is, refused}
-use Rattle.dates.specs.Dates.{dateIn, dateOf}
-use Rattle.facts.specs.Facts.{monthFacts, yearFacts}
 use Rattle.fields.specs.Fields.{word, digits, decimal, followed, each}
 use Rattle.penned.specs.Lines.{monthLined, yearBlock, monthItem, dayItem}
 use Rattle.penned.specs.Promises.{yearBlockAt, monthLineAt, monthItemAt, dayItemAt}
 use Rattle.penned.specs.Paper.{inLines, exampleOf11}
+use Rattle.dates.proofs.Computing.{dates-computed}
+use Rattle.facts.proofs.Computing.{facts-computed}
 
 -- what lines are computed with: on an `unfolding` line such a name brings all that its own line names
-month-numbers : ℕ
-unfolding midTermsBefore leap midTermNumber monthNumber monthAt eclipse
-month-numbers = 0
-
 month-lines : ℕ
-unfolding inLines monthFacts dayName monthStart monthLength digits decimal followed month-numbers
+unfolding inLines digits decimal followed facts-computed
 month-lines = 0
 
 unfoldable pub year-lines : ℕ
-unfolding yearBlock monthLined yearFacts yearName firstMonth monthsInYear those each month-lines
+unfolding yearBlock monthLined each month-lines facts-computed
 year-lines = 0
 
 -- the year 0 into no bytes at all: 1 comes before 12
@@ -54,7 +34,7 @@ unfolding monthItemAt monthItem month-lines
 month-134 = refl
 
 pub day-0 : dayItemAt 0 300 ≡ is (inLines (word "DAY 0 1 11 - 1 1" ∷ []))
-unfolding dayItemAt dayItem dateOf dateIn monthOfDay yearOfMonth yearName month-lines
+unfolding dayItemAt dayItem month-lines dates-computed
 day-0 = refl
 
 pub year-11 : yearBlockAt 11 300 ≡ is exampleOf11

@@ -3,13 +3,10 @@ use Prim.Native.Nat.{ℕ}
 use mathlib.Core.Path.{_≡_, refl}
 use mathlib.Core.List.{[], _++_}
 use lib.ListN.{replicate}
-use Rattle.rule.specs.Rule.{monthStart, monthLength, monthOfDay, termDay, midTermsBefore, leap}
-use Rattle.dates.specs.Dates.{dateAt, namedMonth, dayInMonth, dayOfNamed, dayOfDate}
+use Rattle.dates.specs.Dates.{dateAt}
 use Rattle.moves.specs.Moves.{moved}
 use Rattle.facts.specs.Facts.{yearFactsAt, termAt}
-use Rattle.planets.specs.Planets.{numbersOf, conjunctionDay, conjunctionAt, nextCount, nextAt, pairAt}
-use Rattle.reading.specs.Readings.{inRanges}
-use Rattle.reading.specs.Search.{searchAt}
+use Rattle.planets.specs.Planets.{pairAt}
 use Rattle.fields.specs.Fields.{word}
 use Rattle.fields.specs.Paper.{valueFrom}
 use Rattle.told.specs.Answers.{refusedText, yearText, termText, conjunctionText, nextText, pairText, quarterText, dayText, dateText, moveText, searchText}
@@ -35,6 +32,9 @@ use Rattle.forms.specs.Forms.{
 }
 use Rattle.asked.specs.Asked.{table, formsOf, forms, queryAt, hashed, readBy}
 use Rattle.queries.specs.Queries.{unreadable, answerTo}
+use Rattle.dates.proofs.Computing.{dates-computed}
+use Rattle.planets.proofs.Computing.{planets-computed}
+use Rattle.reading.proofs.Computing.{searches-computed}
 
 -- what a line and each kind of answer are computed with: on an `unfolding` line such a name brings all that its own line names
 fields : ℕ
@@ -58,7 +58,7 @@ unfolding lines termText termAt
 terms = 0
 
 dating : ℕ
-unfolding lines dateText dayOfDate dayOfNamed dayInMonth namedMonth termDay monthOfDay monthStart monthLength leap midTermsBefore
+unfolding lines dateText dates-computed
 dating = 0
 
 moving : ℕ
@@ -66,15 +66,15 @@ unfolding dating moveText moved
 moving = 0
 
 searching : ℕ
-unfolding lines searchText searchAt inRanges
+unfolding lines searchText searches-computed
 searching = 0
 
 conjunctions : ℕ
-unfolding lines conjunctionText conjunctionAt numbersOf conjunctionDay
+unfolding lines conjunctionText planets-computed
 conjunctions = 0
 
 nexts : ℕ
-unfolding lines nextText nextAt numbersOf nextCount conjunctionDay
+unfolding lines nextText planets-computed
 nexts = 0
 
 -- "a leading zero, `-0`"

@@ -5,46 +5,11 @@ use mathlib.Core.Path.{_≡_, refl}
 use mathlib.Core.Bool.{true, false}
 use mathlib.Core.List.{[], _∷_}
 use lib.IntN.{pos, negsuc}
-use Rattle.rule.specs.Counts.{dayName, yearName, ji, bu, yearInBu, headName}
-use Rattle.rule.specs.Lists.{those}
-use Rattle.rule.specs.Rule.{
-  monthStart,
-  smallRemainder,
-  monthLength,
-  monthOfDay,
-  quarterDay,
-  quarterParts,
-  termDay,
-  firstMonth,
-  leapRemainder,
-  monthsInYear,
-  yearOfMonth,
-  midTermsBefore,
-  leap,
-  midTermNumber,
-  monthNumber,
-  monthAt,
-  eclipse,
-}
-use Rattle.dates.specs.Dates.{dateIn, dateOf, dateAt, namedMonth, dayInMonth, dayOfNamed, dayOfDate}
+use Rattle.dates.specs.Dates.{dateAt}
 use Rattle.moves.specs.Moves.{moved}
-use Rattle.facts.specs.Facts.{
-  solsticeYear,
-  solsticeYearAt,
-  leapMonth,
-  yearFacts,
-  yearFactsAt,
-  monthFacts,
-  monthFactsAt,
-  quarterOf,
-  quarterAt,
-  termAt,
-}
-use Rattle.planets.specs.Planets.{numbersOf, conjunctionDay, conjunctionParts, phase, conjunctionOf, conjunctionAt, nextCount, nextOf, nextAt, pairAt}
+use Rattle.planets.specs.Planets.{conjunctionAt, pairAt}
 use Rattle.reading.specs.declared.Field.the-variants.{Known, Unread}
 use Rattle.reading.specs.declared.Reading.{Reading}
-use Rattle.reading.specs.Readings.{monthFits, dayFits, fits, inRanges, fitting}
-use Rattle.reading.specs.Search.{total, searchAt}
 use Rattle.reading.specs.Paper.{allUnread}
 use Rattle.fields.specs.Fields.{word, digits, decimal, followed, each}
 use Rattle.penned.specs.Paper.{inLines}
@@ -75,6 +40,10 @@ use Rattle.told.specs.Answers.{
   foundLine,
   searchText,
 }
+use Rattle.dates.proofs.Computing.{dates-computed}
+use Rattle.facts.proofs.Computing.{facts-computed}
+use Rattle.planets.proofs.Computing.{planets-computed}
+use Rattle.reading.proofs.Computing.{searches-computed}
 
 -- What each kind of text is computed with: on an `unfolding` line such a name brings all that its own line names.
 printing : ℕ
@@ -85,74 +54,66 @@ refusing : ℕ
 unfolding refusedText wordsNumbered printing
 refusing = 0
 
-months : ℕ
-unfolding monthStart monthLength monthOfDay leap midTermsBefore monthNumber midTermNumber monthAt dayName
-months = 0
-
-years : ℕ
-unfolding yearFactsAt yearFacts leapMonth yearName firstMonth monthsInYear those
-years = 0
-
 day-lines : ℕ
-unfolding dayLine dayLineOf dateOf dateIn yearOfMonth yearName months printing
+unfolding dayLine dayLineOf printing dates-computed
 day-lines = 0
 
 dates : ℕ
-unfolding dateText dayOfDate dayOfNamed dayInMonth namedMonth termDay months day-lines
+unfolding dateText day-lines dates-computed
 dates = 0
 
 conjunctions : ℕ
-unfolding conjunctionOf numbersOf conjunctionDay conjunctionParts phase printing
+unfolding printing planets-computed
 conjunctions = 0
 
 searches : ℕ
-unfolding searchText searchAt total fitting fits monthFits dayFits inRanges those foundLine each day-lines
+unfolding searchText foundLine each day-lines searches-computed
 searches = 0
 
 -- known date 5: year 9,366 is year 18 of bu 4 of ji 1, leap remainder 5, first month 115,830
 pub place-9366 : placeText 9366 ≡ inLines (word "PLACE 1 4 18 58 115830 5 12" ∷ [])
-unfolding placeText placeLine solsticeYear solsticeYearAt ji bu yearInBu headName dayName firstMonth leapRemainder monthsInYear printing
+unfolding placeText placeLine printing facts-computed
 place-9366 = refl
 
 -- known date 4: year 77 is year 1 of bu 2, whose head name is 40
 pub place-77 : placeText 77 ≡ inLines (word "PLACE 1 2 1 40 940 0 12" ∷ [])
-unfolding placeText placeLine solsticeYear solsticeYearAt ji bu yearInBu headName dayName firstMonth leapRemainder monthsInYear printing
+unfolding placeText placeLine printing facts-computed
 place-77 = refl
 
 pub no-year : placeText 41041 ≡ inLines (word "REFUSED 1 year outside 1 to 41,040" ∷ [])
-unfolding placeText placeLine solsticeYear solsticeYearAt refusing
+unfolding placeText placeLine refusing facts-computed
 no-year = refl
 
 -- the paper's example: the header of year 11, whose months are 123 to 135, month 134 being leap 9
 pub year-11 : yearText 11 ≡ inLines (word "YEAR 11 NAME 27 MONTHS 13 FIRST 123 LEAP 9 134" ∷ [])
-unfolding yearText yearLine years months printing
+unfolding yearText yearLine facts-computed printing
 year-11 = refl
 
 pub year-1 : yearText 1 ≡ inLines (word "YEAR 1 NAME 17 MONTHS 12 FIRST 0 LEAP - -" ∷ [])
-unfolding yearText yearLine years months printing
+unfolding yearText yearLine facts-computed printing
 year-1 = refl
 
 -- lines of the same example, with the first day and the small remainder after them
 pub month-134 : monthText 134 ≡ inLines (word "MONTH 134 9 L 58 29 E 3957 126" ∷ [])
-unfolding monthText monthLineOf monthFactsAt monthFacts smallRemainder eclipse months printing
+unfolding monthText monthLineOf printing facts-computed
 month-134 = refl
 
 pub month-135 : monthText 135 ≡ inLines (word "MONTH 135 10 - 27 30 - 3986 625" ∷ [])
-unfolding monthText monthLineOf monthFactsAt monthFacts smallRemainder eclipse months printing
+unfolding monthText monthLineOf printing facts-computed
 month-135 = refl
 
 -- month 134 is full on day 3,971: 27,759 × 538 is 3,760 × 3,971 and 3,382 more
 pub full-134 : quarterText 134 2 ≡ inLines (word "QUARTER 3971 3382" ∷ [])
-unfolding quarterText quarterLine quarterAt quarterOf quarterDay quarterParts printing
+unfolding quarterText quarterLine printing facts-computed
 full-134 = refl
 
 pub no-quarter : quarterText 0 4 ≡ inLines (word "REFUSED 15 term above 23 or quarter above 3" ∷ [])
-unfolding quarterText quarterLine quarterAt quarterOf refusing
+unfolding quarterText quarterLine refusing facts-computed
 no-quarter = refl
 
 -- the term after the solstice of year 11: 487 × 241 is 32 × 3,667 and 23 more
 pub term-11-1 : termText 11 1 ≡ inLines (word "TERM 3667" ∷ [])
-unfolding termText termLine termAt termDay printing
+unfolding termText termLine printing facts-computed
 term-11-1 = refl
 
 -- the checks of W11 for k = 1: Jupiter, and Venus, whose odd counts are morning conjunctions
@@ -179,25 +140,25 @@ no-such-count = refl
 
 -- the first conjunction of Venus on or after day 292 is its first, and after that day its second
 pub next-292 : nextText 4 292 ≡ inLines (word "NEXT 1 292 281 23320 M" ∷ [])
-unfolding nextText nextLine nextAt nextCount nextOf conjunctions
+unfolding nextText nextLine conjunctions planets-computed
 next-292 = refl
 
 pub next-293 : nextText 4 293 ≡ inLines (word "NEXT 2 584 562 23320 E" ∷ [])
-unfolding nextText nextLine nextAt nextCount nextOf conjunctions
+unfolding nextText nextLine conjunctions planets-computed
 next-293 = refl
 
 -- after day 14,989,825 no conjunction of Jupiter is left
 pub none-left : nextText 1 14989826 ≡ inLines (word "REFUSED 20 no conjunction falls from the given day to the end of the range" ∷ [])
-unfolding nextText nextLine nextAt nextCount nextOf conjunctions refusing
+unfolding nextText nextLine conjunctions refusing planets-computed
 none-left = refl
 
 -- the pairs that 004 gives: that of Mars (P22, P23), and that of Mercury, which has more conjunctions than years (P90, P91)
 pub mars-pair : pairText 2 ≡ inLines (word "PAIR 1876 879" ∷ [])
-unfolding pairText pairLine pairAt numbersOf printing
+unfolding pairText pairLine printing planets-computed
 mars-pair = refl
 
 pub mercury-pair : pairText 5 ≡ inLines (word "PAIR 1889 11908" ∷ [])
-unfolding pairText pairLine pairAt numbersOf printing
+unfolding pairText pairLine printing planets-computed
 mercury-pair = refl
 
 pub no-pair : pairText 6 ≡ inLines (word "REFUSED 19 planet outside 1 to 5" ∷ [])
