@@ -24,7 +24,9 @@ import shlex
 import subprocess
 import sys
 
-import walked
+sys.dont_write_bytecode = True
+
+import walked  # noqa: E402
 
 ROOT = pathlib.Path(__file__).resolve().parent.parent
 CRATES = ROOT / "crates"
