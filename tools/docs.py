@@ -26,7 +26,7 @@ import sys
 
 sys.dont_write_bytecode = True
 
-import walked  # noqa: E402
+import walked
 
 ROOT = pathlib.Path(__file__).resolve().parent.parent
 CRATES = ROOT / "crates"
