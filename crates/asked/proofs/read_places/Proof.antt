@@ -56,24 +56,39 @@ read-places-spec =
     (λ c κs. search needs)
     (λ c κs. search needs)
     (λ c.
-    let l = c .before .before .before .before .before .before .before .before .before .before .before .before .before .before .before .before .before .args .line .now in
+    let b1 = c .before in
+    let b2 = b1 .before in
+    let b3 = b2 .before in
+    let b4 = b3 .before in
+    let b5 = b4 .before in
+    let b6 = b5 .before in
+    let b7 = b6 .before in
+    let b8 = b7 .before in
+    let b9 = b8 .before in
+    let b10 = b9 .before in
+    let b11 = b10 .before in
+    let b13 = b11 .before .before in
+    let b14 = b13 .before in
+    let b15 = b14 .before in
+    let b17 = b15 .before .before in
+    let l = b17 .args .line .now in
     rw (
-      c .before .before .before .before .before .before .number3 .ensures,
-      c .before .before .before .before .before .number4 .ensures,
-      c .before .before .before .before .leap .ensures,
-      c .before .before .before .number5 .ensures,
-      toZ-ofZ w64 (c .before .before .signed .result) (record { sfits = c .before .before .signed .ok }),
-      c .before .before .signed .ensures,
-      c .before .number6 .ensures,
+      b6 .number3 .ensures,
+      b5 .number4 .ensures,
+      b4 .leap .ensures,
+      b3 .number5 .ensures,
+      toZ-ofZ w64 (b2 .signed .result) (record { sfits = b2 .signed .ok }),
+      b2 .signed .ensures,
+      b1 .number6 .ensures,
       c .number7 .ensures,
-      c .before .before .before .before .before .before .before .after-first8 .ensures,
-      c .before .before .before .before .before .before .before .before .after-first7 .ensures,
-      c .before .before .before .before .before .before .before .before .before .after-first6 .ensures,
-      c .before .before .before .before .before .before .before .before .before .before .after-first5 .ensures,
-      c .before .before .before .before .before .before .before .before .before .before .before .after-first4 .ensures,
-      c .before .before .before .before .before .before .before .before .before .before .before .before .before .after-first3 .ensures,
-      c .before .before .before .before .before .before .before .before .before .before .before .before .before .before .after-first2 .ensures,
-      c .before .before .before .before .before .before .before .before .before .before .before .before .before .before .before .after-first .ensures,
+      b7 .after-first8 .ensures,
+      b8 .after-first7 .ensures,
+      b9 .after-first6 .ensures,
+      b10 .after-first5 .ensures,
+      b11 .after-first4 .ensures,
+      b13 .after-first3 .ensures,
+      b14 .after-first2 .ensures,
+      b15 .after-first .ensures,
       at-place 1 l,
       at-place 2 l,
       at-place 3 l,

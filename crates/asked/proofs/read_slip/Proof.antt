@@ -24,20 +24,32 @@ read-slip-spec =
     (λ c κs. search needs)
     (λ c κs. search needs)
     (λ c.
-    let l = (c .before .before .before .before .before .before .before .before .before .before .before .before .before .args .line .now) in
+    let b1 = c .before in
+    let b2 = b1 .before in
+    let b3 = b2 .before in
+    let b4 = b3 .before in
+    let b5 = b4 .before in
+    let b6 = b5 .before in
+    let b7 = b6 .before in
+    let b8 = b7 .before in
+    let b9 = b8 .before in
+    let b10 = b9 .before in
+    let b11 = b10 .before in
+    let b13 = b11 .before .before in
+    let l = b13 .args .line .now in
     rw (
-      c .before .before .before .before .before .slip-field .ensures,
-      c .before .before .before .before .slip-field2 .ensures,
-      c .before .before .before .slip-mark .ensures,
-      c .before .before .slip-field3 .ensures,
-      c .before .slip-field4 .ensures,
+      b5 .slip-field .ensures,
+      b4 .slip-field2 .ensures,
+      b3 .slip-mark .ensures,
+      b2 .slip-field3 .ensures,
+      b1 .slip-field4 .ensures,
       c .slip-field5 .ensures,
-      c .before .before .before .before .before .before .after-first6 .ensures,
-      c .before .before .before .before .before .before .before .after-first5 .ensures,
-      c .before .before .before .before .before .before .before .before .after-first4 .ensures,
-      c .before .before .before .before .before .before .before .before .before .after-first3 .ensures,
-      c .before .before .before .before .before .before .before .before .before .before .after-first2 .ensures,
-      c .before .before .before .before .before .before .before .before .before .before .before .after-first .ensures,
+      b6 .after-first6 .ensures,
+      b7 .after-first5 .ensures,
+      b8 .after-first4 .ensures,
+      b9 .after-first3 .ensures,
+      b10 .after-first2 .ensures,
+      b11 .after-first .ensures,
       at-place 1 l,
       at-place 2 l,
       at-place 3 l,

@@ -20,6 +20,6 @@ put-lists-spec =
     let p3 = c .before .before in
     let p2 = p3 .before .before .before .before in
     let p1 = p2 .before .before .before .before in
-    let g = c .before .before .before .before .before .before .before .before .before .before .before .before .before .before .before .before .pre .0 in
+    let g = p1 .before .before .before .before .before .before .pre .0 in
     wide (omega (arith, g .0 .0, g .1 .0 .0, g .1 .1 .0 .0))
     (then (p1 .put-years .ensures) (then (p2 .put-month-items .ensures) (p3 .put-day-items .ensures)))))
