@@ -1,28 +1,69 @@
 -- Laws of a date's parts, over plain numbers, for the functions that make them. Assumes nothing.
-use Prim.Native.Nat.{ℕ, _+_, _-_, _≤_, _<_}
+use Prim.Native.Nat.{ℕ, _+_, _-_, _*_, _/_, _%_, _≤_, _<_}
 use native.Mathlib.Omega.{arith}
-use mathlib.Core.Path.{_≡_}
-use mathlib.Core.Bool.{Bool, true, false}
-use lib.Dec.{leb}
-use borrow.Author.Tests.{le-leb, lt-leb}
-use Rattle.rule.specs.Counts.{DayInRange, dayName, yearName}
-use Rattle.rule.specs.Rule.{monthStart, monthLength, monthOfDay, yearOfMonth, leap, monthAt}
+use mathlib.Core.Path.{_≡_, ap, ap₂, sym, _∙_}
+use mathlib.Core.Logic.{_↔_, _⊎_, inl, inr}
+use mathlib.Core.Bool.{Bool, true, false, _&&_}
+use lib.Dec.{leb, ltb}
+use borrow.Author.Tests.{le-leb, lt-leb, ltb-true, lt-ltb}
+use Rattle.rule.specs.Counts.{YearInRange, DayInRange, MonthInRange, dayName, yearName}
+use Rattle.rule.specs.Rule.{monthStart, smallRemainder, monthLength, InMonth, monthOfDay, termDay, midTermDay, yearOfMonth, midTermNumber, marked, monthAt}
 use Rattle.rule.specs.Reasons.{is, refused, within}
 use Rattle.rule.specs.declared.Month.{Month}
-use Rattle.rule.proofs.Months.{of-day-low, of-day-high, start-next}
-use Rattle.rule.proofs.Answers.{stops, passes}
+use Rattle.rule.proofs.Months.{of-day, of-day-low, of-day-high, of-day-range, length-range, length-big, length-small, start-next, start-end}
+use Rattle.rule.proofs.Terms.{year-mid-term}
+use Rattle.rule.proofs.Last.{last-year, last-number, last-leap, ordinary-after, leap-after}
+use Rattle.rule.proofs.Pairs.{lt-or-le}
+use Rattle.rule.proofs.Answers.{stops, passes, both-true, fails}
 use Rattle.dates.specs.Dates.{dateIn, dateOf, dateAt, namedMonth, dayInMonth, dayOfNamed, dayOfDate}
+use Rattle.dates.proofs.Named.{named-in-range}
 
--- a day from its month's first on, and before the next month's
-pub day-of-month : (d : ℕ) → d - monthStart (monthOfDay d) + 1 ≤ monthLength (monthOfDay d)
-day-of-month d = omega (arith, of-day-low d, of-day-high d, start-next (monthOfDay d))
+-- a day that stands in month n: p of the month's l days are before it
+module _ (d n p l : ℕ) (i : n ≡ monthOfDay d) (a : monthStart n + p ≡ d) (b : l ≡ monthLength n) where
+  end : d - p + l ≡ monthStart (n + 1)
+  end = omega (arith, start-next n)
 
--- a date made of its parts
-pub made : (d : ℕ) {n y s len dn yn : ℕ} {m : Month} →
-    n ≡ monthOfDay d → y ≡ yearOfMonth n → m ≡ monthAt n → s ≡ monthStart n → len ≡ monthLength n → dn ≡ dayName d → yn ≡ yearName y →
-    record { year = y; month = m; «day_of_month» = d - s + 1; «month_length» = len; «day_name» = dn; «year_name» = yn } ≡ dateOf d
-unfolding dateOf dateIn
-made d a b e f g h i = cc
+  pub between : DayInRange d → (p ≤ d) × (p < l) × (l ≤ 30) × (d - p + l ≤ 14989860)
+  between r =
+      let high : d < monthStart (n + 1) = of-day n d .1 (sym i) .1 in
+      let most : MonthInRange n = omega (arith, i, of-day-range d .0 r) in (
+        omega arith,
+        omega (arith, end, high),
+        omega (arith, length-range n),
+        omega (arith, end, start-end (n + 1) (omega (arith, most))),
+      )
+
+  -- its date, made of them and of the last mid-term m before the month's end
+  module _ (m : ℕ) (low : midTermDay m < d - p + l) (high : d - p + l ≤ midTermDay (m + 1)) where
+    low′ : midTermDay m < monthStart (n + 1)
+    low′ = omega (arith, low, end)
+
+    high′ : monthStart (n + 1) ≤ midTermDay (m + 1)
+    high′ = omega (arith, high, end)
+
+    start : d - p ≡ monthStart n
+    start = omega arith
+
+    its-year : {y : ℕ} → y ≡ m / 12 + 1 → y ≡ yearOfMonth n
+    its-year h = h ∙ last-year n m low′ high′
+
+    its-month : {t k : ℕ} → t ≡ midTermDay m → k ≡ midTermNumber m → marked (ltb t (d - p)) k ≡ monthAt n
+    unfolding monthAt
+    its-month h j = ap₂ marked (ap₂ ltb h start ∙ last-leap n m low′ high′) (j ∙ last-number n m low′ high′)
+
+    day-of-month : p + 1 ≡ d - monthStart n + 1
+    day-of-month = omega arith
+
+    pub made : {y t k dn yn : ℕ} {mo : Month} →
+        y ≡ m / 12 + 1 → t ≡ midTermDay m → k ≡ midTermNumber m → mo ≡ marked (ltb t (d - p)) k → dn ≡ dayName d → yn ≡ yearName y →
+        record { month = mo; year = y; «day_of_month» = p + 1; «month_length» = l; «day_name» = dn; «year_name» = yn } ≡ dateOf d
+    unfolding dateOf dateIn
+    made f g h j k o = cc (i, b, day-of-month, its-year f, j ∙ its-month g h, k, o)
+
+-- a mid-term before a day in range, or before the day after the last, is in range
+pub mid-in-range : (m e : ℕ) → midTermDay m < e → e ≤ 14989860 → m < 492480
+unfolding midTermDay termDay
+mid-in-range m e h r = omega arith
 
 pub in-month : (n m : ℕ) → m ≤ monthLength n → dayInMonth n m ≡ is (monthStart n + (m - 1))
 unfolding dayInMonth
@@ -32,6 +73,25 @@ pub thirtieth : (n m : ℕ) → monthLength n < m → dayInMonth n m ≡ refused
 unfolding dayInMonth
 thirtieth n m h = stops (leb m (monthLength n)) 5 (is (monthStart n + (m - 1))) (lt-leb m (monthLength n) h)
 
+-- a month of small remainder s has no day m where s is below 441 and m above 29, and else it has
+module _ (n s m : ℕ) (e : s ≡ smallRemainder n) where
+  both : ((ltb s 441 && ltb 29 m) ≡ true) ↔ ((s < 441) × (29 < m))
+  both = both-true (ltb s 441) (ltb 29 m) (ltb-true s 441, lt-ltb s 441) (ltb-true 29 m, lt-ltb 29 m)
+
+  pub no-thirtieth : (ltb s 441 && ltb 29 m) ≡ true → monthLength n < m
+  no-thirtieth h = omega (arith, both .0 h, length-small n (omega (arith, e, both .0 h)))
+
+  pub has-day : m ≤ 30 → (ltb s 441 && ltb 29 m) ≡ false → m ≤ monthLength n
+  has-day b h = go (lt-or-le s 441) (lt-or-le 29 m)
+    where
+      no : (s < 441) × (29 < m) → ⊥
+      no = fails (ltb s 441 && ltb 29 m) both .0 h
+
+      go : (s < 441) ⊎ (441 ≤ s) → (29 < m) ⊎ (m ≤ 29) → m ≤ monthLength n
+      go (inl small) (inl past) = absurd (no (small, past))
+      go (inl small) (inr few) = omega (arith, length-range n)
+      go (inr big) w = omega (arith, length-big n (omega (arith, e)))
+
 pub no-day : (d : ℕ) → 14989859 < d → dateAt d ≡ refused 6
 unfolding dateAt
 no-day d h = stops (leb d 14989859) 6 (is (dateOf d)) (lt-leb d 14989859 h)
@@ -40,19 +100,33 @@ pub a-day : (d : ℕ) → DayInRange d → dateAt d ≡ is (dateOf d)
 unfolding dateAt
 a-day d h = passes (leb d 14989859) 6 (is (dateOf d)) (le-leb d 14989859 h)
 
--- which month is asked for, and that there is none; n is the ordinary month of the number
-module _ (y k m : ℕ) {n : ℕ} (e : n ≡ namedMonth y k) {l : Bool} where
-  pub ordinary-asked : l ≡ false → dayOfNamed y k l m ≡ dayInMonth n m
-  unfolding dayOfNamed
-  ordinary-asked f = rw (f, e)
+-- which month is asked for, and that there is none; m is the mid-term of the number
+module _ (y k m q : ℕ) (e : m ≡ 12 * (y - 1) + (k + 1) % 12) where
+  abbrev n : ℕ
+  n = monthOfDay (midTermDay m)
 
-  pub no-leap : l ≡ true → leap (n + 1) ≡ false → dayOfNamed y k l m ≡ refused 4
-  unfolding dayOfNamed
-  no-leap f h = rw (f, ← e, h)
+  named : n ≡ namedMonth y k
+  unfolding namedMonth
+  named = ap monthOfDay (sym (year-mid-term y ((k + 1) % 12) m e))
 
-  pub leap-asked : l ≡ true → leap (n + 1) ≡ true → dayOfNamed y k l m ≡ dayInMonth (n + 1) m
+  holds : InMonth n (midTermDay m)
+  holds = (of-day-low (midTermDay m), of-day-high (midTermDay m))
+
+  pub ordinary-asked : {l : Bool} → l ≡ false → dayInMonth n q ≡ dayOfNamed y k l q
   unfolding dayOfNamed
-  leap-asked f h = rw (f, ← e, h)
+  ordinary-asked f = rw (f, named)
+
+  pub no-leap : {l : Bool} → l ≡ true → midTermDay (m + 1) < monthStart (n + 2) → refused 4 ≡ dayOfNamed y k l q
+  unfolding dayOfNamed
+  no-leap f h = rw (f, ← named, ordinary-after n m holds h)
+
+  pub leap-asked : {l : Bool} → l ≡ true → monthStart (n + 2) ≤ midTermDay (m + 1) → dayInMonth (n + 1) q ≡ dayOfNamed y k l q
+  unfolding dayOfNamed
+  leap-asked f h = rw (f, ← named, leap-after n m holds h)
+
+  -- the month after the ordinary one ends in the range
+  pub named-end : YearInRange y → monthStart (n + 2) ≤ 14989860
+  named-end r = start-end (n + 2) (omega (arith, named, named-in-range y k r))
 
 -- the refusals of a date, in order, from the tests
 module _ (y k : ℕ) (l : Bool) (m : ℕ) where

@@ -1,15 +1,17 @@
 // Dates both ways: the date of a day, and the day of a date asked for by year, month number, ordinary or leap, day of month.
 ghost use mathlib.Core.Path.{_≡_};
-ghost use Rattle.rule.specs.Counts.{YearInRange, DayInRange, MonthInRange};
-ghost use Rattle.dates.specs.Dates.{NumberInRange, DayOfMonthInRange, dateOf, namedMonth, dayInMonth, dayOfNamed};
+ghost use Prim.Native.Nat.{ℕ, _+_, _%_, _≤_};
+ghost use Rattle.rule.specs.Counts.{YearInRange, DayInRange};
+ghost use Rattle.rule.specs.Rule.{monthStart, smallRemainder};
+ghost use Rattle.dates.specs.Dates.{NumberInRange, DayOfMonthInRange, dateOf, dayInMonth, dayOfNamed};
 ghost use Rattle.dates.specs.Promises.{saidDay, DateOfDay, DayOfDate};
 use rule::Month;
 use rule::Reason;
 
-// A date of the rule.
+// A date of the rule, in the paper's order.
 pub struct Date {
-    pub year: u16,
     pub month: Month,
+    pub year: u16,
     pub day_of_month: u8,
     pub month_length: u8,
     pub day_name: u8,
@@ -33,15 +35,19 @@ pub fn date_at(day: u32) -> Date
     requires { ⌜ DayInRange day ⌝ }
     ensures { λ r. ⌜ r ≡ dateOf day ⌝ }
 {
-    let n = rule::month_of_day(day);
-    let year = rule::year_of_month(n);
-    let month = rule::month_at(n);
-    let start = rule::month_start(n);
+    let at = rule::stands(day);
+    let passed = at.passed;
+    let length = rule::length_of(at.small_remainder);
+    let start = day - passed;
+    let last = rule::last_mid_term(start + length);
+    let named = rule::year_and_number(last);
+    let year = named.year;
+    let leap = rule::mid_term_day(last) < start;
     Date {
         year: year,
-        month: month,
-        day_of_month: (day - start + 1) as u8,
-        month_length: rule::month_length(n),
+        month: rule::marked(leap, named.number),
+        day_of_month: (passed + 1) as u8,
+        month_length: length as u8,
         day_name: rule::day_name(day),
         year_name: rule::year_name(year),
     }
@@ -57,38 +63,50 @@ pub fn date_of_day(day: u32) -> Dated
     Dated::Is(date_at(day))
 }
 
-// The ordinary month of a year with a number: the one that holds the number's mid-term.
-fn named_month(year: u16, number: u8) -> u32
-    requires { ⌜ YearInRange year × NumberInRange number ⌝ }
-    ensures { λ r. ⌜ r ≡ namedMonth year number ⌝ }
+// A day of the month that starts on a day and has a small remainder, or reason 5.
+fn day_from(start: u32, small_remainder: u32, day_of_month: u32) -> DayTold
+    requires { ⌜ (start ≤ 14989860) × DayOfMonthInRange «day_of_month» ⌝ }
+    ensures { λ r. ⌜ ((n : ℕ) → start ≡ monthStart n → «small_remainder» ≡ smallRemainder n → saidDay r ≡ dayInMonth n «day_of_month») ⌝ }
 {
-    rule::month_of_day(rule::term_day(year, 2 * ((number + 1) % 12)))
-}
-
-// A day of a month, or reason 5.
-fn day_in_month(n: u32, day_of_month: u32) -> DayTold
-    requires { ⌜ MonthInRange n × DayOfMonthInRange «day_of_month» ⌝ }
-    ensures { λ r. ⌜ saidDay r ≡ dayInMonth n «day_of_month» ⌝ }
-{
-    if (rule::month_length(n) as u32) < day_of_month {
+    let small_month = small_remainder < 441;
+    let thirtieth = 29 < day_of_month;
+    if small_month & thirtieth {
         return DayTold::Refused(Reason::NoThirtiethDay);
     }
-    DayTold::Is(rule::month_start(n) + (day_of_month - 1))
+    DayTold::Is(start + (day_of_month - 1))
 }
 
-// The day of a date whose four things are each in their range: reason 4 or 5 can still be met.
+// The mid-term of a month number among the twelve of a year, the solstice being 0: 0 for 11, 1 for 12, 2 for 1 ..
+fn mid_term_in_year(number: u8) -> u32
+    requires { ⌜ NumberInRange number ⌝ }
+    ensures { λ r. ⌜ r ≡ (number + 1) % 12 ⌝ }
+{
+    if number < 11 {
+        number as u32 + 1
+    } else {
+        number as u32 - 11
+    }
+}
+
+// The day of a date whose four things are each in their range: reason 4 or 5 can still be met. The ordinary month of the number holds
+// its mid-term, and the month after it is leap where it ends before the next mid-term.
 fn day_of_named(year: u16, number: u8, leap: bool, day_of_month: u32) -> DayTold
     requires { ⌜ YearInRange year × NumberInRange number × DayOfMonthInRange «day_of_month» ⌝ }
     ensures { λ r. ⌜ saidDay r ≡ dayOfNamed year number leap «day_of_month» ⌝ }
 {
-    let n = named_month(year, number);
-    if !leap {
-        return day_in_month(n, day_of_month);
+    let m = 12 * (year as u32 - 1) + mid_term_in_year(number);
+    let mid = rule::mid_term_day(m);
+    let at = rule::stands(mid);
+    let mut start = mid - at.passed;
+    let mut remainder = at.small_remainder;
+    if leap {
+        start += rule::length_of(remainder);
+        remainder = rule::next_remainder(remainder);
+        if rule::mid_term_day(m + 1) < start + rule::length_of(remainder) {
+            return DayTold::Refused(Reason::NoSuchLeapMonth);
+        }
     }
-    if !rule::is_leap(n + 1) {
-        return DayTold::Refused(Reason::NoSuchLeapMonth);
-    }
-    day_in_month(n + 1, day_of_month)
+    day_from(start, remainder, day_of_month)
 }
 
 // Date to day.

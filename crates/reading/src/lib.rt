@@ -225,10 +225,10 @@ fn fill_month(r: Reading, n: u32, from: u32, to: u32, out: &mut [u32], at: usize
     at
 }
 
-// The days from `first` up to `end` that fit, put into the front of the list, month by month.
-fn fill_window(r: Reading, first: u32, end: u32, out: &mut [u32])
+// The days from `first` up to `end` that fit, put into the front of the list, month by month; how many they are.
+fn list_window(r: Reading, first: u32, end: u32, out: &mut [u32]) -> usize
     requires { ⌜ (first < end) × (end ≤ 14989860) × (length (fitting r first (end - first)) ≤ length (now out)) ⌝ }
-    ensures { λ u. ⌜ now (out .exit) ≡ placed (fitting r first (end - first)) (now (out .entry)) ⌝ }
+    ensures { λ k. ⌜ (k ≡ length (fitting r first (end - first))) × (now (out .exit) ≡ placed (fitting r first (end - first)) (now (out .entry))) ⌝ }
 {
     let mut k: usize = 0;
     let mut day = first;
@@ -239,6 +239,7 @@ fn fill_window(r: Reading, first: u32, end: u32, out: &mut [u32])
         day = to;
         n += 1;
     }
+    k
 }
 
 // Whether a first and a last day in range make a window.
@@ -252,7 +253,8 @@ fn window_holds(first: u32, last: u32) -> bool
     last + 1 - first <= 27759
 }
 
-// Every day of the window that fits the reading: how many, and the days in rising order at the front of the lent list.
+// Every day of the window that fits the reading: how many, and the days in rising order at the front of the lent list. Only a list
+// with fewer places than the window has days can be too short: then they are counted first, so that a refusal changes nothing.
 pub fn search(r: Reading, first: u32, last: u32, out: &mut [u32]) -> Found
     ensures { λ a. ⌜ Searched r first last (now (out .entry)) a (now (out .exit)) ⌝ }
 {
@@ -268,10 +270,12 @@ pub fn search(r: Reading, first: u32, last: u32, out: &mut [u32]) -> Found
     if !in_ranges(r) {
         return Found::Refused(Reason::FieldOutOfRange);
     }
-    let total = count_window(r, first, last + 1);
-    if out.len() < total as usize {
-        return Found::TooShort(total);
+    let end = last + 1;
+    if out.len() < (end - first) as usize {
+        let total = count_window(r, first, end);
+        if out.len() < total as usize {
+            return Found::TooShort(total);
+        }
     }
-    fill_window(r, first, last + 1, out);
-    Found::Is(total)
+    Found::Is(list_window(r, first, end, out) as u32)
 }

@@ -9,6 +9,7 @@ pub mod Months
 pub mod Terms
 pub mod Years
 pub mod Leap
+pub mod Last
 pub mod Eclipses
 pub mod Answers
 pub mod Pairs

@@ -1,7 +1,7 @@
 // The rule as arithmetic on counts: "Counts and names" and "The rule" of the paper, a function for each definition of specs/.
 // All of these are inner: what asks for a range in its `requires` is called where the range has been tested.
 ghost use mathlib.Core.Path.{_≡_};
-ghost use Prim.Native.Nat.{_≤_, _<_};
+ghost use Prim.Native.Nat.{ℕ, _+_, _/_, _≤_, _<_};
 ghost use Rattle.rule.specs.Counts.{YearInRange, DayInRange, MonthInRange, dayName, yearName, ji, bu, yearInBu, headName};
 ghost use Rattle.rule.specs.Rule.{
   monthStart,
@@ -12,13 +12,16 @@ ghost use Rattle.rule.specs.Rule.{
   quarterParts,
   termDay,
   yearTerm,
+  midTermDay,
   firstMonth,
   leapRemainder,
   monthsInYear,
   yearOfMonth,
   midTermsBefore,
   leap,
+  midTermNumber,
   monthNumber,
+  marked,
   monthAt,
   numberOf,
   leapMark,
@@ -69,6 +72,19 @@ pub struct Place {
 pub struct Quarter {
     pub day: u32,
     pub parts: u16,
+}
+
+// A year, and the number of one of its months.
+pub struct YearNumber {
+    pub year: u16,
+    pub number: u8,
+}
+
+// Where a day stands: its month, how many of the month's days are before it, and the month's small remainder.
+pub struct Standing {
+    pub month: u32,
+    pub passed: u32,
+    pub small_remainder: u32,
 }
 
 // The number that the paper gives a reason.
@@ -155,11 +171,26 @@ pub fn small_remainder(n: u32) -> u16
     (27759 * (n as u64) % 940) as u16
 }
 
-// The length of a month: 30 days at a small remainder of 441 or more, else 29.
+// The length of a month of a small remainder: 30 days at 441 or more, else 29.
+pub fn length_of(small_remainder: u32) -> u32
+    ensures { λ r. ⌜ ((n : ℕ) → «small_remainder» ≡ smallRemainder n → r ≡ monthLength n) ⌝ }
+{
+    if small_remainder < 441 { 29 } else { 30 }
+}
+
+// The small remainder of the month after one: 499 parts more, 940 of them making a day.
+pub fn next_remainder(small_remainder: u32) -> u32
+    requires { ⌜ «small_remainder» < 940 ⌝ }
+    ensures { λ r. ⌜ ((n : ℕ) → «small_remainder» ≡ smallRemainder n → r ≡ smallRemainder (n + 1)) ⌝ }
+{
+    (small_remainder + 499) % 940
+}
+
+// The length of a month.
 pub fn month_length(n: u32) -> u8
     ensures { λ r. ⌜ r ≡ monthLength n ⌝ }
 {
-    if small_remainder(n) < 441 { 29 } else { 30 }
+    length_of(small_remainder(n) as u32) as u8
 }
 
 // A quarter of a month: 0 new, 1 first, 2 full, 3 last.
@@ -180,6 +211,39 @@ pub fn term_day(year: u16, k: u8) -> u32
     ensures { λ r. ⌜ r ≡ termDay (yearTerm year k) ⌝ }
 {
     487 * (24 * (year as u32 - 1) + k as u32) / 32
+}
+
+// The day of a mid-term, counted from the origin; of the one after the last too.
+pub fn mid_term_day(m: u32) -> u32
+    requires { ⌜ m ≤ 492480 ⌝ }
+    ensures { λ r. ⌜ r ≡ midTermDay m ⌝ }
+{
+    487 * m / 16
+}
+
+// The last mid-term before a day, counted from the origin; before the day after the last too.
+pub fn last_mid_term(day: u32) -> u32
+    requires { ⌜ (1 ≤ day) × (day ≤ 14989860) ⌝ }
+    ensures { λ r. ⌜ (midTermDay r < day) × (day ≤ midTermDay (r + 1)) ⌝ }
+{
+    (16 * day - 1) / 487
+}
+
+// The year in which a mid-term falls, and the number of the month that holds it: 11, 12, 1, 2 .. 10.
+pub fn year_and_number(m: u32) -> YearNumber
+    requires { ⌜ m < 492480 ⌝ }
+    ensures { λ r. ⌜ (r .year ≡ m / 12 + 1) × (r .number ≡ midTermNumber m) ⌝ }
+{
+    let elapsed = m / 12;
+    let in_year = m - 12 * elapsed;
+    YearNumber {
+        year: (elapsed + 1) as u16,
+        number: if in_year < 2 {
+            (in_year + 11) as u8
+        } else {
+            (in_year - 1) as u8
+        },
+    }
 }
 
 // The first month of a year; of the year after the last too, where the last year ends.
@@ -258,16 +322,23 @@ pub fn leap_mark(m: Month) -> bool
     }
 }
 
+// A month as a date holds it, from its mark and its number.
+pub fn marked(leap: bool, number: u8) -> Month
+    ensures { λ r. ⌜ r ≡ marked leap number ⌝ }
+{
+    if leap {
+        Month::Leap(number)
+    } else {
+        Month::Ordinary(number)
+    }
+}
+
 // A month as a date holds it.
 pub fn month_at(n: u32) -> Month
     requires { ⌜ MonthInRange n ⌝ }
     ensures { λ r. ⌜ r ≡ monthAt n ⌝ }
 {
-    if is_leap(n) {
-        Month::Leap(month_number(n))
-    } else {
-        Month::Ordinary(month_number(n))
-    }
+    marked(is_leap(n), month_number(n))
 }
 
 // Whether a month is an eclipse month; a count without remainder belongs to the month already counted.
@@ -294,37 +365,35 @@ pub fn printed_day(k: u16) -> u16
     list[k as usize]
 }
 
-// The look along the printed list, which is lent: the last entry that is not after a day counted from the bu's head, found by halving.
-fn place_in(list: &[u16; 940], d: u16) -> u16
-    requires { ⌜ FollowsMonthRule (now list) × (d < 27759) ⌝ }
-    ensures { λ r. ⌜ r ≡ monthOfDay d ⌝ }
+// Where a day stands: 940 times the day divided by 27,759 estimates its month, and the rest is what has passed of that month at the day's
+// midnight, in parts of 940. The estimate is one short where the rest is 26,820 or more, since the next month starts on that very day.
+pub fn stands(day: u32) -> Standing
+    requires { ⌜ DayInRange day ⌝ }
+    ensures { λ r. ⌜ (r .month ≡ monthOfDay day) × (monthStart (r .month) + r .passed ≡ day) × (r .«small_remainder» ≡ smallRemainder (r .month)) ⌝ }
 {
-    let mut low: u16 = 0;
-    let mut high: u16 = 940;
-    while 1 < high - low {
-        let middle = low + (high - low) / 2;
-        if d < list[middle as usize] {
-            high = middle;
-        } else {
-            low = middle;
-        }
+    let parts = 940 * (day as u64);
+    let n = (parts / 27759) as u32;
+    let rest = (parts % 27759) as u32;
+    if 26820 <= rest {
+        return Standing {
+            month: n + 1,
+            passed: 0,
+            small_remainder: 27759 - rest,
+        };
     }
-    low
+    let passed = (rest + 939) / 940;
+    Standing {
+        month: n,
+        passed: passed,
+        small_remainder: 940 * passed - rest,
+    }
 }
 
-// The place in the printed list of a day counted from the bu's head.
-fn place_in_list(d: u16) -> u16
-    requires { ⌜ d < 27759 ⌝ }
-    ensures { λ r. ⌜ r ≡ monthOfDay d ⌝ }
-{
-    let list = printed_list();
-    place_in(&list, d)
-}
-
-// The month that a day is in: 940 for each whole bu before it, and its place in the printed list.
+// The month that a day is in.
 pub fn month_of_day(day: u32) -> u32
     requires { ⌜ DayInRange day ⌝ }
     ensures { λ r. ⌜ r ≡ monthOfDay day ⌝ }
 {
-    940 * (day / 27759) + place_in_list((day % 27759) as u16) as u32
+    let at = stands(day);
+    at.month
 }

@@ -1,51 +1,66 @@
--- `dates::date_at` meets its contract: a date made of its parts, each as the rule has it. Assumes nothing.
+-- `dates::date_at` meets its contract: a date made of where the day stands in its month, and of the last mid-term before the month's end.
+-- Assumes nothing.
 use native.Mathlib.Omega.{arith}
-use mathlib.Core.Path.{_≡_, ap, _∙_}
+use mathlib.Core.Path.{_≡_}
+use Prim.Native.Nat.{_+_, _-_, _≤_, _<_}
 use Rattle.rule.specs.Counts.{dayName}
-use Rattle.rule.specs.Rule.{monthStart, monthOfDay}
-use Rattle.rule.proofs.Months.{of-day-range, of-day-low, length-range}
-use Rattle.dates.proofs.Days.{day-of-month, made}
+use Rattle.rule.specs.Rule.{monthLength}
+use Rattle.dates.proofs.Days.{between, made, mid-in-range}
 use borrow.Author.Needs.{needs}
 use Rattle.dates.proofs.date_at.Statement.{statement}
 use Rattle.dates.proofs.date_at.Tie as tie
 
--- the month's start is that of the day's month
-start : (c : tie.After-month-start) → c .month-start .result ≡ monthStart (monthOfDay (c .before .before .before .before .args .day))
-start c = c .month-start .ensures ∙ ap monthStart (c .before .before .before .month-of-day .ensures)
+-- the month's length
+length : (c : tie.After-length-of) → c .length-of .result ≡ monthLength (c .before .stands .result .month)
+length c = c .length-of .ensures (c .before .stands .result .month) (c .before .stands .ensures .2)
 
-cast-t8 : tie.Need-cast-t8
-cast-t8 c =
-    let day = c .before .before .before .before .args .day in
-    omega (arith, start c, day-of-month day, length-range (monthOfDay day))
+-- the day in its month
+spans : (c : tie.After-length-of) →
+    let d = c .before .before .args .day in
+    let p = c .before .stands .result .passed in
+    let l = c .length-of .result in
+    (p ≤ d) × (p < l) × (l ≤ 30) × (d - p + l ≤ 14989860)
+spans c =
+    let at = c .before .stands .ensures in
+    between (c .before .before .args .day) _ _ _ (at .0) (at .1) (length c) (c .before .before .pre)
+
+last : (c : tie.After-last-mid-term) → c .last-mid-term .result < 492480
+last c = mid-in-range _ _ (c .last-mid-term .ensures .0) (spans (c .before) .3)
 
 -- the name is that of the day itself
-own-name : (c : tie.After-year-name) →
-    c .before .day-name .result ≡ dayName (c .before .before .before .before .before .before .before .args .day)
+own-name : (c : tie.After-day-name) →
+    c .day-name .result ≡ dayName (c .before .before .before .before .before .before .before .args .day)
 unfolding dayName
-own-name c = omega (arith, c .before .day-name .ensures)
+own-name c = omega (arith, c .day-name .ensures)
 
 returns : tie.Need-returns
 returns c =
-    let length = c .before .before in
-    let start = length .before in
-    let month = start .before in
-    let year = month .before in
-    let n = year .before in
-    made (n .before .args .day) (n .month-of-day .ensures) (year .year-of-month .ensures) (month .month-at .ensures)
-    (start .month-start .ensures) (length .month-length .ensures) (own-name c) (c .year-name .ensures)
+    let month = c .before .before in
+    let mid = month .before in
+    let named = mid .before in
+    let m = named .before in
+    let l = m .before in
+    let at = l .before in
+    made (at .before .args .day) _ _ _ (at .stands .ensures .0) (at .stands .ensures .1) (length l) _ (m .last-mid-term .ensures .0)
+    (m .last-mid-term .ensures .1)
+    (named .year-and-number .ensures .0) (mid .mid-term-day .ensures) (named .year-and-number .ensures .1) (month .marked .ensures)
+    (own-name (c .before)) (c .year-name .ensures)
 
 pub date-at-spec : {M : Type 1} → statement M
 date-at-spec =
     tie.close
     (tie.spec
     (λ c κs. search needs)
-    (λ c κs. omega (arith, of-day-range (c .before .args .day) .0 (c .before .pre)))
-    (λ c κs. omega (arith, of-day-range (c .before .before .args .day) .0 (c .before .before .pre)))
-    (λ c κs. omega (arith, of-day-range (c .before .before .before .args .day) .0 (c .before .before .before .pre)))
-    (λ c. omega (arith, start c, of-day-low (c .before .before .before .before .args .day)))
-    (λ c. search needs)
-    cast-t8
     (λ c κs. search needs)
+    (λ c. omega (arith, spans c))
+    (λ c. omega (arith, spans c))
+    (λ c κs. omega (arith, spans c))
+    (λ c κs. last c)
+    (λ c κs. omega (arith, last (c .before)))
+    (λ c κs. search needs)
+    (λ c. omega (arith, spans (c .before .before .before .before)))
+    (λ c. omega (arith, spans (c .before .before .before .before)))
+    (λ c. omega (arith, spans (c .before .before .before .before)))
     (λ c κs. search needs)
     (λ c κs. search needs)
     returns)

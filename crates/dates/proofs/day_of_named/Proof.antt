@@ -1,56 +1,166 @@
--- `dates::day_of_named` meets its contract: the ordinary month, or the leap month after it, if it is leap. Assumes nothing.
-use borrow.Author.Tests.{not-true, not-false}
+-- `dates::day_of_named` meets its contract: the month of the mid-term, or the month after it, if it is leap. Assumes nothing.
 use native.Mathlib.Omega.{arith}
-use mathlib.Core.Path.{sym, _∙_}
-use Prim.Native.Nat.{_+_, _≤_}
-use Rattle.rule.proofs.Answers.{failed, passed}
-use Rattle.dates.proofs.Days.{ordinary-asked, no-leap, leap-asked}
-use Rattle.dates.proofs.Named.{named-in-range}
+use mathlib.Core.Logic.{⊎-elim}
+use mathlib.Core.Path.{_≡_, ap, _∙_}
+use mathlib.Core.Bool.{Bool, false}
+use Prim.Native.Nat.{ℕ, _+_, _-_, _*_, _%_, _≤_}
+use Rattle.rule.specs.Rule.{monthStart, smallRemainder, monthLength, monthOfDay, midTermDay, termDay}
+use Rattle.rule.proofs.Months.{start-next}
+use Rattle.rule.proofs.Pairs.{remainder-below}
+use Rattle.dates.specs.Dates.{dayInMonth, dayOfNamed}
+use Rattle.dates.proofs.Days.{ordinary-asked, no-leap, leap-asked, named-end}
 use borrow.Author.Needs.{needs}
 use Rattle.dates.proofs.day_of_named.Statement.{statement}
 use Rattle.dates.proofs.day_of_named.Tie as tie
 
--- the ordinary month is not the last of all, which is leap
-last : (c : tie.After-named-month) → c .named-month .result + 1 ≤ 507599
-last c = omega (arith, c .named-month .ensures, named-in-range (c .before .args .year) (c .before .args .number) (c .before .pre .0))
+-- the number's mid-term, and its month
+abbrev mid : tie.After-mid-term-day → ℕ
+mid c = 12 * (c .before .before .args .year - 1) + c .before .mid-term-in-year .result
+
+is-mid : (c : tie.After-mid-term-day) →
+    let a = c .before .before .args in
+    mid c ≡ 12 * (a .year - 1) + (a .number + 1) % 12
+is-mid c = omega (arith, c .before .mid-term-in-year .ensures)
+
+abbrev month : tie.After-stands → ℕ
+month c = monthOfDay (midTermDay (mid (c .before)))
+
+is-month : (c : tie.After-stands) → c .stands .result .month ≡ month c
+is-month c = c .stands .ensures .0 ∙ ap monthOfDay (c .before .mid-term-day .ensures)
+
+start : (c : tie.After-stands) → c .before .mid-term-day .result - c .stands .result .passed ≡ monthStart (month c)
+start c = omega (arith, ap monthStart (is-month c), c .stands .ensures .1)
+
+small : (c : tie.After-stands) → c .stands .result .«small_remainder» ≡ smallRemainder (month c)
+small c = c .stands .ensures .2 ∙ ap smallRemainder (is-month c)
+
+-- its end and that of the month after it, which is in the range
+ends : (c : tie.After-stands) →
+    let n = month c in
+    (monthStart (n + 1) ≡ monthStart n + monthLength n)
+    × (monthStart (n + 2) ≡ monthStart (n + 1) + monthLength (n + 1))
+    × (monthStart (n + 2) ≤ 14989860)
+ends c =
+    let n = month c in
+    let s = c .before .before .before in (
+      start-next n,
+      ap monthStart {y = n + 1 + 1} (omega arith) ∙ start-next (n + 1),
+      named-end (s .args .year) (s .args .number) (mid (c .before)) 1 (is-mid (c .before)) (s .pre .0),
+    )
+
+-- where leap is asked: the month's length, and the month after it
+abbrev named : tie.After-length-of → tie.After-stands
+named c = c .before .before .before
+
+length : (c : tie.After-length-of) → c .length-of .result ≡ monthLength (month (named c))
+length c = c .length-of .ensures (month (named c)) (small (named c))
+
+next : (c : tie.After-length-of) →
+    let a = named c in
+    a .before .mid-term-day .result - a .stands .result .passed + c .length-of .result ≡ monthStart (month a + 1)
+next c = omega (arith, start (named c), length c, ends (named c))
+
+after : (c : tie.After-next-remainder) → c .next-remainder .result ≡ smallRemainder (month (named (c .before)) + 1)
+after c = c .next-remainder .ensures (month (named (c .before))) (small (named (c .before)))
+
+end : (c : tie.After-length-of2) →
+    let l = c .before .before .before in
+    let a = named l in
+    a .before .mid-term-day .result - a .stands .result .passed + l .length-of .result + c .length-of2 .result ≡ monthStart (month a + 2)
+end c =
+    let l = c .before .before .before in
+    let e = c .length-of2 .ensures (month (named l) + 1) (after (c .before .before)) in
+    omega (arith, next l, e, ends (named l))
 
 returns : tie.Need-returns
 returns c =
-    let month = c .before .before in
-    let a = month .before .args in
-    c .day-in-month .ensures
-    ∙ sym (ordinary-asked (a .year) (a .number) (a .day-of-month) (month .named-month .ensures) (not-true (a .leap) (c .before .if1 .taken)))
+    let l = c .before .before .before .before in
+    let a = named l in
+    let s = a .before .before .before in
+    no-leap (s .args .year) (s .args .number) (mid (a .before)) (s .args .day-of-month) (is-mid (a .before)) (l .before .if1 .taken)
+    (omega (arith, c .before .before .mid-term-day2 .ensures, end (c .before)))
+
+-- the month that is asked for, n, which starts on day s and has the small remainder r: what day q of it is, is the answer
+record Asked (s r y k : ℕ) (l : Bool) (q : ℕ) : Type 0 where
+  pub n : ℕ
+  pub starts : s ≡ monthStart n
+  pub leaves : r ≡ smallRemainder n
+  pub early : s ≤ 14989860
+  pub answer : dayInMonth n q ≡ dayOfNamed y k l q
+
+ordinary-month : (c : tie.After-stands) {s r : ℕ} →
+    let a = c .before .before .before .args in
+    s ≡ c .before .mid-term-day .result - c .stands .result .passed → r ≡ c .stands .result .«small_remainder» → a .leap ≡ false →
+    Asked s r (a .year) (a .number) (a .leap) (a .day-of-month)
+ordinary-month c e f h =
+    let a = c .before .before .before .args in
+    record {
+      n = month c;
+      starts = e ∙ start c;
+      leaves = f ∙ small c;
+      early = omega (arith, e, start c, ends c);
+      answer = ordinary-asked (a .year) (a .number) (mid (c .before)) (a .day-of-month) (is-mid (c .before)) h;
+    }
+
+leap-month : (c : tie.After-length-of2) {s r : ℕ} →
+    let l = c .before .before .before in
+    let st = named l in
+    let a = st .before .before .before .args in
+    s ≡ st .before .mid-term-day .result - st .stands .result .passed + l .length-of .result → r ≡ c .before .before .next-remainder .result →
+    s + c .length-of2 .result ≤ c .before .mid-term-day2 .result → Asked s r (a .year) (a .number) (a .leap) (a .day-of-month)
+leap-month c e f h =
+    let l = c .before .before .before in
+    let st = named l in
+    let a = st .before .before .before .args in
+    record {
+      n = month st + 1;
+      starts = e ∙ next l;
+      leaves = f ∙ after (c .before .before);
+      early = omega (arith, e, next l, ends st);
+      answer =
+          leap-asked (a .year) (a .number) (mid (st .before)) (a .day-of-month) (is-mid (st .before)) (l .before .if1 .taken)
+          (omega (arith, c .before .mid-term-day2 .ensures, end c, e, h));
+    }
+
+asked : (c : tie.Joined1) →
+    let a = c .before .before .before .before .before .args in
+    Asked (c .if1 .start) (c .if1 .remainder) (a .year) (a .number) (a .leap) (a .day-of-month)
+asked c =
+    ⊎-elim
+    (λ w.
+    let l : tie.After-length-of = record { before = record { before = c .before; if1 = w .0 }; length-of = w .1 } in
+    let t : tie.After-mid-term-day2 = record { before = record { before = l; next-remainder = w .2 }; mid-term-day2 = w .3 } in
+    leap-month (record { before = t; length-of2 = w .4 }) (w .6) (w .7) (omega (arith, w .6, w .5 .left)))
+    (λ w. ordinary-month (c .before .before) (w .1) (w .2) (w .0 .left))
+    (c .if1 .came)
 
 returns-2 : tie.Need-returns-2
 returns-2 c =
-    let month = c .before .before .before in
-    let a = month .before .args in
-    let test = c .before .is-leap in
-    sym
-    (no-leap (a .year) (a .number) (a .day-of-month) (month .named-month .ensures) (not-false (a .leap) (c .before .before .if1 .left))
-    (failed (test .result) _ (test .ensures) (c .if2 .taken)))
+    let m = asked (c .before) in
+    c .day-from .ensures (m .n) (m .starts) (m .leaves) ∙ m .answer
 
-returns-3 : tie.Need-returns-3
-returns-3 c =
-    let b3 = c .before .before .before in
-    let month = b3 .before in
-    let a = month .before .args in
-    let test = c .before .before .is-leap in
-    c .day-in-month2 .ensures
-    ∙ sym
-    (leap-asked (a .year) (a .number) (a .day-of-month) (month .named-month .ensures) (not-false (a .leap) (b3 .if1 .left))
-    (passed (test .result) _ (test .ensures) (c .before .if2 .left)))
+stands-requires : tie.Need-stands-requires
+unfolding midTermDay termDay
+stands-requires c κs = omega arith
 
 pub day-of-named-spec : {M : Type 1} → statement M
 day-of-named-spec =
     tie.close
     (tie.spec
+    (λ c. search needs)
+    (λ c. search needs)
     (λ c κs. search needs)
-    (λ c κs. omega (arith, last (c .before)))
+    (λ c. search needs)
+    (λ c κs. search needs)
+    stands-requires
+    (λ c. omega (arith, c .before .stands .ensures .1))
+    (λ c κs. search needs)
+    (λ c. omega (arith, next c, ends (named c)))
+    (λ c κs. omega (arith, small (named c), remainder-below (month (named c))))
+    (λ c. search needs)
+    (λ c κs. search needs)
+    (λ c κs. search needs)
+    (λ c. omega (arith, end c, ends (named (c .before .before .before))))
     returns
-    (λ c. omega (arith, last (c .before)))
-    (λ c κs. omega (arith, last (c .before)))
-    returns-2
-    (λ c. omega (arith, last (c .before .before .before)))
-    (λ c κs. omega (arith, last (c .before .before .before)))
-    returns-3)
+    (λ c κs. (asked c .early, c .before .before .before .before .before .pre .2))
+    returns-2)

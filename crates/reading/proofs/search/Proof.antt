@@ -1,11 +1,15 @@
 -- `reading::search` meets its contract: each refusal in its order, and then the total and the days. Assumes nothing.
 use native.Mathlib.Omega.{arith}
+use Prim.Native.Nat.{_+_, _-_, _≤_, _<_}
+use mathlib.Core.Logic.{⊎-elim}
 use mathlib.Core.Path.{_≡_, refl}
+use lib.ListN.{length}
 use mathlib.Core.Bool.{true}
 use Rattle.rule.specs.declared.Reason.the-variants.{NoSuchDay, BadWindow, FieldOutOfRange}
 use Rattle.rule.proofs.Answers.{failed, passed}
 use Rattle.reading.specs.declared.Found.the-variants.{Is, TooShort, Refused}
-use Rattle.reading.specs.Readings.{inRanges, windowHolds}
+use Rattle.reading.specs.Readings.{inRanges, windowHolds, fitting}
+use Rattle.reading.proofs.Runs.{at-most-fitting}
 use Rattle.reading.proofs.Answered.{
   window-true,
   first-outside,
@@ -48,8 +52,11 @@ returns-4 c =
     let bad = failed (good .result) _ (good .ensures) (c .if4 .taken) in
     made (Refused FieldOutOfRange) (bad-field _ _ _ _ (omega arith) (omega arith) (a-window (c .before .before)) bad) refl refl
 
-count-window-requires : tie.Need-count-window-requires
-count-window-requires c κs =
+-- the window has a day, and ends in the range
+some : (c : tie.Else4) →
+    let a = c .before .before .before .before .before .before .before .args in
+    (a .first < a .last + 1) × (a .last + 1 ≤ 14989860)
+some c =
     let w = c .before .before in
     let a = w .before .before .before .before .before .args in
     omega (arith, window-true (a .first) (a .last) .0 (a-window w))
@@ -57,26 +64,40 @@ count-window-requires c κs =
 returns-5 : tie.Need-returns-5
 returns-5 c =
     let count = c .before .count-window in
-    let g = c .before .before in
+    let g = c .before .before .before in
     made (TooShort (count .result))
     (too-short _ _ _ _ (omega arith) (omega arith) (a-window (g .before .before)) (good-fields g)
     (count .result) (count .ensures) (omega arith))
     refl refl
 
-fill-window-requires : tie.Need-fill-window-requires
-fill-window-requires c κs =
-    let w = c .before .before .before .before .before in
-    let a = w .before .before .before .before .before .args in
-    omega (arith, window-true (a .first) (a .last) .0 (a-window w), c .before .before .count-window .ensures)
+-- the list has room, counted or as long as the window
+room : (c : tie.Joined5) →
+    let a = c .before .before .before .before .before .before .before .before .args in
+    length (fitting (a .r) (a .first) (a .last + 1 - a .first)) ≤ length (a .out .now)
+room c =
+    let a = c .before .before .before .before .before .before .before .before .args in
+    ⊎-elim
+    (λ w. omega (arith, w .1 .ensures, w .2 .left))
+    (λ w. omega (arith, w .left, at-most-fitting (a .r) (a .first) (a .last + 1 - a .first)))
+    (c .if5 .came)
+
+-- so few days that their number keeps its value
+few : (c : tie.Else4) →
+    let a = c .before .before .before .before .before .before .before .args in
+    length (fitting (a .r) (a .first) (a .last + 1 - a .first)) ≤ 14989860
+few c =
+    let a = c .before .before .before .before .before .before .before .args in
+    omega (arith, some c, at-most-fitting (a .r) (a .first) (a .last + 1 - a .first))
 
 returns-6 : tie.Need-returns-6
 returns-6 c =
-    let count = c .before .before .before .before .before .count-window in
-    let g = c .before .before .before .before .before .before in
-    made (Is (count .result))
+    let list = c .before .before .list-window in
+    let j = c .before .before .before .before in
+    let g = j .before in
+    made (Is (list .result))
     (room-enough _ _ _ _ (omega arith) (omega arith) (a-window (g .before .before)) (good-fields g)
-    (count .result) (count .ensures) (omega arith))
-    refl (c .before .before .fill-window .ensures)
+    (list .result) (list .ensures .0) (omega (arith, list .ensures .0, room j)))
+    refl (list .ensures .1)
 
 pub search-spec : {M : Type 1} → statement M
 search-spec =
@@ -89,10 +110,12 @@ search-spec =
     (λ c κs. search needs)
     returns-4
     (λ c. search needs)
-    count-window-requires
+    (λ c. omega (arith, some c))
+    (λ c. search needs)
+    (λ c κs. some (c .before))
     (λ c. search needs)
     returns-5
-    (λ c. search needs)
-    fill-window-requires
+    (λ c κs. omega (arith, some (c .before .before), room (c .before)))
+    (λ c. omega (arith, c .before .before .list-window .ensures .0, few (c .before .before .before .before .before)))
     (λ c. search needs)
     returns-6)

@@ -1,4 +1,5 @@
--- `reading::fill_window` meets its contract. The invariant: the fitting days passed stand at the front of the list. Assumes nothing.
+-- `reading::list_window` meets its contract. The invariant: the fitting days passed stand at the front of the list, k of them. Assumes
+-- nothing.
 use Prim.Native.Nat.{ℕ, _-_}
 use native.Mathlib.Omega.{arith}
 use mathlib.Core.Path.{_≡_, refl, ap, sym, _∙_}
@@ -19,8 +20,8 @@ use Rattle.reading.proofs.Runs.{
   walk-filled,
   none-fitting,
 }
-use Rattle.reading.proofs.fill_window.Statement.{statement}
-use Rattle.reading.proofs.fill_window.Tie as tie
+use Rattle.reading.proofs.list_window.Statement.{statement}
+use Rattle.reading.proofs.list_window.Tie as tie
 
 abbrev Inv-loop : tie.InvT-loop
 Inv-loop r first end out₀ k₀ day₀ n₀ out k day n =
@@ -89,12 +90,15 @@ returns c =
     let start = c .before .before .before .before in
     let a = start .args in
     let inv = c .before .loop .inv in
-    inv .3
-    ∙ ap (λ (d : ℕ). sets (a .out .now) 0 (fitting (a .r) (a .first) (d - a .first))) (omega (arith, walk-inside (start .pre .0) (inv .0)))
-    ∙ from-front (fitting (a .r) (a .first) (a .end - a .first)) (a .out .now) (start .pre .2)
+    let over : c .before .loop .day ≡ a .end = omega (arith, walk-inside (start .pre .0) (inv .0)) in (
+      inv .1 ∙ ap (λ (d : ℕ). length (fitting (a .r) (a .first) (d - a .first))) over,
+      inv .3
+          ∙ ap (λ (d : ℕ). sets (a .out .now) 0 (fitting (a .r) (a .first) (d - a .first))) over
+          ∙ from-front (fitting (a .r) (a .first) (a .end - a .first)) (a .out .now) (start .pre .2),
+    )
 
-pub fill-window-spec : {M : Type 1} → statement M
-fill-window-spec =
+pub list-window-spec : {M : Type 1} → statement M
+list-window-spec =
     tie.close
     (tie.spec
     Inv-loop

@@ -1,0 +1,29 @@
+-- `rule::year_and_number` meets its contract: the first two of a year's twelve have 11 and 12. Assumes nothing.
+use native.Mathlib.Omega.{arith}
+use Rattle.rule.specs.Rule.{midTermNumber}
+use borrow.Author.Needs.{needs}
+use Rattle.rule.proofs.year_and_number.Statement.{statement}
+use Rattle.rule.proofs.year_and_number.Tie as tie
+
+returns : tie.Need-returns
+unfolding midTermNumber
+returns c = (omega arith, omega arith)
+
+returns-2 : tie.Need-returns-2
+unfolding midTermNumber
+returns-2 c = (omega arith, omega arith)
+
+pub year-and-number-spec : {M : Type 1} → statement M
+year-and-number-spec =
+    tie.close
+    (tie.spec
+    (λ c. search needs)
+    (λ c. search needs)
+    (λ c. search needs)
+    (λ c. search needs)
+    (λ c. search needs)
+    (λ c. search needs)
+    (λ c. search needs)
+    (λ c. search needs)
+    returns
+    returns-2)
