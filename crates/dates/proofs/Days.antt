@@ -73,21 +73,21 @@ pub thirtieth : (n m : ℕ) → monthLength n < m → dayInMonth n m ≡ refused
 unfolding dayInMonth
 thirtieth n m h = stops (leb m (monthLength n)) 5 (is (monthStart n + (m - 1))) (lt-leb m (monthLength n) h)
 
--- a month of small remainder s has no day m where s is below 441 and m above 29, and else it has
-module _ (n s m : ℕ) (e : s ≡ smallRemainder n) where
-  both : ((ltb s 441 && ltb 29 m) ≡ true) ↔ ((s < 441) × (29 < m))
-  both = both-true (ltb s 441) (ltb 29 m) (ltb-true s 441, lt-ltb s 441) (ltb-true 29 m, lt-ltb 29 m)
+-- a month that had `left` left of its first day has no day m where that is above 498 and m above 29, and else it has
+module _ (n left m : ℕ) (e : left + smallRemainder n ≡ 939) where
+  both : ((ltb 498 left && ltb 29 m) ≡ true) ↔ ((498 < left) × (29 < m))
+  both = both-true (ltb 498 left) (ltb 29 m) (ltb-true 498 left, lt-ltb 498 left) (ltb-true 29 m, lt-ltb 29 m)
 
-  pub no-thirtieth : (ltb s 441 && ltb 29 m) ≡ true → monthLength n < m
+  pub no-thirtieth : (ltb 498 left && ltb 29 m) ≡ true → monthLength n < m
   no-thirtieth h = omega (arith, both .0 h, length-small n (omega (arith, e, both .0 h)))
 
-  pub has-day : m ≤ 30 → (ltb s 441 && ltb 29 m) ≡ false → m ≤ monthLength n
-  has-day b h = go (lt-or-le s 441) (lt-or-le 29 m)
+  pub has-day : m ≤ 30 → (ltb 498 left && ltb 29 m) ≡ false → m ≤ monthLength n
+  has-day b h = go (lt-or-le 498 left) (lt-or-le 29 m)
     where
-      no : (s < 441) × (29 < m) → ⊥
-      no = fails (ltb s 441 && ltb 29 m) both .0 h
+      no : (498 < left) × (29 < m) → ⊥
+      no = fails (ltb 498 left && ltb 29 m) both .0 h
 
-      go : (s < 441) ⊎ (441 ≤ s) → (29 < m) ⊎ (m ≤ 29) → m ≤ monthLength n
+      go : (498 < left) ⊎ (left ≤ 498) → (29 < m) ⊎ (m ≤ 29) → m ≤ monthLength n
       go (inl small) (inl past) = absurd (no (small, past))
       go (inl small) (inr few) = omega (arith, length-range n)
       go (inr big) w = omega (arith, length-big n (omega (arith, e)))

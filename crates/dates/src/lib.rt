@@ -1,6 +1,6 @@
 // Dates both ways: the date of a day, and the day of a date asked for by year, month number, ordinary or leap, day of month.
 ghost use mathlib.Core.Path.{_≡_};
-ghost use Prim.Native.Nat.{ℕ, _+_, _%_, _≤_};
+ghost use Prim.Native.Nat.{ℕ, _+_, _-_, _*_, _%_, _≤_};
 ghost use Rattle.rule.specs.Counts.{YearInRange, DayInRange};
 ghost use Rattle.rule.specs.Rule.{monthStart, smallRemainder};
 ghost use Rattle.dates.specs.Dates.{NumberInRange, DayOfMonthInRange, dateOf, dayInMonth, dayOfNamed};
@@ -37,7 +37,7 @@ pub fn date_at(day: u32) -> Date
 {
     let at = rule::stands(day);
     let passed = at.passed;
-    let length = rule::length_of(at.small_remainder);
+    let length = rule::length_of(at.left);
     let start = day - passed;
     let last = rule::last_mid_term(start + length);
     let named = rule::year_and_number(last);
@@ -63,29 +63,26 @@ pub fn date_of_day(day: u32) -> Dated
     Dated::Is(date_at(day))
 }
 
-// A day of the month that starts on a day and has a small remainder, or reason 5.
-fn day_from(start: u32, small_remainder: u32, day_of_month: u32) -> DayTold
+// A day of the month that starts on a day and has so much left of it at the new moon, or reason 5.
+fn day_from(start: u32, left: u32, day_of_month: u32) -> DayTold
     requires { ⌜ (start ≤ 14989860) × DayOfMonthInRange «day_of_month» ⌝ }
-    ensures { λ r. ⌜ ((n : ℕ) → start ≡ monthStart n → «small_remainder» ≡ smallRemainder n → saidDay r ≡ dayInMonth n «day_of_month») ⌝ }
+    ensures { λ r. ⌜ ((n : ℕ) → start ≡ monthStart n → left + smallRemainder n ≡ 939 → saidDay r ≡ dayInMonth n «day_of_month») ⌝ }
 {
-    let small_month = small_remainder < 441;
+    let small = 498 < left;
     let thirtieth = 29 < day_of_month;
-    if small_month & thirtieth {
+    if small & thirtieth {
         return DayTold::Refused(Reason::NoThirtiethDay);
     }
     DayTold::Is(start + (day_of_month - 1))
 }
 
-// The mid-term of a month number among the twelve of a year, the solstice being 0: 0 for 11, 1 for 12, 2 for 1 ..
-fn mid_term_in_year(number: u8) -> u32
-    requires { ⌜ NumberInRange number ⌝ }
-    ensures { λ r. ⌜ r ≡ (number + 1) % 12 ⌝ }
+// The mid-term of a month number in a year, counted from the origin: 11 has the first of the year's twelve, 12 the second, 1 the third ..
+fn mid_term_of(year: u16, number: u8) -> u32
+    requires { ⌜ YearInRange year × NumberInRange number ⌝ }
+    ensures { λ r. ⌜ r ≡ 12 * (year - 1) + (number + 1) % 12 ⌝ }
 {
-    if number < 11 {
-        number as u32 + 1
-    } else {
-        number as u32 - 11
-    }
+    let count = 12 * (year as u32 - 1) + number as u32;
+    if number < 11 { count + 1 } else { count - 11 }
 }
 
 // The day of a date whose four things are each in their range: reason 4 or 5 can still be met. The ordinary month of the number holds
@@ -94,19 +91,19 @@ fn day_of_named(year: u16, number: u8, leap: bool, day_of_month: u32) -> DayTold
     requires { ⌜ YearInRange year × NumberInRange number × DayOfMonthInRange «day_of_month» ⌝ }
     ensures { λ r. ⌜ saidDay r ≡ dayOfNamed year number leap «day_of_month» ⌝ }
 {
-    let m = 12 * (year as u32 - 1) + mid_term_in_year(number);
+    let m = mid_term_of(year, number);
     let mid = rule::mid_term_day(m);
     let at = rule::stands(mid);
     let mut start = mid - at.passed;
-    let mut remainder = at.small_remainder;
+    let mut left = at.left;
     if leap {
-        start += rule::length_of(remainder);
-        remainder = rule::next_remainder(remainder);
-        if rule::mid_term_day(m + 1) < start + rule::length_of(remainder) {
+        start += rule::length_of(left);
+        left = rule::next_left(left);
+        if rule::mid_term_day(m + 1) < start + rule::length_of(left) {
             return DayTold::Refused(Reason::NoSuchLeapMonth);
         }
     }
-    day_from(start, remainder, day_of_month)
+    day_from(start, left, day_of_month)
 }
 
 // Date to day.

@@ -1,7 +1,7 @@
 // The rule as arithmetic on counts: "Counts and names" and "The rule" of the paper, a function for each definition of specs/.
 // All of these are inner: what asks for a range in its `requires` is called where the range has been tested.
 ghost use mathlib.Core.Path.{_≡_};
-ghost use Prim.Native.Nat.{ℕ, _+_, _/_, _≤_, _<_};
+ghost use Prim.Native.Nat.{ℕ, _+_, _*_, _/_, _≤_, _<_};
 ghost use Rattle.rule.specs.Counts.{YearInRange, DayInRange, MonthInRange, dayName, yearName, ji, bu, yearInBu, headName};
 ghost use Rattle.rule.specs.Rule.{
   monthStart,
@@ -80,11 +80,18 @@ pub struct YearNumber {
     pub number: u8,
 }
 
-// Where a day stands: its month, how many of the month's days are before it, and the month's small remainder.
+// What has gone by since the origin at a day's end: whole months, and parts of 940 beyond them, less one.
+struct Gone {
+    pub months: u32,
+    pub parts: u32,
+}
+
+// Where a day stands: its month, how many of the month's days are before it, and what was left of the month's first day at the new moon,
+// in parts of 940, less one.
 pub struct Standing {
     pub month: u32,
     pub passed: u32,
-    pub small_remainder: u32,
+    pub left: u32,
 }
 
 // The number that the paper gives a reason.
@@ -171,26 +178,26 @@ pub fn small_remainder(n: u32) -> u16
     (27759 * (n as u64) % 940) as u16
 }
 
-// The length of a month of a small remainder: 30 days at 441 or more, else 29.
-pub fn length_of(small_remainder: u32) -> u32
-    ensures { λ r. ⌜ ((n : ℕ) → «small_remainder» ≡ smallRemainder n → r ≡ monthLength n) ⌝ }
-{
-    if small_remainder < 441 { 29 } else { 30 }
-}
-
-// The small remainder of the month after one: 499 parts more, 940 of them making a day.
-pub fn next_remainder(small_remainder: u32) -> u32
-    requires { ⌜ «small_remainder» < 940 ⌝ }
-    ensures { λ r. ⌜ ((n : ℕ) → «small_remainder» ≡ smallRemainder n → r ≡ smallRemainder (n + 1)) ⌝ }
-{
-    (small_remainder + 499) % 940
-}
-
-// The length of a month.
+// The length of a month: 30 days at a small remainder of 441 or more, else 29.
 pub fn month_length(n: u32) -> u8
     ensures { λ r. ⌜ r ≡ monthLength n ⌝ }
 {
-    length_of(small_remainder(n) as u32) as u8
+    if small_remainder(n) < 441 { 29 } else { 30 }
+}
+
+// The length of a month from what was left of its first day, which is 939 less its small remainder.
+pub fn length_of(left: u32) -> u32
+    ensures { λ r. ⌜ ((n : ℕ) → left + smallRemainder n ≡ 939 → r ≡ monthLength n) ⌝ }
+{
+    if left < 499 { 30 } else { 29 }
+}
+
+// What is left of the next month's first day: 499 parts less, or 441 more.
+pub fn next_left(left: u32) -> u32
+    requires { ⌜ left < 940 ⌝ }
+    ensures { λ r. ⌜ ((n : ℕ) → left + smallRemainder n ≡ 939 → r + smallRemainder (n + 1) ≡ 939) ⌝ }
+{
+    (left + 441) % 940
 }
 
 // A quarter of a month: 0 new, 1 first, 2 full, 3 last.
@@ -365,35 +372,48 @@ pub fn printed_day(k: u16) -> u16
     list[k as usize]
 }
 
-// Where a day stands: 940 times the day divided by 27,759 estimates its month, and the rest is what has passed of that month at the day's
-// midnight, in parts of 940. The estimate is one short where the rest is 26,820 or more, since the next month starts on that very day.
-pub fn stands(day: u32) -> Standing
+// What has gone by at a day's end: 940 times the day divided by 27,759, and one month more where the rest and the day's own 939 parts make
+// one, since the next month then starts on that very day. (A sum that makes none wraps round when a month is taken off, and is the lesser.)
+fn gone_by(day: u32) -> Gone
     requires { ⌜ DayInRange day ⌝ }
-    ensures { λ r. ⌜ (r .month ≡ monthOfDay day) × (monthStart (r .month) + r .passed ≡ day) × (r .«small_remainder» ≡ smallRemainder (r .month)) ⌝ }
+    ensures { λ r. ⌜ (27759 * r .months + r .parts ≡ 940 * day + 939) × (r .parts < 27759) ⌝ }
 {
     let parts = 940 * (day as u64);
     let n = (parts / 27759) as u32;
-    let rest = (parts % 27759) as u32;
-    if 26820 <= rest {
-        return Standing {
-            month: n + 1,
-            passed: 0,
-            small_remainder: 27759 - rest,
-        };
-    }
-    let passed = (rest + 939) / 940;
-    Standing {
-        month: n,
-        passed: passed,
-        small_remainder: 940 * passed - rest,
+    let over = (parts % 27759) as u32 + 939;
+    let less = std::num::wrapping_sub_u32(over, 27759);
+    if less < over {
+        Gone {
+            months: n + 1,
+            parts: less,
+        }
+    } else {
+        Gone {
+            months: n,
+            parts: over,
+        }
     }
 }
 
-// The month that a day is in.
+// The month that a day is in: its count is how many have gone by.
 pub fn month_of_day(day: u32) -> u32
     requires { ⌜ DayInRange day ⌝ }
     ensures { λ r. ⌜ r ≡ monthOfDay day ⌝ }
 {
-    let at = stands(day);
-    at.month
+    let gone = gone_by(day);
+    gone.months
+}
+
+// Where a day stands.
+pub fn stands(day: u32) -> Standing
+    requires { ⌜ DayInRange day ⌝ }
+    ensures { λ r. ⌜ (r .month ≡ monthOfDay day) × (monthStart (r .month) + r .passed ≡ day) × (r .left + smallRemainder (r .month) ≡ 939) ⌝ }
+{
+    let gone = gone_by(day);
+    let parts = gone.parts;
+    Standing {
+        month: gone.months,
+        passed: parts / 940,
+        left: parts % 940,
+    }
 }

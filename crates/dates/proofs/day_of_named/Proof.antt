@@ -6,7 +6,6 @@ use mathlib.Core.Bool.{Bool, false}
 use Prim.Native.Nat.{ℕ, _+_, _-_, _*_, _%_, _≤_}
 use Rattle.rule.specs.Rule.{monthStart, smallRemainder, monthLength, monthOfDay, midTermDay, termDay}
 use Rattle.rule.proofs.Months.{start-next}
-use Rattle.rule.proofs.Pairs.{remainder-below}
 use Rattle.dates.specs.Dates.{dayInMonth, dayOfNamed}
 use Rattle.dates.proofs.Days.{ordinary-asked, no-leap, leap-asked, named-end}
 use borrow.Author.Needs.{needs}
@@ -15,12 +14,12 @@ use Rattle.dates.proofs.day_of_named.Tie as tie
 
 -- the number's mid-term, and its month
 abbrev mid : tie.After-mid-term-day → ℕ
-mid c = 12 * (c .before .before .args .year - 1) + c .before .mid-term-in-year .result
+mid c = c .before .mid-term-of .result
 
 is-mid : (c : tie.After-mid-term-day) →
     let a = c .before .before .args in
     mid c ≡ 12 * (a .year - 1) + (a .number + 1) % 12
-is-mid c = omega (arith, c .before .mid-term-in-year .ensures)
+is-mid c = c .before .mid-term-of .ensures
 
 abbrev month : tie.After-stands → ℕ
 month c = monthOfDay (midTermDay (mid (c .before)))
@@ -31,8 +30,8 @@ is-month c = c .stands .ensures .0 ∙ ap monthOfDay (c .before .mid-term-day .e
 start : (c : tie.After-stands) → c .before .mid-term-day .result - c .stands .result .passed ≡ monthStart (month c)
 start c = omega (arith, ap monthStart (is-month c), c .stands .ensures .1)
 
-small : (c : tie.After-stands) → c .stands .result .«small_remainder» ≡ smallRemainder (month c)
-small c = c .stands .ensures .2 ∙ ap smallRemainder (is-month c)
+left : (c : tie.After-stands) → c .stands .result .left + smallRemainder (month c) ≡ 939
+left c = omega (arith, ap smallRemainder (is-month c), c .stands .ensures .2)
 
 -- its end and that of the month after it, which is in the range
 ends : (c : tie.After-stands) →
@@ -53,15 +52,15 @@ abbrev named : tie.After-length-of → tie.After-stands
 named c = c .before .before .before
 
 length : (c : tie.After-length-of) → c .length-of .result ≡ monthLength (month (named c))
-length c = c .length-of .ensures (month (named c)) (small (named c))
+length c = c .length-of .ensures (month (named c)) (left (named c))
 
 next : (c : tie.After-length-of) →
     let a = named c in
     a .before .mid-term-day .result - a .stands .result .passed + c .length-of .result ≡ monthStart (month a + 1)
 next c = omega (arith, start (named c), length c, ends (named c))
 
-after : (c : tie.After-next-remainder) → c .next-remainder .result ≡ smallRemainder (month (named (c .before)) + 1)
-after c = c .next-remainder .ensures (month (named (c .before))) (small (named (c .before)))
+after : (c : tie.After-next-left) → c .next-left .result + smallRemainder (month (named (c .before)) + 1) ≡ 939
+after c = c .next-left .ensures (month (named (c .before))) (left (named (c .before)))
 
 end : (c : tie.After-length-of2) →
     let l = c .before .before .before in
@@ -80,24 +79,24 @@ returns c =
     no-leap (s .args .year) (s .args .number) (mid (a .before)) (s .args .day-of-month) (is-mid (a .before)) (l .before .if1 .taken)
     (omega (arith, c .before .before .mid-term-day2 .ensures, end (c .before)))
 
--- the month that is asked for, n, which starts on day s and has the small remainder r: what day q of it is, is the answer
+-- the month that is asked for, n, which starts on day s and had r left of it: what day q of it is, is the answer
 record Asked (s r y k : ℕ) (l : Bool) (q : ℕ) : Type 0 where
   pub n : ℕ
   pub starts : s ≡ monthStart n
-  pub leaves : r ≡ smallRemainder n
+  pub leaves : r + smallRemainder n ≡ 939
   pub early : s ≤ 14989860
   pub answer : dayInMonth n q ≡ dayOfNamed y k l q
 
 ordinary-month : (c : tie.After-stands) {s r : ℕ} →
     let a = c .before .before .before .args in
-    s ≡ c .before .mid-term-day .result - c .stands .result .passed → r ≡ c .stands .result .«small_remainder» → a .leap ≡ false →
+    s ≡ c .before .mid-term-day .result - c .stands .result .passed → r ≡ c .stands .result .left → a .leap ≡ false →
     Asked s r (a .year) (a .number) (a .leap) (a .day-of-month)
 ordinary-month c e f h =
     let a = c .before .before .before .args in
     record {
       n = month c;
       starts = e ∙ start c;
-      leaves = f ∙ small c;
+      leaves = omega (arith, f, left c);
       early = omega (arith, e, start c, ends c);
       answer = ordinary-asked (a .year) (a .number) (mid (c .before)) (a .day-of-month) (is-mid (c .before)) h;
     }
@@ -106,7 +105,7 @@ leap-month : (c : tie.After-length-of2) {s r : ℕ} →
     let l = c .before .before .before in
     let st = named l in
     let a = st .before .before .before .args in
-    s ≡ st .before .mid-term-day .result - st .stands .result .passed + l .length-of .result → r ≡ c .before .before .next-remainder .result →
+    s ≡ st .before .mid-term-day .result - st .stands .result .passed + l .length-of .result → r ≡ c .before .before .next-left .result →
     s + c .length-of2 .result ≤ c .before .mid-term-day2 .result → Asked s r (a .year) (a .number) (a .leap) (a .day-of-month)
 leap-month c e f h =
     let l = c .before .before .before in
@@ -115,7 +114,7 @@ leap-month c e f h =
     record {
       n = month st + 1;
       starts = e ∙ next l;
-      leaves = f ∙ after (c .before .before);
+      leaves = omega (arith, f, after (c .before .before));
       early = omega (arith, e, next l, ends st);
       answer =
           leap-asked (a .year) (a .number) (mid (st .before)) (a .day-of-month) (is-mid (st .before)) (l .before .if1 .taken)
@@ -124,12 +123,12 @@ leap-month c e f h =
 
 asked : (c : tie.Joined1) →
     let a = c .before .before .before .before .before .args in
-    Asked (c .if1 .start) (c .if1 .remainder) (a .year) (a .number) (a .leap) (a .day-of-month)
+    Asked (c .if1 .start) (c .if1 .left) (a .year) (a .number) (a .leap) (a .day-of-month)
 asked c =
     ⊎-elim
     (λ w.
     let l : tie.After-length-of = record { before = record { before = c .before; if1 = w .0 }; length-of = w .1 } in
-    let t : tie.After-mid-term-day2 = record { before = record { before = l; next-remainder = w .2 }; mid-term-day2 = w .3 } in
+    let t : tie.After-mid-term-day2 = record { before = record { before = l; next-left = w .2 }; mid-term-day2 = w .3 } in
     leap-month (record { before = t; length-of2 = w .4 }) (w .6) (w .7) (omega (arith, w .6, w .5 .left)))
     (λ w. ordinary-month (c .before .before) (w .1) (w .2) (w .0 .left))
     (c .if1 .came)
@@ -147,16 +146,13 @@ pub day-of-named-spec : {M : Type 1} → statement M
 day-of-named-spec =
     tie.close
     (tie.spec
-    (λ c. search needs)
-    (λ c. search needs)
     (λ c κs. search needs)
-    (λ c. search needs)
-    (λ c κs. search needs)
+    (λ c κs. omega (arith, c .mid-term-of .ensures))
     stands-requires
     (λ c. omega (arith, c .before .stands .ensures .1))
     (λ c κs. search needs)
     (λ c. omega (arith, next c, ends (named c)))
-    (λ c κs. omega (arith, small (named c), remainder-below (month (named c))))
+    (λ c κs. omega (arith, left (named c)))
     (λ c. search needs)
     (λ c κs. search needs)
     (λ c κs. search needs)

@@ -6,10 +6,10 @@ use Rattle.rule.proofs.length_of.Statement.{statement}
 use Rattle.rule.proofs.length_of.Tie as tie
 
 returns : tie.Need-returns
-returns c = λ n e. sym (length-small n (omega (arith, e, c .if1 .taken)))
+returns c = λ n e. sym (length-big n (omega (arith, e, c .if1 .taken)))
 
 returns-2 : tie.Need-returns-2
-returns-2 c = λ n e. sym (length-big n (omega (arith, e, c .if1 .left)))
+returns-2 c = λ n e. sym (length-small n (omega (arith, e, c .if1 .left)))
 
 pub length-of-spec : {M : Type 1} → statement M
 length-of-spec = tie.close (tie.spec returns returns-2)
