@@ -1,22 +1,21 @@
 -- Laws of a date's parts, over plain numbers, for the functions that make them. Assumes nothing.
-use Prim.Native.Nat.{ℕ, _+_, _-_, _*_, _/_, _%_, _≤_, _<_}
+use Prim.Native.Nat.{ℕ, _+_, _-_, _/_, _≤_, _<_}
 use native.Mathlib.Omega.{arith}
-use mathlib.Core.Path.{_≡_, ap, ap₂, sym, _∙_}
+use mathlib.Core.Path.{_≡_, ap₂, sym, _∙_}
 use mathlib.Core.Logic.{_↔_, _⊎_, inl, inr}
 use mathlib.Core.Bool.{Bool, true, false, _&&_}
 use lib.Dec.{leb, ltb}
 use borrow.Author.Tests.{le-leb, lt-leb, ltb-true, lt-ltb}
 use Rattle.rule.specs.Counts.{YearInRange, DayInRange, MonthInRange, dayName, yearName}
-use Rattle.rule.specs.Rule.{monthStart, smallRemainder, monthLength, InMonth, monthOfDay, termDay, midTermDay, yearOfMonth, midTermNumber, marked, monthAt}
+use Rattle.rule.specs.Rule.{monthStart, smallRemainder, monthLength, InMonth, monthOfDay, midTermDay, yearOfMonth, midTermNumber, marked, monthAt}
 use Rattle.rule.specs.Reasons.{is, refused, within}
 use Rattle.rule.specs.declared.Month.{Month}
 use Rattle.rule.proofs.Months.{of-day, of-day-low, of-day-high, of-day-range, length-range, length-big, length-small, start-next, start-end}
-use Rattle.rule.proofs.Terms.{year-mid-term}
-use Rattle.rule.proofs.Last.{last-year, last-number, last-leap, ordinary-after, leap-after}
+use Rattle.rule.proofs.Last.{year-by-last, number-by-last, leap-by-last, ordinary-after, leap-after}
 use Rattle.rule.proofs.Pairs.{lt-or-le}
 use Rattle.rule.proofs.Answers.{stops, passes, both-true, fails}
-use Rattle.dates.specs.Dates.{dateIn, dateOf, dateAt, namedMonth, dayInMonth, dayOfNamed, dayOfDate}
-use Rattle.dates.proofs.Named.{named-in-range}
+use Rattle.dates.specs.Dates.{dateIn, dateOf, dateAt, dayInMonth, dayOfNamed, dayOfDate}
+use Rattle.dates.proofs.Named.{midOf, named-of, named-in-range}
 
 -- a day that stands in month n: p of the month's l days are before it
 module _ (d n p l : ℕ) (i : n ≡ monthOfDay d) (a : monthStart n + p ≡ d) (b : l ≡ monthLength n) where
@@ -45,11 +44,11 @@ module _ (d n p l : ℕ) (i : n ≡ monthOfDay d) (a : monthStart n + p ≡ d) (
     start = omega arith
 
     its-year : {y : ℕ} → y ≡ m / 12 + 1 → y ≡ yearOfMonth n
-    its-year h = h ∙ last-year n m low′ high′
+    its-year h = h ∙ year-by-last n m low′ high′
 
     its-month : {t k : ℕ} → t ≡ midTermDay m → k ≡ midTermNumber m → marked (ltb t (d - p)) k ≡ monthAt n
     unfolding monthAt
-    its-month h j = ap₂ marked (ap₂ ltb h start ∙ last-leap n m low′ high′) (j ∙ last-number n m low′ high′)
+    its-month h j = ap₂ marked (ap₂ ltb h start ∙ leap-by-last n m low′ high′) (j ∙ number-by-last n m low′ high′)
 
     day-of-month : p + 1 ≡ d - monthStart n + 1
     day-of-month = omega arith
@@ -59,11 +58,6 @@ module _ (d n p l : ℕ) (i : n ≡ monthOfDay d) (a : monthStart n + p ≡ d) (
         record { month = mo; year = y; «day_of_month» = p + 1; «month_length» = l; «day_name» = dn; «year_name» = yn } ≡ dateOf d
     unfolding dateOf dateIn
     made f g h j k o = cc (i, b, day-of-month, its-year f, j ∙ its-month g h, k, o)
-
--- a mid-term before a day in range, or before the day after the last, is in range
-pub mid-in-range : (m e : ℕ) → midTermDay m < e → e ≤ 14989860 → m < 492480
-unfolding midTermDay termDay
-mid-in-range m e h r = omega arith
 
 pub in-month : (n m : ℕ) → m ≤ monthLength n → dayInMonth n m ≡ is (monthStart n + (m - 1))
 unfolding dayInMonth
@@ -101,32 +95,28 @@ unfolding dateAt
 a-day d h = passes (leb d 14989859) 6 (is (dateOf d)) (le-leb d 14989859 h)
 
 -- which month is asked for, and that there is none; m is the mid-term of the number
-module _ (y k m q : ℕ) (e : m ≡ 12 * (y - 1) + (k + 1) % 12) where
+module _ (y k m q : ℕ) (e : m ≡ midOf y k) where
   abbrev n : ℕ
   n = monthOfDay (midTermDay m)
-
-  named : n ≡ namedMonth y k
-  unfolding namedMonth
-  named = ap monthOfDay (sym (year-mid-term y ((k + 1) % 12) m e))
 
   holds : InMonth n (midTermDay m)
   holds = (of-day-low (midTermDay m), of-day-high (midTermDay m))
 
   pub ordinary-asked : {l : Bool} → l ≡ false → dayInMonth n q ≡ dayOfNamed y k l q
   unfolding dayOfNamed
-  ordinary-asked f = rw (f, named)
+  ordinary-asked f = rw (f, named-of y k m e)
 
   pub no-leap : {l : Bool} → l ≡ true → midTermDay (m + 1) < monthStart (n + 2) → refused 4 ≡ dayOfNamed y k l q
   unfolding dayOfNamed
-  no-leap f h = rw (f, ← named, ordinary-after n m holds h)
+  no-leap f h = rw (f, ← named-of y k m e, ordinary-after n m holds h)
 
   pub leap-asked : {l : Bool} → l ≡ true → monthStart (n + 2) ≤ midTermDay (m + 1) → dayInMonth (n + 1) q ≡ dayOfNamed y k l q
   unfolding dayOfNamed
-  leap-asked f h = rw (f, ← named, leap-after n m holds h)
+  leap-asked f h = rw (f, ← named-of y k m e, leap-after n m holds h)
 
   -- the month after the ordinary one ends in the range
   pub named-end : YearInRange y → monthStart (n + 2) ≤ 14989860
-  named-end r = start-end (n + 2) (omega (arith, named, named-in-range y k r))
+  named-end r = start-end (n + 2) (omega (arith, named-of y k m e, named-in-range y k r))
 
 -- the refusals of a date, in order, from the tests
 module _ (y k : ℕ) (l : Bool) (m : ℕ) where

@@ -30,7 +30,8 @@ pub enum DayTold {
     Refused(Reason),
 }
 
-// The date of a day in range. Nothing else makes a date.
+// The date of a day in range. Year, number and mark are those of the last mid-term before the month's end: leap where that is before the
+// month's start. Nothing else makes a date.
 pub fn date_at(day: u32) -> Date
     requires { ⌜ DayInRange day ⌝ }
     ensures { λ r. ⌜ r ≡ dateOf day ⌝ }
@@ -40,12 +41,12 @@ pub fn date_at(day: u32) -> Date
     let length = rule::length_of(at.left);
     let start = day - passed;
     let last = rule::last_mid_term(start + length);
-    let named = rule::year_and_number(last);
-    let year = named.year;
+    let its = rule::year_and_number(last);
+    let year = its.year;
     let leap = rule::mid_term_day(last) < start;
     Date {
+        month: rule::marked(leap, its.number),
         year: year,
-        month: rule::marked(leap, named.number),
         day_of_month: (passed + 1) as u8,
         month_length: length as u8,
         day_name: rule::day_name(day),
@@ -63,8 +64,9 @@ pub fn date_of_day(day: u32) -> Dated
     Dated::Is(date_at(day))
 }
 
-// A day of the month that starts on a day and has so much left of it at the new moon, or reason 5.
-fn day_from(start: u32, left: u32, day_of_month: u32) -> DayTold
+// A day of the month that starts on day `start`, of which `left` was left at the new moon, or reason 5. (More than 498 is left in a small
+// month; asking `length_of` is slower here.)
+fn day_in(start: u32, left: u32, day_of_month: u32) -> DayTold
     requires { ⌜ (start ≤ 14989860) × DayOfMonthInRange «day_of_month» ⌝ }
     ensures { λ r. ⌜ ((n : ℕ) → start ≡ monthStart n → left + smallRemainder n ≡ 939 → saidDay r ≡ dayInMonth n «day_of_month») ⌝ }
 {
@@ -103,7 +105,7 @@ fn day_of_named(year: u16, number: u8, leap: bool, day_of_month: u32) -> DayTold
             return DayTold::Refused(Reason::NoSuchLeapMonth);
         }
     }
-    day_from(start, left, day_of_month)
+    day_in(start, left, day_of_month)
 }
 
 // Date to day.

@@ -226,7 +226,7 @@ fn fill_month(r: Reading, n: u32, from: u32, to: u32, out: &mut [u32], at: usize
 }
 
 // The days from `first` up to `end` that fit, put into the front of the list, month by month; how many they are.
-fn list_window(r: Reading, first: u32, end: u32, out: &mut [u32]) -> usize
+fn fill_fitting(r: Reading, first: u32, end: u32, out: &mut [u32]) -> usize
     requires { ⌜ (first < end) × (end ≤ 14989860) × (length (fitting r first (end - first)) ≤ length (now out)) ⌝ }
     ensures { λ k. ⌜ (k ≡ length (fitting r first (end - first))) × (now (out .exit) ≡ placed (fitting r first (end - first)) (now (out .entry))) ⌝ }
 {
@@ -254,7 +254,7 @@ fn window_holds(first: u32, last: u32) -> bool
 }
 
 // Every day of the window that fits the reading: how many, and the days in rising order at the front of the lent list. Only a list
-// with fewer places than the window has days can be too short: then they are counted first, so that a refusal changes nothing.
+// with fewer places than the window has days can be too short: then the fitting days are counted first, so that a refusal changes nothing.
 pub fn search(r: Reading, first: u32, last: u32, out: &mut [u32]) -> Found
     ensures { λ a. ⌜ Searched r first last (now (out .entry)) a (now (out .exit)) ⌝ }
 {
@@ -277,5 +277,5 @@ pub fn search(r: Reading, first: u32, last: u32, out: &mut [u32]) -> Found
             return Found::TooShort(total);
         }
     }
-    Found::Is(list_window(r, first, end, out) as u32)
+    Found::Is(fill_fitting(r, first, end, out) as u32)
 }

@@ -15,13 +15,13 @@ module _ (n m : ℕ) (low : midTermDay m < monthStart (n + 1)) (high : monthStar
       let no : ¬ (m + 1 < midTermsBefore (n + 1)) = λ h. omega (arith, high, before-iff (n + 1) (m + 1) .0 h) in
       omega (arith, before-iff (n + 1) m .1 low)
 
-  pub last-number : midTermNumber m ≡ monthNumber n
+  pub number-by-last : midTermNumber m ≡ monthNumber n
   unfolding monthNumber
-  last-number = ap midTermNumber (omega (arith, all-before))
+  number-by-last = ap midTermNumber (omega (arith, all-before))
 
   -- leap exactly where its day is before the month's start
-  pub last-leap : ltb (midTermDay m) (monthStart n) ≡ leap n
-  last-leap = go (leap n) refl
+  pub leap-by-last : ltb (midTermDay m) (monthStart n) ≡ leap n
+  leap-by-last = go (leap n) refl
     where
       go : (b : Bool) → leap n ≡ b → ltb (midTermDay m) (monthStart n) ≡ leap n
       go true h = lt-ltb (midTermDay m) (monthStart n) (before-iff n m .0 (omega (arith, all-before, leap-stays n h))) ∙ sym h
@@ -30,8 +30,8 @@ module _ (n m : ℕ) (low : midTermDay m < monthStart (n + 1)) (high : monthStar
           le-ltb (midTermDay m) (monthStart n) (omega arith) ∙ sym h
 
   -- a year has twelve mid-terms, the first in its first month
-  pub last-year : m / 12 + 1 ≡ yearOfMonth n
-  last-year = go (yearOfMonth n) (of-month (yearOfMonth n) n .1 refl)
+  pub year-by-last : m / 12 + 1 ≡ yearOfMonth n
+  year-by-last = go (yearOfMonth n) (of-month (yearOfMonth n) n .1 refl)
     where
       go : (y : ℕ) → InYear y n → m / 12 + 1 ≡ y
       go y i =

@@ -1,4 +1,5 @@
-// The rule as arithmetic on counts: "Counts and names" and "The rule" of the paper, a function for each definition of specs/.
+// The rule as arithmetic on counts: "Counts and names" and "The rule" of the paper, a function for each definition of specs/, and those
+// that share what a date is computed from, which say in their contracts what they give.
 // All of these are inner: what asks for a range in its `requires` is called where the range has been tested.
 ghost use mathlib.Core.Path.{_≡_};
 ghost use Prim.Native.Nat.{ℕ, _+_, _*_, _/_, _≤_, _<_};
@@ -75,12 +76,12 @@ pub struct Quarter {
 }
 
 // A year, and the number of one of its months.
-pub struct YearNumber {
+pub struct YearMonth {
     pub year: u16,
     pub number: u8,
 }
 
-// What has gone by since the origin at a day's end: whole months, and parts of 940 beyond them, less one.
+// What has gone by since the origin a part before a day's end: whole months, and the parts of 940 beyond them.
 struct Gone {
     pub months: u32,
     pub parts: u32,
@@ -237,13 +238,13 @@ pub fn last_mid_term(day: u32) -> u32
 }
 
 // The year in which a mid-term falls, and the number of the month that holds it: 11, 12, 1, 2 .. 10.
-pub fn year_and_number(m: u32) -> YearNumber
+pub fn year_and_number(m: u32) -> YearMonth
     requires { ⌜ m < 492480 ⌝ }
     ensures { λ r. ⌜ (r .year ≡ m / 12 + 1) × (r .number ≡ midTermNumber m) ⌝ }
 {
     let elapsed = m / 12;
     let in_year = m - 12 * elapsed;
-    YearNumber {
+    YearMonth {
         year: (elapsed + 1) as u16,
         number: if in_year < 2 {
             (in_year + 11) as u8
@@ -372,8 +373,8 @@ pub fn printed_day(k: u16) -> u16
     list[k as usize]
 }
 
-// What has gone by at a day's end: 940 times the day divided by 27,759, and one month more where the rest and the day's own 939 parts make
-// one, since the next month then starts on that very day. (A sum that makes none wraps round when a month is taken off, and is the lesser.)
+// What has gone by a part before a day's end: 940 times the day divided by 27,759, and one month more where the rest and the day's own 939
+// parts make one, since the next month then starts on that very day. (Where they make none, taking a month off wraps round to more.)
 fn gone_by(day: u32) -> Gone
     requires { ⌜ DayInRange day ⌝ }
     ensures { λ r. ⌜ (27759 * r .months + r .parts ≡ 940 * day + 939) × (r .parts < 27759) ⌝ }
@@ -395,16 +396,7 @@ fn gone_by(day: u32) -> Gone
     }
 }
 
-// The month that a day is in: its count is how many have gone by.
-pub fn month_of_day(day: u32) -> u32
-    requires { ⌜ DayInRange day ⌝ }
-    ensures { λ r. ⌜ r ≡ monthOfDay day ⌝ }
-{
-    let gone = gone_by(day);
-    gone.months
-}
-
-// Where a day stands.
+// Where a day stands: the count of its month is how many have gone by.
 pub fn stands(day: u32) -> Standing
     requires { ⌜ DayInRange day ⌝ }
     ensures { λ r. ⌜ (r .month ≡ monthOfDay day) × (monthStart (r .month) + r .passed ≡ day) × (r .left + smallRemainder (r .month) ≡ 939) ⌝ }
@@ -416,4 +408,13 @@ pub fn stands(day: u32) -> Standing
         passed: parts / 940,
         left: parts % 940,
     }
+}
+
+// The month that a day is in.
+pub fn month_of_day(day: u32) -> u32
+    requires { ⌜ DayInRange day ⌝ }
+    ensures { λ r. ⌜ r ≡ monthOfDay day ⌝ }
+{
+    let at = stands(day);
+    at.month
 }

@@ -24,7 +24,7 @@ const SHEETS: u64 = 100;
 /// The items of a full section of a sheet.
 const ITEMS: usize = 1_000;
 
-/// The most that a call may take, in times of the independent one (docs/BENCH.md).
+// The bars: the most that a call may take, in times of the independent one (docs/BENCH.md).
 const DAY_TO_DATE: f64 = 0.75;
 const DATE_TO_DAY: f64 = 1.0;
 const SEARCH_BY_DAYS: f64 = 0.03;

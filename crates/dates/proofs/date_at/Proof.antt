@@ -5,7 +5,8 @@ use mathlib.Core.Path.{_≡_}
 use Prim.Native.Nat.{_+_, _-_, _≤_, _<_}
 use Rattle.rule.specs.Counts.{dayName}
 use Rattle.rule.specs.Rule.{monthLength}
-use Rattle.dates.proofs.Days.{between, made, mid-in-range}
+use Rattle.rule.proofs.Terms.{mid-in-range}
+use Rattle.dates.proofs.Days.{between, made}
 use borrow.Author.Needs.{needs}
 use Rattle.dates.proofs.date_at.Statement.{statement}
 use Rattle.dates.proofs.date_at.Tie as tie
@@ -37,13 +38,13 @@ returns : tie.Need-returns
 returns c =
     let month = c .before .before in
     let mid = month .before in
-    let named = mid .before in
-    let m = named .before in
+    let its = mid .before in
+    let m = its .before in
     let l = m .before in
     let at = l .before in
     made (at .before .args .day) _ _ _ (at .stands .ensures .0) (at .stands .ensures .1) (length l) _ (m .last-mid-term .ensures .0)
     (m .last-mid-term .ensures .1)
-    (named .year-and-number .ensures .0) (mid .mid-term-day .ensures) (named .year-and-number .ensures .1) (month .marked .ensures)
+    (its .year-and-number .ensures .0) (mid .mid-term-day .ensures) (its .year-and-number .ensures .1) (month .marked .ensures)
     (own-name (c .before)) (c .year-name .ensures)
 
 pub date-at-spec : {M : Type 1} → statement M

@@ -3,26 +3,27 @@ use native.Mathlib.Omega.{arith}
 use mathlib.Core.Logic.{⊎-elim}
 use mathlib.Core.Path.{_≡_, ap, _∙_}
 use mathlib.Core.Bool.{Bool, false}
-use Prim.Native.Nat.{ℕ, _+_, _-_, _*_, _%_, _≤_}
+use Prim.Native.Nat.{ℕ, _+_, _-_, _≤_}
 use Rattle.rule.specs.Rule.{monthStart, smallRemainder, monthLength, monthOfDay, midTermDay, termDay}
 use Rattle.rule.proofs.Months.{start-next}
 use Rattle.dates.specs.Dates.{dayInMonth, dayOfNamed}
+use Rattle.dates.proofs.Named.{midOf}
 use Rattle.dates.proofs.Days.{ordinary-asked, no-leap, leap-asked, named-end}
 use borrow.Author.Needs.{needs}
 use Rattle.dates.proofs.day_of_named.Statement.{statement}
 use Rattle.dates.proofs.day_of_named.Tie as tie
 
 -- the number's mid-term, and its month
-abbrev mid : tie.After-mid-term-day → ℕ
-mid c = c .before .mid-term-of .result
+abbrev m : tie.After-mid-term-day → ℕ
+m c = c .before .mid-term-of .result
 
 is-mid : (c : tie.After-mid-term-day) →
     let a = c .before .before .args in
-    mid c ≡ 12 * (a .year - 1) + (a .number + 1) % 12
+    m c ≡ midOf (a .year) (a .number)
 is-mid c = c .before .mid-term-of .ensures
 
 abbrev month : tie.After-stands → ℕ
-month c = monthOfDay (midTermDay (mid (c .before)))
+month c = monthOfDay (midTermDay (m (c .before)))
 
 is-month : (c : tie.After-stands) → c .stands .result .month ≡ month c
 is-month c = c .stands .ensures .0 ∙ ap monthOfDay (c .before .mid-term-day .ensures)
@@ -44,39 +45,39 @@ ends c =
     let s = c .before .before .before in (
       start-next n,
       ap monthStart {y = n + 1 + 1} (omega arith) ∙ start-next (n + 1),
-      named-end (s .args .year) (s .args .number) (mid (c .before)) 1 (is-mid (c .before)) (s .pre .0),
+      named-end (s .args .year) (s .args .number) (m (c .before)) 1 (is-mid (c .before)) (s .pre .0),
     )
 
 -- where leap is asked: the month's length, and the month after it
-abbrev named : tie.After-length-of → tie.After-stands
-named c = c .before .before .before
+abbrev stood : tie.After-length-of → tie.After-stands
+stood c = c .before .before .before
 
-length : (c : tie.After-length-of) → c .length-of .result ≡ monthLength (month (named c))
-length c = c .length-of .ensures (month (named c)) (left (named c))
+length : (c : tie.After-length-of) → c .length-of .result ≡ monthLength (month (stood c))
+length c = c .length-of .ensures (month (stood c)) (left (stood c))
 
 next : (c : tie.After-length-of) →
-    let a = named c in
+    let a = stood c in
     a .before .mid-term-day .result - a .stands .result .passed + c .length-of .result ≡ monthStart (month a + 1)
-next c = omega (arith, start (named c), length c, ends (named c))
+next c = omega (arith, start (stood c), length c, ends (stood c))
 
-after : (c : tie.After-next-left) → c .next-left .result + smallRemainder (month (named (c .before)) + 1) ≡ 939
-after c = c .next-left .ensures (month (named (c .before))) (left (named (c .before)))
+after : (c : tie.After-next-left) → c .next-left .result + smallRemainder (month (stood (c .before)) + 1) ≡ 939
+after c = c .next-left .ensures (month (stood (c .before))) (left (stood (c .before)))
 
 end : (c : tie.After-length-of2) →
     let l = c .before .before .before in
-    let a = named l in
+    let a = stood l in
     a .before .mid-term-day .result - a .stands .result .passed + l .length-of .result + c .length-of2 .result ≡ monthStart (month a + 2)
 end c =
     let l = c .before .before .before in
-    let e = c .length-of2 .ensures (month (named l) + 1) (after (c .before .before)) in
-    omega (arith, next l, e, ends (named l))
+    let e = c .length-of2 .ensures (month (stood l) + 1) (after (c .before .before)) in
+    omega (arith, next l, e, ends (stood l))
 
 returns : tie.Need-returns
 returns c =
     let l = c .before .before .before .before in
-    let a = named l in
+    let a = stood l in
     let s = a .before .before .before in
-    no-leap (s .args .year) (s .args .number) (mid (a .before)) (s .args .day-of-month) (is-mid (a .before)) (l .before .if1 .taken)
+    no-leap (s .args .year) (s .args .number) (m (a .before)) (s .args .day-of-month) (is-mid (a .before)) (l .before .if1 .taken)
     (omega (arith, c .before .before .mid-term-day2 .ensures, end (c .before)))
 
 -- the month that is asked for, n, which starts on day s and had r left of it: what day q of it is, is the answer
@@ -98,18 +99,18 @@ ordinary-month c e f h =
       starts = e ∙ start c;
       leaves = omega (arith, f, left c);
       early = omega (arith, e, start c, ends c);
-      answer = ordinary-asked (a .year) (a .number) (mid (c .before)) (a .day-of-month) (is-mid (c .before)) h;
+      answer = ordinary-asked (a .year) (a .number) (m (c .before)) (a .day-of-month) (is-mid (c .before)) h;
     }
 
 leap-month : (c : tie.After-length-of2) {s r : ℕ} →
     let l = c .before .before .before in
-    let st = named l in
+    let st = stood l in
     let a = st .before .before .before .args in
     s ≡ st .before .mid-term-day .result - st .stands .result .passed + l .length-of .result → r ≡ c .before .before .next-left .result →
     s + c .length-of2 .result ≤ c .before .mid-term-day2 .result → Asked s r (a .year) (a .number) (a .leap) (a .day-of-month)
 leap-month c e f h =
     let l = c .before .before .before in
-    let st = named l in
+    let st = stood l in
     let a = st .before .before .before .args in
     record {
       n = month st + 1;
@@ -117,7 +118,7 @@ leap-month c e f h =
       leaves = omega (arith, f, after (c .before .before));
       early = omega (arith, e, next l, ends st);
       answer =
-          leap-asked (a .year) (a .number) (mid (st .before)) (a .day-of-month) (is-mid (st .before)) (l .before .if1 .taken)
+          leap-asked (a .year) (a .number) (m (st .before)) (a .day-of-month) (is-mid (st .before)) (l .before .if1 .taken)
           (omega (arith, c .before .mid-term-day2 .ensures, end c, e, h));
     }
 
@@ -135,8 +136,8 @@ asked c =
 
 returns-2 : tie.Need-returns-2
 returns-2 c =
-    let m = asked (c .before) in
-    c .day-from .ensures (m .n) (m .starts) (m .leaves) ∙ m .answer
+    let a = asked (c .before) in
+    c .day-in .ensures (a .n) (a .starts) (a .leaves) ∙ a .answer
 
 stands-requires : tie.Need-stands-requires
 unfolding midTermDay termDay
@@ -151,12 +152,12 @@ day-of-named-spec =
     stands-requires
     (λ c. omega (arith, c .before .stands .ensures .1))
     (λ c κs. search needs)
-    (λ c. omega (arith, next c, ends (named c)))
-    (λ c κs. omega (arith, left (named c)))
+    (λ c. omega (arith, next c, ends (stood c)))
+    (λ c κs. omega (arith, left (stood c)))
     (λ c. search needs)
     (λ c κs. search needs)
     (λ c κs. search needs)
-    (λ c. omega (arith, end c, ends (named (c .before .before .before))))
+    (λ c. omega (arith, end c, ends (stood (c .before .before .before))))
     returns
     (λ c κs. (asked c .early, c .before .before .before .before .before .pre .2))
     returns-2)

@@ -91,7 +91,7 @@ few c =
 
 returns-6 : tie.Need-returns-6
 returns-6 c =
-    let list = c .before .before .list-window in
+    let list = c .before .before .fill-fitting in
     let j = c .before .before .before .before in
     let g = j .before in
     made (Is (list .result))
@@ -116,6 +116,6 @@ search-spec =
     (λ c. search needs)
     returns-5
     (λ c κs. omega (arith, some (c .before .before), room (c .before)))
-    (λ c. omega (arith, c .before .before .list-window .ensures .0, few (c .before .before .before .before .before)))
+    (λ c. omega (arith, c .before .before .fill-fitting .ensures .0, few (c .before .before .before .before .before)))
     (λ c. search needs)
     returns-6)

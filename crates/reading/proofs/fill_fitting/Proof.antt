@@ -1,4 +1,4 @@
--- `reading::list_window` meets its contract. The invariant: the fitting days passed stand at the front of the list, k of them. Assumes
+-- `reading::fill_fitting` meets its contract. The invariant: the fitting days passed stand at the front of the list, k of them. Assumes
 -- nothing.
 use Prim.Native.Nat.{ℕ, _-_}
 use native.Mathlib.Omega.{arith}
@@ -20,8 +20,8 @@ use Rattle.reading.proofs.Runs.{
   walk-filled,
   none-fitting,
 }
-use Rattle.reading.proofs.list_window.Statement.{statement}
-use Rattle.reading.proofs.list_window.Tie as tie
+use Rattle.reading.proofs.fill_fitting.Statement.{statement}
+use Rattle.reading.proofs.fill_fitting.Tie as tie
 
 abbrev Inv-loop : tie.InvT-loop
 Inv-loop r first end out₀ k₀ day₀ n₀ out k day n =
@@ -97,8 +97,8 @@ returns c =
           ∙ from-front (fitting (a .r) (a .first) (a .end - a .first)) (a .out .now) (start .pre .2),
     )
 
-pub list-window-spec : {M : Type 1} → statement M
-list-window-spec =
+pub fill-fitting-spec : {M : Type 1} → statement M
+fill-fitting-spec =
     tie.close
     (tie.spec
     Inv-loop
