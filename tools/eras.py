@@ -16,10 +16,13 @@ planet-count (積合 and 合餘, by the end of year Y): the year ends with the n
 is one more than the last by then. No query gives the 合餘, Y × 周率 - k × 日率; since a year is 1,461 quarters of a day, 1 of it is 1,461
 parts of the divisor, so that 004's figure says when the last conjunction was, and stands in the answer as its day and parts.
 
-Of a solstice and a term only the day and its name are compared, of term12 only the day: the remainder of a term is not in the
-base, it waits for request W2. So a row whose misprint stands in the remainder alone (T24) agrees, and its note says so.
-term12 rounds to whole twelfths: where 31 of 32 parts become 12 twelfths its day is one more than the rule's whole day. That is
-no misprint and not the rule's day either; such a row (T52) gets the class ROUNDED here.
+term12 (a term in days and whole twelfths): 004 rounds the parts of 32, and where 31 of them become 12 twelfths its day is one more
+than the rule's (T52). The desk answers parts. A term is 487 of them, so that 004's figure says which term it was rounded from, and
+stands in the answer as that term's day and parts (`unrounded`). No term rounds to what 004 prints in a row that is a misprint.
+
+term-step and year-step (the days and parts that a term, or so many years, add): the term so far from the origin, which has day 0 and
+parts 0. The same in parts alone, before 004 divides them by 32 (B08, J19, K17), is a step of the sum, and out.
+
 A mark `-` of a month is `ordinary` where the month's number is stated, and else not stated: here `leap=no` and `leap=-`.
 
 usage: tools/eras.py --from PATH   choose the rows from the whole collection at PATH into tools/eras.tsv, and say how many of each kind
@@ -55,7 +58,7 @@ OUT = {
 }
 OUT_CLASSES = {"CONVENTION"}
 
-# The items of each kind that is asked, in the collection's order; one in brackets is not in the base, and is not asked.
+# The items of each kind that is asked, in the collection's order.
 IN = {
     "year-name": "name",
     "year-place": "ji bu year-in-bu",
@@ -71,9 +74,11 @@ IN = {
     "eclipse-month": "eclipse number leap",
     "quarter": "day parts name",
     "quarter-day-of-month": "day-of-month",
-    "solstice": "day [parts] name",
-    "term": "day [parts] name",
-    "term12": "day [twelfths]",
+    "solstice": "day parts name",
+    "term": "day parts name",
+    "term12": "day twelfths",
+    "term-step": "days parts",
+    "year-step": "days parts",
     "midterm-month": "number",
     "reading": "exists",
     "eclipse-count": "eclipse-months",
@@ -99,13 +104,16 @@ BESIDE = """eclipse-count big-pair first-day-identity next-eclipse-identity
 planet-gcd planet-parts planet-long-days planet-long-circle planet-mornings""".split()
 
 # The classes of rows that differ, in the order of the total.
-CLASSES = ["MISPRINT(numeral)", "MISPRINT(scan gap/interleave)", "SOURCE-DATE", "ROUNDED"]
+CLASSES = ["MISPRINT(numeral)", "MISPRINT(scan gap/interleave)", "SOURCE-DATE"]
 HEADING = [
     "FIGURES OF 004: the row's name, 004's lines (L), kind and inputs, what 004 prints, and its words where there is room.",
-    "- is not stated in 004; what stands in brackets is not in the base, and is not asked.",
+    "- is not stated in 004.",
     "Where a figure is not the answer's own: elapsed years are one less than the year in the bu;",
     "the days of bu-month and planet-in-month are counted from the first day of the first month that is asked;",
     "the days of month-step are less whole sixties, one less than the name;",
+    "the day and twelfths of term12 are the day and parts rounded to whole twelfths, 12 of which are a day more:",
+    "of the days and parts that round so, the answer is that which whole terms make, of 487 parts each;",
+    "the days of year-step are less whole sixties, 360 a year;",
     "the conjunctions of planet-count are one less than the next k, and 1 of its remainder is 1,461 parts of the divisor,",
     "from the last conjunction to the end of the year.",
 ]
@@ -125,6 +133,10 @@ def sums(p):
 # Questions that the collection puts in a sentence, a sum or a word: kind and inputs of the row.
 NAMED = {
     "5 months": ("month-step", "months=5"),
+    "divmod(487,32)": ("term-step", "terms=1"),
+    "divmod(168,32)": ("year-step", "years=1"),
+    "divmod(2856,32)": ("year-step", "years=17"),
+    "divmod(61*168,32)": ("year-step", "years=61"),
     "civil 9368..9460": ("eclipse-count", "first-civil=9368 last-civil=9460"),
     "remainder r of a month: previous and this both big": ("big-pair", "months=941"),
     "343335*e-1461*r == 27759*n, e<41040": ("first-day-identity", "years=41040"),
@@ -159,6 +171,19 @@ def plus(k):
 
 def either(yes, no):
     return {"yes": yes, "no": no}.__getitem__
+
+
+def unrounded(day, twelfths):
+    """The day and parts that 004 rounded: of all counts of parts that round to so many twelfths, the one that is of whole terms."""
+    assert 0 <= int(twelfths) < 12, (day, twelfths)
+    whole = 12 * int(day) + int(twelfths)
+    near = range(32 * whole // 12 - 2, 32 * whole // 12 + 3)
+    [parts] = [count for count in near if (12 * count + 16) // 32 == whole and count % 487 == 0]
+    return map(str, divmod(parts, 32))
+
+
+# The kinds whose figures make those of the answer together, and how.
+TOGETHER = {"term12": unrounded}
 
 
 class Asked:
@@ -233,14 +258,21 @@ class Asked:
 
     def term(self, year, k):
         query = f"TERM {year} {k}"
-        return [query, f"DAY {self.told(query, 'day')}"], [at(0, "day"), None, at(1, "day-name")]
+        return [query, f"DAY {self.told(query, 'day')}"], [at(0, "day"), at(0, "parts"), at(1, "day-name")]
 
     def solstice(self, year):
         return self.term(year, 0)
 
     def term12(self, year, k):
-        queries, (day, *_) = self.term(year, k)
-        return queries, [day, None]
+        queries, (day, parts, _) = self.term(year, k)
+        return queries, [day, parts]
+
+    def term_step(self, terms):
+        return [f"TERM 1 {terms}"], [at(0, "day"), at(0, "parts")]
+
+    def year_step(self, years):
+        """Days less whole sixties, six for each year."""
+        return [f"TERM {years + 1} 0"], [at(0, "day", plus(360 * years)), at(0, "parts")]
 
     def midterm_month(self, k):
         return self.term(1, k)[0], [at(1, "number")]
@@ -341,19 +373,6 @@ def stated(row):
     return IN[asked_as(row)[0]].split(), printed, ruled
 
 
-def held_terms(kind, numbers, ruled):
-    """Of a term the items that are not asked, held against the rule; of term12 the rule's day, with whether it was rounded up."""
-    year, k = (*numbers, 0)[:2]
-    day, parts = divmod(487 * (24 * (year - 1) + k), 32)
-    if kind != "term12":
-        assert ruled[1] in ("-", str(parts)), (kind, numbers)
-        return ruled, False
-    twelfths = (12 * parts + 16) // 32
-    rounded = [str(day + twelfths // 12), str(twelfths % 12)]
-    assert ruled == rounded, (kind, numbers)
-    return [str(day), ruled[1]], day != int(rounded[0])
-
-
 class Run:
     """The page, row by row, and what was found of each row."""
 
@@ -368,36 +387,31 @@ class Run:
         kind, inputs, numbers = question(row)
         labels, printed, ruled = stated(row)
         word = row["class"]
-        if kind in ("solstice", "term", "term12"):
-            ruled, rounded = held_terms(kind, numbers, ruled)
-            word = "ROUNDED" if rounded else word
-        differs = [f"{l}={r}" for l, p, r in zip(labels, printed, ruled) if word and p != r and l[0] != "["]
-        shown = [f"[{l[1:-1]}={p}]" if l[0] == "[" else f"{l}={p}" for l, p in zip(labels, printed)]
-        text = f"{row['id']} L{row['lines']} {kind} {inputs}: " + " ".join(shown)
+        text = f"{row['id']} L{row['lines']} {kind} {inputs}: " + " ".join(f"{l}={p}" for l, p in zip(labels, printed))
         if word:
-            text += f"; {word}: the rule gives {' '.join(differs)}" if differs else f"; {word} in what is not asked"
+            text += f"; {word}: the rule gives " + " ".join(f"{l}={r}" for l, p, r in zip(labels, printed, ruled) if p != r)
         if kind in BESIDE:
             text += "; asked by the program `beside`"
         self.note(text, row["quote"])
         if kind not in BESIDE:
-            self.ask(kind, numbers, list(zip(labels, ruled if word else printed, ruled)))
-        self.found["beside" if kind in BESIDE else "desk"][word if differs else "AGREE"] += 1
+            self.ask(kind, numbers, ruled if word else printed, ruled)
+        self.found["beside" if kind in BESIDE else "desk"][word or "AGREE"] += 1
 
     def note(self, text, quote):
         whole = f"{text}; {quote}"
         self.page.note(whole if len(f"# {whole}".encode()) <= LONGEST else text)
 
-    def ask(self, kind, numbers, said):
+    def ask(self, kind, numbers, said, ruled):
         """The queries, with the figure of each item that must be answered. What the rule gives is held against the calendar."""
         queries, places = getattr(self.asked, kind.replace("-", "_"))(*numbers)
         answers = [fields(self.page.answer(query)[0]) for query in queries]
         figures = [{} for _ in queries]
-        for (label, figure, ruled), place in zip(said, places, strict=True):
-            assert (place is None) == (label[0] == "["), (kind, label)
-            if place is None or ruled == "-":
+        if kind in TOGETHER:
+            said, ruled = TOGETHER[kind](*said), TOGETHER[kind](*ruled)
+        for figure, by_rule, (at_query, made) in zip(said, ruled, places, strict=True):
+            if by_rule == "-":
                 continue
-            at_query, made = place
-            given = {field: make(ruled) for field, make in made.items()}
+            given = {field: make(by_rule) for field, make in made.items()}
             assert given.items() <= answers[at_query].items(), (kind, numbers, given, answers)
             figures[at_query] |= {field: make(figure) for field, make in made.items()}
         for query, of_query in zip(queries, figures):

@@ -16,7 +16,7 @@ PLACE ji bu year-in-bu head-name first-month leap-remainder months
 YEAR year NAME name MONTHS months FIRST first-month LEAP leap-number leap-month
 MONTH count number mark first-name length eclipse first-day small-remainder
 QUARTER day parts
-TERM day
+TERM day parts
 CONJUNCTION day parts divisor phase
 NEXT k day parts divisor phase
 PAIR years conjunctions

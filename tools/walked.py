@@ -1,11 +1,12 @@
 """The calendar walked month by month, and every answer of the desk: what the other tools compute with. A module, not a program.
 
 It shares nothing with the library. The calendar is walked from the origin, mid-terms are looked for among all even terms on each
-month's days, numbers are given out by the paper's two sentences, and every date is found by looking it up. A planet's next
-conjunction is searched for among its counts. A query line is read by regular expressions. In order:
+month's days, numbers are given out by the paper's two sentences, and every date is found by looking it up. A term is walked to from
+its year's solstice. A planet's next conjunction is searched for among its counts. A query line is read by regular expressions. In
+order:
 
 - the ranges and the words of the reasons,
-- the walked calendar, the big pairs, names and marks,
+- the walked calendar, the big pairs, the terms, names and marks,
 - the planets,
 - the sheet, read and written byte by byte,
 - the desk: a line's answer, its echo, and the listing's lines,
@@ -107,6 +108,17 @@ def pair_starts():
     in_940 = {bisect.bisect_left(starts, n + 940) - bisect.bisect_left(starts, n) for n in range(MONTHS)}
     assert in_940 == {58}
     return starts
+
+
+def term(y, k):
+    """Day and parts of 32 of a year's term, as the clerk walks to it: four years are 1,461 days, a term 15 days and 7 parts."""
+    quarters = 1461 * (y - 1)
+    day, parts = quarters // 4, 8 * (quarters % 4)
+    for _ in range(k):
+        parts += 7
+        day += 15 + parts // 32
+        parts %= 32
+    return day, parts
 
 
 def name(count, first):
@@ -343,7 +355,7 @@ class Desk:
     def term(self, y, k):
         if not 1 <= y <= YEARS:
             return [refused(1)]
-        return [refused(15) if k > 23 else f"TERM {487 * (24 * (y - 1) + k) // 32}"]
+        return [refused(15) if k > 23 else "TERM %d %d" % term(y, k)]
 
     def conjunction(self, p, k):
         return [planet_line("CONJUNCTION", conjunction(p, k))]

@@ -48,14 +48,14 @@ static void facts(void)
     oes_solstice s = oes_solstice_year(9366);
     oes_month m = oes_month_facts(115830);
     oes_quarter_told full = oes_quarter(115830, 2);
-    oes_day solstice = oes_term(9366, 0);
+    oes_term_told solstice = oes_term(9366, 0);
     oes_year y = oes_year_facts(11);
     printf("PLACE 9366\nPLACE %u %u %u %u %u %u %u\n", s.ji, s.bu, s.year_in_bu, s.head_name, s.first_month, s.leap_remainder,
            s.months);
     printf("MONTH 115830\nMONTH 115830 %u %c %u %u %c %u %u\n", m.number, m.leap ? 'L' : '-', m.first_name, m.month_length,
            m.eclipse ? 'E' : '-', m.first_day, m.small_remainder);
     printf("QUARTER 115830 2\nQUARTER %u %u\n", full.day, full.parts);
-    printf("TERM 9366 0\nTERM %u\n", solstice.day);
+    printf("TERM 9366 0\nTERM %u %u\n", solstice.day, solstice.parts);
     if (y.has_leap) {
         printf("YEAR 11\nYEAR 11 NAME %u MONTHS %u FIRST %u LEAP %u %u\n", y.name, y.months, y.first_month, y.leap_number,
                y.leap_month);

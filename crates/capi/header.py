@@ -18,6 +18,7 @@ STRUCTS = {
     "oes_year": "CYear",
     "oes_month": "CMonth",
     "oes_quarter_told": "CQuarter",
+    "oes_term_told": "CTerm",
     "oes_conjunction_told": "CConjunction",
     "oes_next_told": "CNext",
     "oes_pair_told": "CPair",

@@ -76,6 +76,13 @@ typedef struct oes_quarter_told {
     uint32_t parts;
 } oes_quarter_told;
 
+/* A term of a year: its day and the rest in parts of 32. */
+typedef struct oes_term_told {
+    uint32_t reason;
+    uint32_t day;
+    uint32_t parts;
+} oes_term_told;
+
 /* A conjunction of a planet: its day, and its remainder in parts of the divisor. `phase` is 1 for a morning conjunction, 2 for an
  * evening one, 0 for neither. */
 typedef struct oes_conjunction_told {
@@ -147,7 +154,7 @@ oes_solstice oes_solstice_year(uint64_t year);
 oes_year oes_year_facts(uint64_t year);
 oes_month oes_month_facts(uint64_t month);
 oes_quarter_told oes_quarter(uint64_t month, uint64_t quarter);
-oes_day oes_term(uint64_t year, uint64_t term);
+oes_term_told oes_term(uint64_t year, uint64_t term);
 
 /* Planets: 1 Jupiter, 2 Mars, 3 Saturn, 4 Venus, 5 Mercury. */
 oes_conjunction_told oes_conjunction(uint64_t planet, uint64_t k);

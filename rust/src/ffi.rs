@@ -127,6 +127,11 @@ answer! {
 }
 
 answer! {
+    /// `oes_term_told`
+    CTerm { day: u32, parts: u32 }
+}
+
+answer! {
     /// `oes_conjunction_told`
     CConjunction { day: u32, parts: u32, divisor: u32, phase: u32 }
 }
@@ -189,7 +194,7 @@ unsafe extern "C" {
     pub safe fn oes_year_facts(year: u64) -> CYear;
     pub safe fn oes_month_facts(month: u64) -> CMonth;
     pub safe fn oes_quarter(month: u64, quarter: u64) -> CQuarter;
-    pub safe fn oes_term(year: u64, term: u64) -> CDay;
+    pub safe fn oes_term(year: u64, term: u64) -> CTerm;
     pub safe fn oes_conjunction(planet: u64, k: u64) -> CConjunction;
     pub safe fn oes_next_conjunction(planet: u64, day: u64) -> CNext;
     pub safe fn oes_reduced_pair(planet: u64) -> CPair;

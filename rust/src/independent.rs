@@ -50,6 +50,11 @@ fn term_day(term: u64) -> u64 {
     487 * term / 32
 }
 
+/// The rest of a term beyond its whole days, in parts of 32.
+fn term_parts(term: u64) -> u64 {
+    487 * term % 32
+}
+
 /// The month count that a year begins with.
 fn first_month(year: u64) -> u64 {
     235 * (year - 1) / 19
@@ -253,10 +258,14 @@ pub fn quarter(month: u64, quarter: u64) -> Result<Quarter, Reason> {
 }
 
 /// As [`crate::term`].
-pub fn term(year: u64, term: u64) -> Result<u32, Reason> {
+pub fn term(year: u64, term: u64) -> Result<Term, Reason> {
     check_year(year)?;
     ensure(term <= 23, Reason::TermOrQuarter)?;
-    Ok(term_day(24 * (year - 1) + term) as u32)
+    let from_origin = 24 * (year - 1) + term;
+    Ok(Term {
+        day: term_day(from_origin) as u32,
+        parts: term_parts(from_origin) as u32,
+    })
 }
 
 // The five planets.

@@ -116,10 +116,14 @@ pub fn quarter(month: u64, quarter: u64) -> Result<Quarter, Reason> {
     })
 }
 
-/// The day of a year's term, 0 (the solstice) to 23. Reasons 1, 15.
+/// A term of a year: 0 (the solstice) to 23. Reasons 1, 15.
 #[inline]
-pub fn term(year: u64, term: u64) -> Result<u32, Reason> {
-    Ok(ffi::oes_term(year, term).told()?.day)
+pub fn term(year: u64, term: u64) -> Result<Term, Reason> {
+    let c = ffi::oes_term(year, term).told()?;
+    Ok(Term {
+        day: c.day,
+        parts: c.parts,
+    })
 }
 
 /// The k-th conjunction of a planet since the origin, where k starts at 0. Planets: 1 Jupiter, 2 Mars, 3 Saturn, 4 Venus,

@@ -224,6 +224,15 @@ pub struct Quarter {
     pub parts: u32,
 }
 
+/// A term of a year.
+#[derive(Clone, Copy, Debug, PartialEq, Eq)]
+pub struct Term {
+    /// The day on which it falls.
+    pub day: u32,
+    /// The rest, in parts of 32.
+    pub parts: u32,
+}
+
 /// Whether a conjunction is a morning or an evening one.
 #[derive(Clone, Copy, Debug, PartialEq, Eq)]
 pub enum Phase {

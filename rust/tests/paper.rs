@@ -7,7 +7,7 @@ macro_rules! paper_of {
         mod $side {
             use oesterwrok::{
                 Asked, Conjunction, Date, LeapMonth, Month, Pair, Phase, Reading, Reason,
-                SearchRefused, SheetCounts,
+                SearchRefused, SheetCounts, Term,
             };
             use $calls as calls;
 
@@ -77,11 +77,24 @@ macro_rules! paper_of {
                     (full, calls::date_of_day(full).unwrap().day_name),
                     (3_420_573, 34)
                 );
-                let solstice = u64::from(calls::term(9_366, 0).unwrap());
+                let solstice = u64::from(calls::term(9_366, 0).unwrap().day);
                 assert_eq!(
                     (solstice, calls::date_of_day(solstice).unwrap().day_name),
                     (3_420_566, 27)
                 );
+            }
+
+            /// Terms with the rest in parts of 32. The 8 of year 9,366's solstice is 004's; the others are worked out by hand: one
+            /// at a day's start, the last in range, and those just outside it.
+            #[test]
+            fn terms_with_their_rest() {
+                let falls = |day, parts| Ok(Term { day, parts });
+                assert_eq!(calls::term(9_366, 0), falls(3_420_566, 8));
+                assert_eq!(calls::term(44, 10), falls(15_857, 30));
+                assert_eq!(calls::term(3, 16), falls(974, 0));
+                assert_eq!(calls::term(41_040, 23), falls(14_989_844, 25));
+                assert_eq!(calls::term(41_040, 24), Err(Reason::TermOrQuarter));
+                assert_eq!(calls::term(41_041, 24), Err(Reason::Year));
             }
 
             #[test]

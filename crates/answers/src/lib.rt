@@ -62,6 +62,7 @@ use reading::Found;
 use reading::Reading;
 use rule::Quarter;
 use rule::Reason;
+use rule::Term;
 
 // A refusal: `REFUSED`, the reason's number and its words.
 fn put_refusal(why: Reason, out: &mut [u8], at: usize) -> usize
@@ -76,13 +77,14 @@ fn put_refusal(why: Reason, out: &mut [u8], at: usize) -> usize
 }
 
 // A `TERM` line.
-fn put_term(day: u32, out: &mut [u8], at: usize) -> usize
-    requires { ⌜ at + 16 ≤ length (now out) ⌝ }
-    ensures { λ r. ⌜ Put 16 (now (out .entry)) at (termLine day) (now (out .exit)) r ⌝ }
+fn put_term(t: Term, out: &mut [u8], at: usize) -> usize
+    requires { ⌜ at + 27 ≤ length (now out) ⌝ }
+    ensures { λ r. ⌜ Put 27 (now (out .entry)) at (termLine t) (now (out .exit)) r ⌝ }
 {
     let to1 = fields::put_bytes(b"TERM", out, at);
-    let to2 = fields::put_next(day, out, to1);
-    fields::put_byte(10, out, to2)
+    let to2 = fields::put_next(t.day, out, to1);
+    let to3 = fields::put_next(t.parts as u32, out, to2);
+    fields::put_byte(10, out, to3)
 }
 
 // The answer to `TERM year k`.
@@ -91,7 +93,7 @@ pub fn answer_term(year: u32, k: u32, out: &mut [u8], at: usize) -> usize
     ensures { λ r. ⌜ Put 120 (now (out .entry)) at (termText year k) (now (out .exit)) r ⌝ }
 {
     match facts::term(year, k) {
-        TermTold::Is(day) => put_term(day, out, at),
+        TermTold::Is(f) => put_term(f, out, at),
         TermTold::Refused(why) => put_refusal(why, out, at),
     }
 }

@@ -13,7 +13,7 @@ ghost use Rattle.offered.specs.Promises.{
   CYearFacts,
   CMonthFacts,
   CQuarterOf,
-  CTerm,
+  CTermOf,
   CKthConjunction,
   CNextConjunction,
   CReducedPair,
@@ -37,6 +37,7 @@ use offered::CQuarter;
 use offered::CReading;
 use offered::CSheetCounts;
 use offered::CSolstice;
+use offered::CTerm;
 use offered::CYear;
 use reading::Field;
 use reading::Reading;
@@ -116,8 +117,8 @@ pub extern "C" fn oes_quarter(month: u64, quarter: u64) -> CQuarter
 
 // A term of a year.
 #[no_mangle]
-pub extern "C" fn oes_term(year: u64, term: u64) -> CDay
-    ensures { λ r. ⌜ CTerm year term r ⌝ }
+pub extern "C" fn oes_term(year: u64, term: u64) -> CTerm
+    ensures { λ r. ⌜ CTermOf year term r ⌝ }
 {
     flat::flat_term(facts::term(capped::cap(year), capped::cap(term)))
 }

@@ -12,14 +12,14 @@ use Rattle.rule.proofs.Answers.{within-true}
 use Rattle.dates.specs.declared.Date.{Date}
 use Rattle.dates.specs.Dates.{dateAt, dateOf, dayOfDate, dayOfNamed}
 use Rattle.moves.specs.Moves.{landed, moved, stepped}
-use Rattle.rule.specs.Rule.{termDay, yearTerm}
 use Rattle.rule.specs.declared.Quarter.{Quarter}
+use Rattle.rule.specs.declared.Term.{Term}
 use Rattle.facts.specs.declared.SolsticeYear.{SolsticeYear}
 use Rattle.facts.specs.declared.YearFacts.{YearFacts}
 use Rattle.facts.specs.declared.MonthFacts.{MonthFacts}
 use Rattle.dates.proofs.Laws.{found-date}
 use Rattle.moves.proofs.Landing.{lands-out, back-out, moved-refused, moved-refused-with, moved-found}
-use Rattle.facts.specs.Facts.{solsticeYear, yearFacts, monthFacts, quarterOf, solsticeYearAt, yearFactsAt, monthFactsAt, quarterAt, termAt}
+use Rattle.facts.specs.Facts.{solsticeYear, yearFacts, monthFacts, quarterOf, termOf, solsticeYearAt, yearFactsAt, monthFactsAt, quarterAt, termAt}
 use Rattle.planets.specs.declared.Numbers.{Numbers}
 use Rattle.planets.specs.declared.Conjunction.{Conjunction}
 use Rattle.planets.specs.declared.Next.{Next}
@@ -178,7 +178,7 @@ capped-alike =
       year = λ y. behind-a-test YearFacts (within 1 41040) year-settled 1 (λ n. is (yearFacts n)) y;
       month = λ n. behind-a-test MonthFacts (λ i. leb i 507599) month-settled 7 (λ i. is (monthFacts i)) n;
       quarter = λ n q. two Quarter (λ i. leb i 507599) (λ i. leb i 3) month-settled (at-most 3 (omega arith)) 7 15 (λ i j. is (quarterOf i j)) n q;
-      term = λ y k. two ℕ (within 1 41040) (λ i. leb i 23) year-settled (at-most 23 (omega arith)) 1 15 (λ i j. is (termDay (yearTerm i j))) y k;
+      term = λ y k. two Term (within 1 41040) (λ i. leb i 23) year-settled (at-most 23 (omega arith)) 1 15 (λ i j. is (termOf i j)) y k;
       planet = planet-capped;
       conjunction = λ p k. planet-capped p (capped k) ∙ count-capped p k;
       next = next-capped;

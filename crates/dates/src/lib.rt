@@ -43,7 +43,8 @@ pub fn date_at(day: u32) -> Date
     let last = rule::last_mid_term(start + length);
     let its = rule::year_and_number(last);
     let year = its.year;
-    let leap = rule::mid_term_day(last) < start;
+    let mid = rule::term_of(2 * last);
+    let leap = mid.day < start;
     Date {
         month: rule::marked(leap, its.number),
         year: year,
@@ -94,14 +95,16 @@ fn day_of_named(year: u16, number: u8, leap: bool, day_of_month: u32) -> DayTold
     ensures { λ r. ⌜ saidDay r ≡ dayOfNamed year number leap «day_of_month» ⌝ }
 {
     let m = mid_term_of(year, number);
-    let mid = rule::mid_term_day(m);
+    let term = rule::term_of(2 * m);
+    let mid = term.day;
     let at = rule::stands(mid);
     let mut start = mid - at.passed;
     let mut left = at.left;
     if leap {
         start += rule::length_of(left);
         left = rule::next_left(left);
-        if rule::mid_term_day(m + 1) < start + rule::length_of(left) {
+        let next = rule::term_of(2 * (m + 1));
+        if next.day < start + rule::length_of(left) {
             return DayTold::Refused(Reason::NoSuchLeapMonth);
         }
     }

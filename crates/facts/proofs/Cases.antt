@@ -23,6 +23,15 @@ pub year-before-term : termAt 0 24 ≡ refused 1
 unfolding facts-computed
 year-before-term = refl
 
+-- W2: mid-term 10 of year 44 falls two parts before the next midnight, mid-term 16 of year 3 at midnight
+pub near-midnight : termAt 44 10 ≡ is (record { day = 15857; parts = 30 })
+unfolding facts-computed
+near-midnight = refl
+
+pub at-midnight : termAt 3 16 ≡ is (record { day = 974; parts = 0 })
+unfolding facts-computed
+at-midnight = refl
+
 -- case 4: "year 77 is year 1 of bu 2, whose head name is 40"
 pub head-of-77 : solsticeYear 77 .«head_name» ≡ 40
 unfolding facts-computed

@@ -11,9 +11,10 @@ use Rattle.facts.specs.Facts.{
   monthFactsAt,
   quarterOf,
   quarterAt,
+  termOf,
   termAt,
 }
 
 unfoldable pub facts-computed : ℕ
-unfolding solsticeYear solsticeYearAt leapMonth yearFacts yearFactsAt monthFacts monthFactsAt quarterOf quarterAt termAt rule-computed
+unfolding solsticeYear solsticeYearAt leapMonth yearFacts yearFactsAt monthFacts monthFactsAt quarterOf quarterAt termOf termAt rule-computed
 facts-computed = 0

@@ -1,5 +1,5 @@
 -- What each call gives is exactly what the paper says of it, and nothing else is. Assumes nothing.
-use Prim.Native.Nat.{ℕ, _+_, _-_, _*_, _/_, _%_, _≤_, _<_}
+use Prim.Native.Nat.{ℕ, _+_, _-_, _*_, _/_, _≤_, _<_}
 use native.Mathlib.Omega.{arith}
 use mathlib.Core.Path.{_≡_, refl, ap, sym, _∙_, subst}
 use mathlib.Core.Logic.{_↔_, ⊎-elim}
@@ -10,7 +10,6 @@ use Rattle.rule.specs.Rule.{
   smallRemainder,
   quarterDay,
   quarterParts,
-  termDay,
   yearTerm,
   firstMonth,
   leapRemainder,
@@ -23,9 +22,10 @@ use Rattle.rule.specs.Rule.{
   leapMark,
   eclipse,
 }
-use Rattle.rule.specs.Paper.{NoMidTerm, IsMonth}
+use Rattle.rule.specs.Paper.{IsTerm, NoMidTerm, IsMonth}
 use Rattle.rule.specs.declared.Month.the-variants.{Leap}
 use Rattle.rule.specs.declared.Quarter.{Quarter}
+use Rattle.rule.specs.declared.Term.{Term}
 use Rattle.rule.proofs.Months
 use Rattle.rule.proofs.Years
 use Rattle.rule.proofs.Leap.{as-leap, mark-at, number-at}
@@ -36,10 +36,10 @@ use Rattle.facts.specs.declared.LeapMonth.{LeapMonth}
 use Rattle.facts.specs.declared.LeapMonth.the-variants.{Without, With}
 use Rattle.facts.specs.declared.YearFacts.{YearFacts}
 use Rattle.facts.specs.declared.MonthFacts.{MonthFacts}
-use Rattle.facts.specs.Facts.{solsticeYear, leapMonth, yearFacts, monthFacts, quarterOf}
-use Rattle.facts.specs.Paper.{YearBegins, IsSolsticeYear, LeapMonthOf, IsYearFacts, IsMonthFacts, IsQuarter, IsTerm}
+use Rattle.facts.specs.Facts.{solsticeYear, leapMonth, yearFacts, monthFacts, quarterOf, termOf}
+use Rattle.facts.specs.Paper.{YearBegins, IsSolsticeYear, LeapMonthOf, IsYearFacts, IsMonthFacts, IsQuarter}
 use Rattle.facts.proofs.Leaps.{leap-found, leap-none, leap-is}
-use Rattle.facts.proofs.Made.{solstice-year-made, year-made, month-made, quarter-made}
+use Rattle.facts.proofs.Made.{solstice-year-made, year-made, month-made, quarter-made, term-made}
 
 -- x is L, and nothing else is
 exactly : {A : Type 0} (L : A → Type 0) (x : A) → L x → ((a : A) → L a → a ≡ x) → (a : A) → (x ≡ a) ↔ L a
@@ -51,7 +51,7 @@ same-test true b f g = sym (g .1 (f .0 refl))
 same-test false true f g = f .1 (g .0 refl)
 same-test false false f g = refl
 
--- whole part and rest: of a year's months, a month's days, a quarter's, a term's
+-- whole part and rest: of a year's months, a month's days, a quarter's
 year-parts : (y : ℕ) → (19 * firstMonth y + leapRemainder y ≡ 235 * elapsed y) × (leapRemainder y < 19)
 unfolding firstMonth leapRemainder
 year-parts y = (omega arith, omega arith)
@@ -76,19 +76,15 @@ quarter-whole : (n q : ℕ) (r : Quarter) → IsQuarter n q r → (r .day ≡ qu
 unfolding quarterDay quarterParts
 quarter-whole n q r h = (omega arith, omega arith)
 
-term-parts : (y k : ℕ) → IsTerm y k (termDay (yearTerm y k))
-unfolding termDay
-term-parts y k = record { rest = 487 * yearTerm y k % 32; falls = omega arith; below = omega arith }
-
-term-whole : (y k d : ℕ) → IsTerm y k d → d ≡ termDay (yearTerm y k)
-unfolding termDay
-term-whole y k d h = omega arith
-
 pub quarter-exactly : (n q : ℕ) (r : Quarter) → (quarterOf n q ≡ r) ↔ IsQuarter n q r
 quarter-exactly n q = exactly (IsQuarter n q) (quarterOf n q) (quarter-parts n q) (λ r h. quarter-made n q r (quarter-whole n q r h))
 
-pub term-exactly : (y k d : ℕ) → (termDay (yearTerm y k) ≡ d) ↔ IsTerm y k d
-term-exactly y k = exactly (IsTerm y k) (termDay (yearTerm y k)) (term-parts y k) (term-whole y k)
+pub term-exactly : (y k : ℕ) (r : Term) → (termOf y k ≡ r) ↔ IsTerm (yearTerm y k) (r .day) (r .parts)
+unfolding termOf
+term-exactly y k =
+    let t = yearTerm y k in
+    exactly (λ r. IsTerm t (r .day) (r .parts)) (termOf y k) (Rule.one-pair-a-term t _ _ .1 (refl, refl))
+    (λ r h. term-made y k t r refl (Rule.one-pair-a-term t (r .day) (r .parts) .0 h))
 
 -- a month
 month-there : (n : ℕ) → IsMonthFacts n (monthFacts n)

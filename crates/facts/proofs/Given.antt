@@ -5,7 +5,6 @@ use mathlib.Core.Logic.{_↔_}
 use mathlib.Core.Bool.{Bool, true}
 use lib.Dec.{leb}
 use Rattle.rule.specs.Counts.{YearInRange, MonthInRange}
-use Rattle.rule.specs.Rule.{termDay, yearTerm}
 use Rattle.rule.specs.Reasons.{Answer, is, refused, guard, within}
 use Rattle.rule.proofs.Answers.{within-true, at-most, passes, holds-all, then-iff, test-iff, one-refused, two-first, two-second, turned, under}
 use Rattle.facts.specs.Facts.{
@@ -17,6 +16,7 @@ use Rattle.facts.specs.Facts.{
   monthFactsAt,
   quarterOf,
   quarterAt,
+  termOf,
   termAt,
 }
 
@@ -71,6 +71,6 @@ pub quarter-given : (n q : ℕ) → MonthInRange n → q ≤ 3 → quarterAt n q
 unfolding quarterAt
 quarter-given n q h i = passes (leb n 507599) 7 _ (at-most n 507599 .1 h) ∙ passes (leb q 3) 15 (is (quarterOf n q)) (at-most q 3 .1 i)
 
-pub term-given : (y k : ℕ) → YearInRange y → k ≤ 23 → termAt y k ≡ is (termDay (yearTerm y k))
+pub term-given : (y k : ℕ) → YearInRange y → k ≤ 23 → termAt y k ≡ is (termOf y k)
 unfolding termAt
-term-given y k h i = passes (within 1 41040 y) 1 _ (within-true 1 41040 y .1 h) ∙ passes (leb k 23) 15 (is (termDay (yearTerm y k))) (at-most k 23 .1 i)
+term-given y k h i = passes (within 1 41040 y) 1 _ (within-true 1 41040 y .1 h) ∙ passes (leb k 23) 15 (is (termOf y k)) (at-most k 23 .1 i)

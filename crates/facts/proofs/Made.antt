@@ -1,7 +1,7 @@
 -- Records made of their parts, over plain values, for the functions that make them. Assumes nothing.
 use Prim.Native.Nat.{ℕ, _≤_}
 use native.Mathlib.Omega.{arith}
-use mathlib.Core.Path.{_≡_}
+use mathlib.Core.Path.{_≡_, ap, _∙_}
 use mathlib.Core.Bool.{Bool}
 use Rattle.rule.specs.Counts.{dayName, yearName, ji, bu, yearInBu, headName}
 use Rattle.rule.specs.Rule.{
@@ -10,6 +10,9 @@ use Rattle.rule.specs.Rule.{
   monthLength,
   quarterDay,
   quarterParts,
+  termDay,
+  termParts,
+  yearTerm,
   firstMonth,
   leapRemainder,
   monthsInYear,
@@ -18,9 +21,10 @@ use Rattle.rule.specs.Rule.{
 use Rattle.rule.specs.Rule as Rule
 use Rattle.rule.specs.declared.Month.{Month}
 use Rattle.rule.specs.declared.Quarter.{Quarter}
+use Rattle.rule.specs.declared.Term.{Term}
 use Rattle.rule.proofs.Counts.{place}
 use Rattle.facts.specs.declared.LeapMonth.{LeapMonth}
-use Rattle.facts.specs.Facts.{solsticeYear, leapMonth, yearFacts, monthFacts, quarterOf}
+use Rattle.facts.specs.Facts.{solsticeYear, leapMonth, yearFacts, monthFacts, quarterOf, termOf}
 
 pub bu-range : (y b : ℕ) → b ≡ bu y → (1 ≤ b) × (b ≤ 20)
 bu-range y b e = omega (arith, place y .bu-range)
@@ -45,3 +49,7 @@ month-made n p q s t u v = cc
 pub quarter-made : (n q : ℕ) (r : Quarter) → (r .day ≡ quarterDay n q) × (r .parts ≡ quarterParts n q) → r ≡ quarterOf n q
 unfolding quarterOf
 quarter-made n q r e = λ i. record { day = e .0 i; parts = e .1 i }
+
+pub term-made : (y k t : ℕ) (r : Term) → t ≡ yearTerm y k → (r .day ≡ termDay t) × (r .parts ≡ termParts t) → r ≡ termOf y k
+unfolding termOf
+term-made y k t r g e = λ i. record { day = (e .0 ∙ ap termDay g) i; parts = (e .1 ∙ ap termParts g) i }

@@ -1,12 +1,14 @@
 -- What the paper says of these answers, proved, each statement under its name in small letters. Assumes nothing.
-use Prim.Native.Nat.{ℕ}
+use Prim.Native.Nat.{ℕ, _*_}
 use native.Mathlib.Omega.{arith}
 use mathlib.Core.Path.{_≡_, refl, ap, sym, _∙_}
-use mathlib.Core.Bool.{false≢true}
+use mathlib.Core.Bool.{Bool, true, false, false≢true}
 use lib.Dec.{leb}
 use Rattle.rule.specs.Counts.{YearInRange, MonthInRange, yearName, bu, yearInBu}
-use Rattle.rule.specs.Rule.{monthStart, monthLength, quarterDay, termDay, yearTerm, leapMark, monthAt, eclipse}
-use Rattle.rule.specs.Reasons.{Answer, is, within, reasonNumber, reasonOf}
+use Rattle.rule.specs.Rule.{monthStart, monthLength, quarterDay, termDay, termParts, yearTerm, leapMark, monthAt, eclipse}
+use Rattle.rule.specs.Reasons.{Answer, is, guard, within, andThen, reasonNumber, reasonOf}
+use Rattle.rule.specs.Paper.{IsTerm}
+use Rattle.rule.specs.declared.Term.{Term}
 use Rattle.rule.proofs.Answers.{reason-back, within-true, at-most, read-back, once, given-not, one-only, two-only}
 use Rattle.rule.proofs.Leap.{mark-at}
 use Rattle.rule.proofs.Paper as Rule
@@ -33,6 +35,7 @@ use Rattle.facts.specs.Facts.{
   monthFactsAt,
   quarterOf,
   quarterAt,
+  termOf,
   termAt,
 }
 use Rattle.facts.specs.Promises.{
@@ -43,6 +46,7 @@ use Rattle.facts.specs.Promises.{
   saidTerm,
   SolsticeYearFacts,
   MonthByCount,
+  TermOfYear,
 }
 use Rattle.facts.specs.Paper as Paper
 use Rattle.facts.proofs.Cases.{leap-of-11}
@@ -85,9 +89,9 @@ reasons-of-facts =
           };
       terms = λ y k.
           record {
-            one = two-reason-first (within 1 41040 y) (leb k 23) 1 15 (omega arith) (termDay (yearTerm y k)) (within-true 1 41040 y) (at-most k 23);
-            fifteen = two-reason-second (within 1 41040 y) (leb k 23) 1 15 (omega arith) (termDay (yearTerm y k)) (within-true 1 41040 y) (at-most k 23);
-            only = λ why. two-only why (within 1 41040 y) (leb k 23) 1 15 (termDay (yearTerm y k));
+            one = two-reason-first (within 1 41040 y) (leb k 23) 1 15 (omega arith) (termOf y k) (within-true 1 41040 y) (at-most k 23);
+            fifteen = two-reason-second (within 1 41040 y) (leb k 23) 1 15 (omega arith) (termOf y k) (within-true 1 41040 y) (at-most k 23);
+            only = λ why. two-only why (within 1 41040 y) (leb k 23) 1 15 (termOf y k);
           };
     }
 
@@ -144,23 +148,43 @@ quarter-of-month n q r =
 
 pub term-of-year : Paper.Term-of-year
 unfolding termAt
-term-of-year y k d =
-    two-literally (within 1 41040 y) (leb k 23) 1 15 (omega arith) (termDay (yearTerm y k)) (within-true 1 41040 y) (at-most k 23) (Paper.IsTerm y k d) d
-    (λ h. term-exactly y k d)
+term-of-year y k r =
+    two-literally (within 1 41040 y) (leb k 23) 1 15 (omega arith) (termOf y k) (within-true 1 41040 y) (at-most k 23)
+    (IsTerm (yearTerm y k) (r .day) (r .parts)) r
+    (λ h. term-exactly y k r)
+
+-- an answer that passes two tests, and what is asked further of it
+then-two : {A B : Type 0} (t s : Bool) (k j : ℕ) (x : A) (f : A → B) →
+    andThen (guard t k (guard s j (is x))) (λ a. is (f a)) ≡ guard t k (guard s j (is (f x)))
+then-two true true k j x f = refl
+then-two true false k j x f = refl
+then-two false s k j x f = refl
+
+pub term-as-before : Paper.Term-as-before
+unfolding termAt termOf termDay
+term-as-before y k a p =
+    ap (λ (b : Answer Term). andThen b (λ r. is (r .day))) p
+    ∙ then-two (within 1 41040 y) (leb k 23) 1 15 (termOf y k) (λ r. r .day)
+
+pub mid-term-even : Paper.Mid-term-even
+mid-term-even y j r p =
+    let g = term-of-year y (2 * j) r .0 p in
+    let t = yearTerm y (2 * j) in
+    omega (arith, Rule.one-pair-a-term t (r .day) (r .parts) .0 (g .2) .1, Rule.mid-term-parts t (omega arith))
 
 -- one answer for two inputs at which some number of what is given differs
 differ : {A E : Type 0} (said : E → Answer A) (f : A → ℕ) (a : E) (x y : A) → (f x ≡ f y → ⊥) → said a ≡ is x → said a ≡ is y → ⊥
 differ said f a x y apart p q = apart (ap f (told-is y x (is y) refl (sym p ∙ q)))
 
 pub wrong-facts : Paper.Wrong-facts
-unfolding solsticeYear bu yearFacts yearName monthFacts monthStart quarterOf quarterDay termDay
+unfolding solsticeYear bu yearFacts yearName monthFacts monthStart quarterOf quarterDay termOf termDay termParts
 wrong-facts =
     record {
       solstice-year-refused = λ why p. given-not (solsticeYearAt 1) (solsticeYear 1) (reasonNumber why) (solstice-year-given 1 (omega arith)) (sym p);
       year-refused = λ why p. given-not (yearFactsAt 11) (yearFacts 11) (reasonNumber why) (year-given 11 (omega arith)) (sym p);
       month-refused = λ why p. given-not (monthFactsAt 134) (monthFacts 134) (reasonNumber why) (month-given 134 (omega arith)) (sym p);
       quarter-refused = λ why p. given-not (quarterAt 0 0) (quarterOf 0 0) (reasonNumber why) (quarter-given 0 0 (omega arith) (omega arith)) (sym p);
-      term-refused = λ why p. given-not (termAt 1 0) (termDay (yearTerm 1 0)) (reasonNumber why) (term-given 1 0 (omega arith) (omega arith)) (sym p);
+      term-refused = λ why p. given-not (termAt 1 0) (termOf 1 0) (reasonNumber why) (term-given 1 0 (omega arith) (omega arith)) (sym p);
       solstice-year-fixed = λ a p q.
           differ saidSolsticeYear (λ s. s .bu) a (solsticeYear 76) (solsticeYear 77) (λ e. omega arith)
           (p ∙ solstice-year-given 76 (omega arith))
@@ -178,10 +202,15 @@ wrong-facts =
           (p ∙ quarter-given 0 0 (omega arith) (omega arith))
           (q ∙ quarter-given 0 1 (omega arith) (omega arith));
       term-fixed = λ a p q.
-          differ saidTerm (λ d. d) a (termDay (yearTerm 1 0)) (termDay (yearTerm 1 1)) (λ e. omega arith)
+          differ saidTerm (λ r. r .day) a (termOf 1 0) (termOf 1 1) (λ e. omega arith)
           (p ∙ term-given 1 0 (omega arith) (omega arith))
           (q ∙ term-given 1 1 (omega arith) (omega arith));
+      term-other-divisor = λ r p e. omega (arith, ap (λ (t : Term). t .parts) (near-midnight r p));
+      term-after = λ r p e. omega (arith, ap (λ (t : Term). t .parts) (near-midnight r p));
     }
+  where
+    near-midnight : (r : Term) → TermOfYear 44 10 (Term'.Is r) → r ≡ termOf 44 10
+    near-midnight r = told-is (termOf 44 10) r (termAt 44 10) (term-given 44 10 (omega arith) (omega arith))
 
 -- what is told of a year and of a month
 its-place : (y : ℕ) (s : SolsticeYear) → YearInRange y → SolsticeYearFacts y (Solstice'.Is s) → s ≡ solsticeYear y

@@ -11,6 +11,7 @@ use Rattle.rule.specs.Rule.{
   quarterDay,
   quarterParts,
   termDay,
+  termParts,
   yearTerm,
   firstMonth,
   leapRemainder,
@@ -23,6 +24,7 @@ use Rattle.rule.specs.Rule.{
 use Rattle.rule.specs.Reasons.{Answer, is, guard, within}
 use Rattle.rule.specs.Paper.{monthsOf}
 use Rattle.rule.specs.declared.Quarter.{Quarter}
+use Rattle.rule.specs.declared.Term.{Term}
 use Rattle.facts.specs.declared.SolsticeYear.{SolsticeYear}
 use Rattle.facts.specs.declared.LeapMonth.{LeapMonth}
 use Rattle.facts.specs.declared.LeapMonth.the-variants.{Without, With}
@@ -88,6 +90,9 @@ quarterOf n q = record { day = quarterDay n q; parts = quarterParts n q }
 unfoldable pub quarterAt : ℕ → ℕ → Answer Quarter
 quarterAt n q = guard (leb n 507599) 7 (guard (leb q 3) 15 (is (quarterOf n q)))
 
--- a term of a year: its day
-unfoldable pub termAt : ℕ → ℕ → Answer ℕ
-termAt y k = guard (within 1 41040 y) 1 (guard (leb k 23) 15 (is (termDay (yearTerm y k))))
+-- a term of a year: its day and the rest in parts of 32
+unfoldable pub termOf : ℕ → ℕ → Term
+termOf y k = record { day = termDay (yearTerm y k); parts = termParts (yearTerm y k) }
+
+unfoldable pub termAt : ℕ → ℕ → Answer Term
+termAt y k = guard (within 1 41040 y) 1 (guard (leb k 23) 15 (is (termOf y k)))

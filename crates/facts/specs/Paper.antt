@@ -1,14 +1,17 @@
 -- What the paper says of these answers, as statements. proofs/Paper.antt proves each under the same name in small letters.
 -- Assumes nothing.
-use Prim.Native.Nat.{ℕ, _+_, _-_, _*_, _%_, _≤_, _<_}
+use Prim.Native.Nat.{ℕ, _+_, _-_, _*_, _/_, _%_, _≤_, _<_}
 use mathlib.Core.Path.{_≡_}
 use mathlib.Core.Logic.{_↔_, _⊎_}
 use mathlib.Core.Bool.{true, false}
+use lib.Dec.{leb}
 use Rattle.rule.specs.Counts.{YearInRange, MonthInRange, elapsed, dayName, yearName}
-use Rattle.rule.specs.Rule.{monthStart, yearTerm, firstMonth, InYear}
-use Rattle.rule.specs.Paper.{IsPlace, NoMidTerm, IsMonth}
+use Rattle.rule.specs.Rule.{monthStart, firstMonth, InYear}
+use Rattle.rule.specs.Reasons.{Answer, is, guard, within, andThen}
+use Rattle.rule.specs.Paper.{IsPlace, IsTerm, NoMidTerm, IsMonth}
 use Rattle.rule.specs.declared.Month.the-variants.{Ordinary, Leap}
 use Rattle.rule.specs.declared.Quarter.{Quarter}
+use Rattle.rule.specs.declared.Term.{Term}
 use Rattle.rule.specs.declared.Reason.{Reason}
 use Rattle.rule.specs.declared.Reason.the-variants.{NoSuchYear, NoSuchMonth, NoSuchTermOrQuarter}
 use Rattle.facts.specs.declared.SolsticeYear.{SolsticeYear}
@@ -26,7 +29,7 @@ use Rattle.facts.specs.declared.QuarterTold.{QuarterTold}
 use Rattle.facts.specs.declared.QuarterTold.the-variants as Quarter'
 use Rattle.facts.specs.declared.TermTold.{TermTold}
 use Rattle.facts.specs.declared.TermTold.the-variants as Term'
-use Rattle.facts.specs.Promises.{SolsticeYearFacts, YearOwnFacts, MonthByCount, QuarterOfMonth, TermOfYear}
+use Rattle.facts.specs.Promises.{saidTerm, SolsticeYearFacts, YearOwnFacts, MonthByCount, QuarterOfMonth, TermOfYear}
 
 -- "Year Y begins with the month count that is the whole part of 235 × (Y − 1) divided by 19; the rest is its leap remainder. It has
 -- 13 months exactly when that is 12 or more, else 12."
@@ -89,15 +92,24 @@ pub record IsQuarter (n q : ℕ) (r : Quarter) : Type 0 where
 abbrev pub Quarter-of-month : Type 0
 Quarter-of-month = (n q : ℕ) (r : Quarter) → QuarterOfMonth n q (Quarter'.Is r) ↔ (MonthInRange n × (q ≤ 3) × IsQuarter n q r)
 
--- "Term t, counted from the origin, falls on the whole part of 487 × t divided by 32. Year Y and term k (0 to 23, 0 the solstice) mean
--- t = 24 × (Y − 1) + k."
-pub record IsTerm (y k d : ℕ) : Type 0 where
-  pub rest : ℕ
-  pub falls : 32 * d + rest ≡ 487 * yearTerm y k
-  pub below : rest < 32
-
+-- "Year Y and term k (0 to 23, 0 the solstice) mean t = 24 × (Y − 1) + k." "The answer for a term gives, besides the day, the remainder in
+-- parts of 32." (W2)
 abbrev pub Term-of-year : Type 0
-Term-of-year = (y k d : ℕ) → TermOfYear y k (Term'.Is d) ↔ (YearInRange y × (k ≤ 23) × IsTerm y k d)
+Term-of-year =
+    (y k : ℕ) (r : Term) → TermOfYear y k (Term'.Is r) ↔ (YearInRange y × (k ≤ 23) × IsTerm (24 * (y - 1) + k) (r .day) (r .parts))
+
+-- what the call answered before W2, when a term was its day alone
+abbrev pub termBefore : ℕ → ℕ → Answer ℕ
+termBefore y k = guard (within 1 41040 y) 1 (guard (leb k 23) 15 (is (487 * (24 * (y - 1) + k) / 32)))
+
+-- "Everything that asks for a term now receives both and must be shown unchanged in what it answers. Refusals stay." (W2): the answer
+-- without its parts is what it was, for every input; the crate `agreed` has the same of dates
+abbrev pub Term-as-before : Type 0
+Term-as-before = (y k : ℕ) (a : TermTold) → TermOfYear y k a → andThen (saidTerm a) (λ r. is (r .day)) ≡ termBefore y k
+
+-- a mid-term's parts are even
+abbrev pub Mid-term-even : Type 0
+Mid-term-even = (y j : ℕ) (r : Term) → TermOfYear y (2 * j) (Term'.Is r) → r .parts % 2 ≡ 0
 
 -- reason 1, "year outside 1 to 41,040", and no other, for both calls of a year
 pub record YearReasons (y : ℕ) : Type 0 where
@@ -136,7 +148,8 @@ pub record Unique-facts : Type 0 where
   pub quarter : (n q : ℕ) (a b : QuarterTold) → QuarterOfMonth n q a → QuarterOfMonth n q b → a ≡ b
   pub term : (y k : ℕ) (a b : TermTold) → TermOfYear y k a → TermOfYear y k b → a ≡ b
 
--- wrong versions, each shut out at a named input: of each call one that refuses all, and one fixed answer
+-- wrong versions, each shut out at a named input: of each call one that refuses all, and one fixed answer; the remainder of another
+-- divisor, 16, by which a mid-term counted among mid-terms is divided, and the remainder of the term after (day 15,857 and 30 parts)
 pub record Wrong-facts : Type 0 where
   pub solstice-year-refused : (why : Reason) → SolsticeYearFacts 1 (Solstice'.Refused why) → ⊥
   pub year-refused : (why : Reason) → YearOwnFacts 11 (Year'.Refused why) → ⊥
@@ -148,6 +161,8 @@ pub record Wrong-facts : Type 0 where
   pub month-fixed : (a : MonthTold) → MonthByCount 134 a → MonthByCount 135 a → ⊥
   pub quarter-fixed : (a : QuarterTold) → QuarterOfMonth 0 0 a → QuarterOfMonth 0 1 a → ⊥
   pub term-fixed : (a : TermTold) → TermOfYear 1 0 a → TermOfYear 1 1 a → ⊥
+  pub term-other-divisor : (r : Term) → TermOfYear 44 10 (Term'.Is r) → r .parts ≡ 487 * (24 * 43 + 10) % 16 → ⊥
+  pub term-after : (r : Term) → TermOfYear 44 10 (Term'.Is r) → r .parts ≡ 487 * (24 * 43 + 11) % 32 → ⊥
 
 -- and those of "What would mislead the desk":
 -- "Dividing the inclusive year by 76, so that year 76 falls into the next bu as its year 0."

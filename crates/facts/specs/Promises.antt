@@ -4,6 +4,7 @@ use Prim.Native.Nat.{ℕ}
 use mathlib.Core.Path.{_≡_}
 use Rattle.rule.specs.Reasons.{Answer, is, refused, reasonNumber}
 use Rattle.rule.specs.declared.Quarter.{Quarter}
+use Rattle.rule.specs.declared.Term.{Term}
 use Rattle.facts.specs.declared.SolsticeYear.{SolsticeYear}
 use Rattle.facts.specs.declared.SolsticeYearTold.{SolsticeYearTold}
 use Rattle.facts.specs.declared.SolsticeYearTold.the-variants as Solstice'
@@ -35,7 +36,7 @@ abbrev pub saidQuarter : QuarterTold → Answer Quarter
 saidQuarter (Quarter'.Is r) = is r
 saidQuarter (Quarter'.Refused r) = refused (reasonNumber r)
 
-abbrev pub saidTerm : TermTold → Answer ℕ
+abbrev pub saidTerm : TermTold → Answer Term
 saidTerm (Term'.Is r) = is r
 saidTerm (Term'.Refused r) = refused (reasonNumber r)
 

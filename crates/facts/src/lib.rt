@@ -9,6 +9,7 @@ ghost use Rattle.facts.specs.Promises.{SolsticeYearFacts, YearOwnFacts, 
 use rule::Month;
 use rule::Quarter;
 use rule::Reason;
+use rule::Term;
 
 // A solstice year: its place, its bu's head name, its first month, its leap remainder, and 12 or 13.
 pub struct SolsticeYear {
@@ -66,7 +67,7 @@ pub enum QuarterTold {
 }
 
 pub enum TermTold {
-    Is(u32),
+    Is(Term),
     Refused(Reason),
 }
 
@@ -195,5 +196,5 @@ pub fn term(year: u32, k: u32) -> TermTold
     if 23 < k {
         return TermTold::Refused(Reason::NoSuchTermOrQuarter);
     }
-    TermTold::Is(rule::term_day(year as u16, k as u8))
+    TermTold::Is(rule::term_of(24 * (year - 1) + k))
 }

@@ -16,6 +16,7 @@ ghost use Rattle.offered.specs.Flat.{
   givenMonth,
   flatMonth,
   flatQuarter,
+  flatTerm,
   givenConjunction,
   flatConjunction,
   givenNext,
@@ -47,6 +48,7 @@ use offered::CPair;
 use offered::CQuarter;
 use offered::CSheetCounts;
 use offered::CSolstice;
+use offered::CTerm;
 use offered::CYear;
 use planets::Conjunction;
 use planets::ConjunctionTold;
@@ -93,25 +95,13 @@ pub fn flat_date(a: Dated) -> CDate
     }
 }
 
-// The same of a day: of a date's, and of a term's.
+// The same of a day.
 pub fn flat_day(a: DayTold) -> CDay
     ensures { λ r. ⌜ r ≡ flatDay (saidDay a) ⌝ }
 {
     match a {
         DayTold::Is(d) => CDay { reason: 0, day: d },
         DayTold::Refused(why) => CDay {
-            reason: rule::reason_number(why) as u32,
-            day: 0,
-        },
-    }
-}
-
-pub fn flat_term(a: TermTold) -> CDay
-    ensures { λ r. ⌜ r ≡ flatDay (saidTerm a) ⌝ }
-{
-    match a {
-        TermTold::Is(d) => CDay { reason: 0, day: d },
-        TermTold::Refused(why) => CDay {
             reason: rule::reason_number(why) as u32,
             day: 0,
         },
@@ -236,6 +226,24 @@ pub fn flat_quarter(a: QuarterTold) -> CQuarter
             parts: q.parts as u32,
         },
         QuarterTold::Refused(why) => CQuarter {
+            reason: rule::reason_number(why) as u32,
+            day: 0,
+            parts: 0,
+        },
+    }
+}
+
+// The same of a term.
+pub fn flat_term(a: TermTold) -> CTerm
+    ensures { λ r. ⌜ r ≡ flatTerm (saidTerm a) ⌝ }
+{
+    match a {
+        TermTold::Is(t) => CTerm {
+            reason: 0,
+            day: t.day,
+            parts: t.parts as u32,
+        },
+        TermTold::Refused(why) => CTerm {
             reason: rule::reason_number(why) as u32,
             day: 0,
             parts: 0,

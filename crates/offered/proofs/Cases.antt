@@ -7,7 +7,7 @@ use Rattle.dates.specs.Dates.{dateAt, dayOfDate}
 use Rattle.facts.specs.Facts.{solsticeYearAt, yearFactsAt, monthFactsAt, quarterAt, termAt}
 use Rattle.planets.specs.Planets.{phase, conjunctionAt, nextAt, pairAt}
 use Rattle.reading.specs.declared.Field.the-variants.{Known, Unread}
-use Rattle.offered.specs.Flat.{flatDate, flatDay, flatSolstice, flatYear, flatMonth, flatQuarter, flatConjunction, flatNext, flatPair}
+use Rattle.offered.specs.Flat.{flatDate, flatDay, flatSolstice, flatYear, flatMonth, flatQuarter, flatTerm, flatConjunction, flatNext, flatPair}
 use Rattle.offered.specs.Promises.{readingOf}
 use Rattle.dates.proofs.Computing.{dates-computed}
 use Rattle.facts.proofs.Computing.{facts-computed}
@@ -69,7 +69,7 @@ pub full-moon-of-115830 : flatQuarter (quarterAt 115830 2) ≡ record { reason =
 unfolding facts-computed
 full-moon-of-115830 = refl
 
-pub solstice-of-9366 : flatDay (termAt 9366 0) ≡ record { reason = 0; day = 3420566 }
+pub solstice-of-9366 : flatTerm (termAt 9366 0) ≡ record { reason = 0; day = 3420566; parts = 8 }
 unfolding facts-computed
 solstice-of-9366 = refl
 

@@ -20,6 +20,7 @@ use Rattle.moves.specs.Moves.{moved}
 use Rattle.facts.specs.declared.SolsticeYearTold.the-variants as Solstice'
 use Rattle.facts.specs.declared.YearTold.the-variants as Year'
 use Rattle.facts.specs.declared.MonthTold.the-variants as Month'
+use Rattle.rule.specs.declared.Term.{Term}
 use Rattle.facts.specs.declared.QuarterTold.the-variants as Quarter'
 use Rattle.facts.specs.declared.TermTold.the-variants as Term'
 use Rattle.facts.specs.Facts.{solsticeYearAt, yearFactsAt, monthFactsAt, quarterAt, termAt}
@@ -51,6 +52,7 @@ use Rattle.offered.specs.declared.CSolstice.{CSolstice}
 use Rattle.offered.specs.declared.CYear.{CYear}
 use Rattle.offered.specs.declared.CMonth.{CMonth}
 use Rattle.offered.specs.declared.CQuarter.{CQuarter}
+use Rattle.offered.specs.declared.CTerm.{CTerm}
 use Rattle.offered.specs.declared.CConjunction.{CConjunction}
 use Rattle.offered.specs.declared.CNext.{CNext}
 use Rattle.offered.specs.declared.CPair.{CPair}
@@ -77,6 +79,9 @@ use Rattle.offered.specs.Flat.{
   givenQuarter,
   noQuarter,
   flatQuarter,
+  givenTerm,
+  noTerm,
+  flatTerm,
   givenConjunction,
   noConjunction,
   flatConjunction,
@@ -101,6 +106,7 @@ use Rattle.offered.specs.Structs.{
   BareYear,
   BareMonth,
   BareQuarter,
+  BareTerm,
   BareConjunction,
   BareNext,
   BarePair,
@@ -116,6 +122,7 @@ use Rattle.offered.proofs.Sound.{Sound, given, numbered, none-is-0}
 use Rattle.offered.proofs.Texts.{text-said, unwritten, year-11, line-134, month-134, day-0}
 use Rattle.dates.proofs.Computing.{dates-computed}
 use Rattle.facts.proofs.Computing.{facts-computed}
+use Rattle.facts.proofs.Paper as Facts
 use Rattle.planets.proofs.Computing.{planets-computed}
 use Rattle.reading.proofs.Computing.{searches-computed}
 
@@ -308,7 +315,7 @@ refusal-is-bare =
           is-bare (λ (x : CMonth). x .reason) givenMonth noMonth (λ x. refl) BareMonth (λ i. refusals-flat .month i .1) (monthFactsAt n) r;
       quarter = λ n q r.
           is-bare (λ (x : CQuarter). x .reason) givenQuarter noQuarter (λ x. refl) BareQuarter (λ i. refusals-flat .quarter i .1) (quarterAt n q) r;
-      term = λ y k r. is-bare (λ (x : CDay). x .reason) givenDay noDay (λ x. refl) BareDay (λ i. refusals-flat .day i .1) (termAt y k) r;
+      term = λ y k r. is-bare (λ (x : CTerm). x .reason) givenTerm noTerm (λ x. refl) BareTerm (λ i. refusals-flat .term i .1) (termAt y k) r;
       conjunction = λ n k r.
           is-bare (λ (x : CConjunction). x .reason) givenConjunction noConjunction (λ x. refl) BareConjunction
           (λ i. refusals-flat .conjunction i .1) (conjunctionAt n k) r;
@@ -341,7 +348,7 @@ reason-0-iff-answered =
       year-facts = λ y r. is-zero (λ (x : CYear). x .reason) givenYear noYear (λ x. refl) (λ i. refl) (Sound.year-sound y) r;
       month-facts = λ n r. is-zero (λ (x : CMonth). x .reason) givenMonth noMonth (λ x. refl) (λ i. refl) (Sound.month-sound n) r;
       quarter = λ n q r. is-zero (λ (x : CQuarter). x .reason) givenQuarter noQuarter (λ x. refl) (λ i. refl) (Sound.quarter-sound n q) r;
-      term = λ y k r. is-zero (λ (x : CDay). x .reason) givenDay noDay (λ x. refl) (λ i. refl) (Sound.term-sound y k) r;
+      term = λ y k r. is-zero (λ (x : CTerm). x .reason) givenTerm noTerm (λ x. refl) (λ i. refl) (Sound.term-sound y k) r;
       conjunction = λ n k r.
           is-zero (λ (x : CConjunction). x .reason) givenConjunction noConjunction (λ x. refl) (λ i. refl) (Sound.conjunction-sound n k) r;
       next = λ n d r. is-zero (λ (x : CNext). x .reason) givenNext noNext (λ x. refl) (λ i. refl) (Sound.next-sound n d) r;
@@ -380,7 +387,7 @@ says-what-the-call-says =
       year-facts = λ y r. as-said saidYear Year'.Is Year'.Refused (λ x. refl) (λ w. refl) flatYear (Sound.year-sound y) r;
       month-facts = λ n r. as-said saidMonth Month'.Is Month'.Refused (λ x. refl) (λ w. refl) flatMonth (Sound.month-sound n) r;
       quarter = λ n q r. as-said saidQuarter Quarter'.Is Quarter'.Refused (λ x. refl) (λ w. refl) flatQuarter (Sound.quarter-sound n q) r;
-      term = λ y k r. as-said saidTerm Term'.Is Term'.Refused (λ x. refl) (λ w. refl) flatDay (Sound.term-sound y k) r;
+      term = λ y k r. as-said saidTerm Term'.Is Term'.Refused (λ x. refl) (λ w. refl) flatTerm (Sound.term-sound y k) r;
       conjunction = λ n k r. as-said saidConjunction Conjunction'.Is Conjunction'.Refused (λ x. refl) (λ w. refl) flatConjunction (Sound.conjunction-sound n k) r;
       next = λ n d r. as-said saidNext Next'.Is Next'.Refused (λ x. refl) (λ w. refl) flatNext (Sound.next-sound n d) r;
       pair = λ n r.
@@ -413,6 +420,16 @@ says-what-the-call-says =
         {a : Answer Date} → Sound a → (r : CDate) → (r ≡ flatDate a) ↔ ((e : Dated) × (saidDate e ≡ a) × (r ≡ flatDate (saidDate e)))
     date-said = as-said saidDate Dated'.Is Dated'.Refused (λ x. refl) (λ w. refl) flatDate
 
+pub c-term-as-before : Paper.C-term-as-before
+c-term-as-before y k r p =
+    let (a, t, e) = says-what-the-call-says .term y k r .0 p in
+    sym (ap flatDay (Facts.term-as-before y k a t)) ∙ day-of (saidTerm a) ∙ ap (λ (x : CTerm). record { reason = x .reason; day = x .day }) (sym e)
+  where
+    day-of : (x : Answer Term) → flatDay (andThen x (λ t. is (t .day))) ≡ record { reason = flatTerm x .reason; day = flatTerm x .day }
+    day-of (is t) = refl
+    day-of (refused n) = refl
+    day-of (refused-with n m) = refl
+
 -- an answer that is given is no refusal, and no other is said alike
 module _ {R : Type 0} (reason : R → ℕ) {r s : R} (p : r ≡ s) where
   no-refusal : reason s ≡ 0 → reason r ≢ 0 → ⊥
@@ -441,7 +458,7 @@ wrong-exported =
       refusing-years = λ r p. no-refusal (λ (x : CYear). x .reason) p refl;
       refusing-months = λ r p. no-refusal (λ (x : CMonth). x .reason) p refl;
       refusing-quarters = λ r p. no-refusal (λ (x : CQuarter). x .reason) p refl;
-      refusing-terms = λ r p. no-refusal (λ (x : CDay). x .reason) p refl;
+      refusing-terms = λ r p. no-refusal (λ (x : CTerm). x .reason) p refl;
       refusing-conjunctions = λ r p. no-refusal (λ (x : CConjunction). x .reason) p refl;
       refusing-nexts = λ r p. no-refusal (λ (x : CNext). x .reason) p refl;
       refusing-pairs = λ r p. no-refusal (λ (x : CPair). x .reason) p refl;
@@ -488,8 +505,8 @@ wrong-low-bits =
       months = λ r p q. not-alike (λ (x : CMonth). x .reason) p q (above 7 (omega arith));
       months-of-quarters = λ r p q. not-alike (λ (x : CQuarter). x .reason) p q (above 7 (omega arith));
       quarters = λ r p q. not-alike (λ (x : CQuarter). x .reason) p q (above 15 (omega arith));
-      years-of-terms = λ r p q. not-alike (λ (x : CDay). x .reason) p q (above 1 (omega arith));
-      terms = λ r p q. not-alike (λ (x : CDay). x .reason) p q (above 15 (omega arith));
+      years-of-terms = λ r p q. not-alike (λ (x : CTerm). x .reason) p q (above 1 (omega arith));
+      terms = λ r p q. not-alike (λ (x : CTerm). x .reason) p q (above 15 (omega arith));
       planets = λ r p q. not-alike (λ (x : CConjunction). x .reason) p q (above 19 (omega arith));
       counts = λ r p q. not-alike (λ (x : CConjunction). x .reason) p q (above 6 (omega arith));
       planets-of-nexts = λ r p q. not-alike (λ (x : CNext). x .reason) p q (above 19 (omega arith));

@@ -8,7 +8,7 @@ use mathlib.Core.List.{List, [], _∷_, _++_}
 use lib.Dec.{leb}
 use lib.IntN.{ℤ, pos, negsuc, _+ℤ_}
 use lib.ListN.{length, drop}
-use Rattle.rule.specs.Rule.{monthStart, monthLength, termDay, yearTerm}
+use Rattle.rule.specs.Rule.{monthStart, monthLength}
 use Rattle.rule.specs.Reasons.{Answer, is, refused, within, guard, andThen, reasonNumber, reasonOf, intoRoom}
 use Rattle.rule.specs.declared.Reason.{Reason}
 use Rattle.rule.specs.declared.Reason.the-variants.{
@@ -40,6 +40,7 @@ use Rattle.facts.specs.Facts.{
   monthFactsAt,
   quarterOf,
   quarterAt,
+  termOf,
   termAt,
 }
 use Rattle.planets.specs.Planets.{numbersOf, conjunctionDay, conjunctionOf, conjunctionAt, nextCount, nextOf, nextAt, pairOf, pairAt}
@@ -141,7 +142,7 @@ quarter-sound n q = guarded (leb n 507599) NoSuchMonth (guarded (leb q 3) NoSuch
 
 pub term-sound : (y k : ℕ) → Sound (termAt y k)
 unfolding termAt
-term-sound y k = guarded (within 1 41040 y) NoSuchYear (guarded (leb k 23) NoSuchTermOrQuarter (given (termDay (yearTerm y k))))
+term-sound y k = guarded (within 1 41040 y) NoSuchYear (guarded (leb k 23) NoSuchTermOrQuarter (given (termOf y k)))
 
 -- planets
 pub conjunction-sound : (p k : ℕ) → Sound (conjunctionAt p k)

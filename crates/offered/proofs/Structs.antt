@@ -5,6 +5,7 @@ use mathlib.Core.Bool.{Bool, true, false}
 use Rattle.rule.proofs.Leap.{month-again}
 use Rattle.rule.specs.Rule.{marked}
 use Rattle.rule.specs.declared.Quarter.{Quarter}
+use Rattle.rule.specs.declared.Term.{Term}
 use Rattle.rule.proofs.Answers.{one-to-one}
 use Rattle.dates.specs.declared.Date.{Date}
 use Rattle.facts.specs.declared.SolsticeYear.{SolsticeYear}
@@ -25,6 +26,7 @@ use Rattle.offered.specs.declared.CSolstice.{CSolstice}
 use Rattle.offered.specs.declared.CYear.{CYear}
 use Rattle.offered.specs.declared.CMonth.{CMonth}
 use Rattle.offered.specs.declared.CQuarter.{CQuarter}
+use Rattle.offered.specs.declared.CTerm.{CTerm}
 use Rattle.offered.specs.declared.CConjunction.{CConjunction}
 use Rattle.offered.specs.declared.CNext.{CNext}
 use Rattle.offered.specs.declared.CPair.{CPair}
@@ -39,6 +41,7 @@ use Rattle.offered.specs.Flat.{
   givenYear,
   givenMonth,
   givenQuarter,
+  givenTerm,
   givenConjunction,
   givenNext,
   givenPair,
@@ -91,6 +94,7 @@ refusals-flat =
         },
       );
       quarter = λ k. (refl, record { day = refl; parts = refl });
+      term = λ k. (refl, record { day = refl; parts = refl });
       conjunction = λ k. (refl, record { day = refl; parts = refl; divisor = refl; phase = refl });
       next = λ k. (refl, record { count = refl; day = refl; parts = refl; divisor = refl; phase = refl });
       pair = λ k. (refl, record { years = refl; conjunctions = refl });
@@ -167,6 +171,9 @@ monthFrom r =
 abbrev quarterFrom : CQuarter → Quarter
 quarterFrom r = record { day = r .day; parts = r .parts }
 
+abbrev termFrom : CTerm → Term
+termFrom r = record { day = r .day; parts = r .parts }
+
 abbrev conjunctionFrom : CConjunction → Conjunction
 conjunctionFrom r = record { day = r .day; parts = r .parts; divisor = r .divisor; phase = phaseFrom (r .phase) }
 
@@ -192,6 +199,7 @@ nothing-lost =
       year = one-to-one givenYear yearFrom (λ y. rw (leap-back (y .«leap_month»)));
       month = one-to-one givenMonth monthFrom (λ f. rw (month-again (f .month)));
       quarter = one-to-one givenQuarter quarterFrom (λ q. refl);
+      term = one-to-one givenTerm termFrom (λ t. refl);
       conjunction = one-to-one givenConjunction conjunctionFrom (λ c. rw (phase-back (c .phase)));
       next = one-to-one givenNext nextFrom (λ n. rw (phase-back (n .conjunction .phase)));
       pair = one-to-one givenPair pairFrom (λ p. refl);

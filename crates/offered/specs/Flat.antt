@@ -5,6 +5,7 @@ use mathlib.Core.Bool.{Bool, true, false}
 use Rattle.rule.specs.Rule.{numberOf, leapMark}
 use Rattle.rule.specs.Reasons.{Answer, is, refused, refused-with}
 use Rattle.rule.specs.declared.Quarter.{Quarter}
+use Rattle.rule.specs.declared.Term.{Term}
 use Rattle.dates.specs.declared.Date.{Date}
 use Rattle.facts.specs.declared.SolsticeYear.{SolsticeYear}
 use Rattle.facts.specs.declared.LeapMonth.{LeapMonth}
@@ -22,6 +23,7 @@ use Rattle.offered.specs.declared.CSolstice.{CSolstice}
 use Rattle.offered.specs.declared.CYear.{CYear}
 use Rattle.offered.specs.declared.CMonth.{CMonth}
 use Rattle.offered.specs.declared.CQuarter.{CQuarter}
+use Rattle.offered.specs.declared.CTerm.{CTerm}
 use Rattle.offered.specs.declared.CConjunction.{CConjunction}
 use Rattle.offered.specs.declared.CNext.{CNext}
 use Rattle.offered.specs.declared.CPair.{CPair}
@@ -185,6 +187,16 @@ noQuarter k = record { reason = k; day = 0; parts = 0 }
 
 abbrev pub flatQuarter : Answer Quarter → CQuarter
 flatQuarter = flat givenQuarter noQuarter
+
+-- a term
+abbrev pub givenTerm : Term → CTerm
+givenTerm t = record { reason = 0; day = t .day; parts = t .parts }
+
+abbrev pub noTerm : ℕ → CTerm
+noTerm k = record { reason = k; day = 0; parts = 0 }
+
+abbrev pub flatTerm : Answer Term → CTerm
+flatTerm = flat givenTerm noTerm
 
 -- a conjunction: 1 a morning one, 2 an evening one, 0 neither
 abbrev pub givenConjunction : Conjunction → CConjunction

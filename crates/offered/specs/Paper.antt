@@ -9,6 +9,7 @@ use lib.IntN.{ℤ, pos}
 use lib.ListN.{length, getD, replicate}
 use Rattle.rule.specs.Reasons.{is}
 use Rattle.rule.specs.declared.Quarter.{Quarter}
+use Rattle.rule.specs.declared.Term.{Term}
 use Rattle.dates.specs.declared.Date.{Date}
 use Rattle.dates.specs.declared.Dated.{Dated}
 use Rattle.dates.specs.declared.Dated.the-variants as Dated'
@@ -29,6 +30,7 @@ use Rattle.facts.specs.declared.QuarterTold.{QuarterTold}
 use Rattle.facts.specs.declared.QuarterTold.the-variants as Quarter'
 use Rattle.facts.specs.declared.TermTold.{TermTold}
 use Rattle.facts.specs.declared.TermTold.the-variants as Term'
+use Rattle.facts.specs.Paper.{termBefore}
 use Rattle.facts.specs.Promises.{
   saidSolsticeYear,
   saidYear,
@@ -68,6 +70,7 @@ use Rattle.offered.specs.declared.CSolstice.{CSolstice}
 use Rattle.offered.specs.declared.CYear.{CYear}
 use Rattle.offered.specs.declared.CMonth.{CMonth}
 use Rattle.offered.specs.declared.CQuarter.{CQuarter}
+use Rattle.offered.specs.declared.CTerm.{CTerm}
 use Rattle.offered.specs.declared.CConjunction.{CConjunction}
 use Rattle.offered.specs.declared.CNext.{CNext}
 use Rattle.offered.specs.declared.CPair.{CPair}
@@ -87,6 +90,8 @@ use Rattle.offered.specs.Flat.{
   flatMonth,
   givenQuarter,
   flatQuarter,
+  givenTerm,
+  flatTerm,
   givenConjunction,
   flatConjunction,
   givenNext,
@@ -106,6 +111,7 @@ use Rattle.offered.specs.Structs.{
   BareYear,
   BareMonth,
   BareQuarter,
+  BareTerm,
   BareConjunction,
   BareNext,
   BarePair,
@@ -123,7 +129,7 @@ use Rattle.offered.specs.Promises.{
   CYearFacts,
   CMonthFacts,
   CQuarterOf,
-  CTerm,
+  CTermOf,
   CKthConjunction,
   CNextConjunction,
   CReducedPair,
@@ -148,7 +154,7 @@ pub record Unique-exported : Type 0 where
   pub year-facts : (y : ℕ) (a b : CYear) → CYearFacts y a → CYearFacts y b → a ≡ b
   pub month-facts : (n : ℕ) (a b : CMonth) → CMonthFacts n a → CMonthFacts n b → a ≡ b
   pub quarter : (n q : ℕ) (a b : CQuarter) → CQuarterOf n q a → CQuarterOf n q b → a ≡ b
-  pub term : (y k : ℕ) (a b : CDay) → CTerm y k a → CTerm y k b → a ≡ b
+  pub term : (y k : ℕ) (a b : CTerm) → CTermOf y k a → CTermOf y k b → a ≡ b
   pub conjunction : (p k : ℕ) (a b : CConjunction) → CKthConjunction p k a → CKthConjunction p k b → a ≡ b
   pub next : (p d : ℕ) (a b : CNext) → CNextConjunction p d a → CNextConjunction p d b → a ≡ b
   pub pair : (p : ℕ) (a b : CPair) → CReducedPair p a → CReducedPair p b → a ≡ b
@@ -178,7 +184,7 @@ pub record Refusal-is-bare : Type 0 where
   pub year-facts : (y : ℕ) (r : CYear) → CYearFacts y r → r .reason ≢ 0 → BareYear r
   pub month-facts : (n : ℕ) (r : CMonth) → CMonthFacts n r → r .reason ≢ 0 → BareMonth r
   pub quarter : (n q : ℕ) (r : CQuarter) → CQuarterOf n q r → r .reason ≢ 0 → BareQuarter r
-  pub term : (y k : ℕ) (r : CDay) → CTerm y k r → r .reason ≢ 0 → BareDay r
+  pub term : (y k : ℕ) (r : CTerm) → CTermOf y k r → r .reason ≢ 0 → BareTerm r
   pub conjunction : (p k : ℕ) (r : CConjunction) → CKthConjunction p k r → r .reason ≢ 0 → BareConjunction r
   pub next : (p d : ℕ) (r : CNext) → CNextConjunction p d r → r .reason ≢ 0 → BareNext r
   pub pair : (p : ℕ) (r : CPair) → CReducedPair p r → r .reason ≢ 0 → BarePair r
@@ -215,7 +221,7 @@ pub record Says-what-the-call-says : Type 0 where
   pub month-facts : (n : ℕ) (r : CMonth) → CMonthFacts n r ↔ ((a : MonthTold) × MonthByCount n a × (r ≡ flatMonth (saidMonth a)))
   pub quarter :
       (n q : ℕ) (r : CQuarter) → CQuarterOf n q r ↔ ((a : QuarterTold) × QuarterOfMonth n q a × (r ≡ flatQuarter (saidQuarter a)))
-  pub term : (y k : ℕ) (r : CDay) → CTerm y k r ↔ ((a : TermTold) × TermOfYear y k a × (r ≡ flatDay (saidTerm a)))
+  pub term : (y k : ℕ) (r : CTerm) → CTermOf y k r ↔ ((a : TermTold) × TermOfYear y k a × (r ≡ flatTerm (saidTerm a)))
   pub conjunction :
       (p k : ℕ) (r : CConjunction) →
       CKthConjunction p k r ↔ ((a : ConjunctionTold) × KthConjunction p k a × (r ≡ flatConjunction (saidConjunction a)))
@@ -235,6 +241,10 @@ pub record Says-what-the-call-says : Type 0 where
   pub print-month-line : PrintSaid CPrintMonthLine PrintMonthLine
   pub print-month : PrintSaid CPrintMonth PrintMonth
   pub print-day : PrintSaid CPrintDay PrintDay
+
+-- W2: reason and day of a term are what the call for C gave when it gave the day alone
+abbrev pub C-term-as-before : Type 0
+C-term-as-before = (y k : ℕ) (r : CTerm) → CTermOf y k r → flatDay (termBefore y k) ≡ record { reason = r .reason; day = r .day }
 
 -- reason 0 says that the call answers, and nothing else does, since the paper's reasons start at 1; the struct is then that answer
 abbrev pub ZeroPrint : (ℕ → List ℕ → CLength → List ℕ → Type 0) → (ℕ → List ℕ → HowMany → List ℕ → Type 0) → Type 0
@@ -260,7 +270,7 @@ pub record Reason-0-iff-answered : Type 0 where
   pub quarter :
       (n q : ℕ) (r : CQuarter) →
       CQuarterOf n q r → (r .reason ≡ 0) ↔ ((x : Quarter) × QuarterOfMonth n q (Quarter'.Is x) × (r ≡ givenQuarter x))
-  pub term : (y k : ℕ) (r : CDay) → CTerm y k r → (r .reason ≡ 0) ↔ ((x : ℕ) × TermOfYear y k (Term'.Is x) × (r ≡ givenDay x))
+  pub term : (y k : ℕ) (r : CTerm) → CTermOf y k r → (r .reason ≡ 0) ↔ ((x : Term) × TermOfYear y k (Term'.Is x) × (r ≡ givenTerm x))
   pub conjunction :
       (p k : ℕ) (r : CConjunction) →
       CKthConjunction p k r →
@@ -326,7 +336,7 @@ pub record Wrong-exported : Type 0 where
   pub refusing-years : (r : CYear) → CYearFacts 11 r → r .reason ≢ 0 → ⊥
   pub refusing-months : (r : CMonth) → CMonthFacts 134 r → r .reason ≢ 0 → ⊥
   pub refusing-quarters : (r : CQuarter) → CQuarterOf 0 0 r → r .reason ≢ 0 → ⊥
-  pub refusing-terms : (r : CDay) → CTerm 1 0 r → r .reason ≢ 0 → ⊥
+  pub refusing-terms : (r : CTerm) → CTermOf 1 0 r → r .reason ≢ 0 → ⊥
   pub refusing-conjunctions : (r : CConjunction) → CKthConjunction 1 0 r → r .reason ≢ 0 → ⊥
   pub refusing-nexts : (r : CNext) → CNextConjunction 1 0 r → r .reason ≢ 0 → ⊥
   pub refusing-pairs : (r : CPair) → CReducedPair 1 r → r .reason ≢ 0 → ⊥
@@ -386,8 +396,8 @@ pub record Wrong-low-bits : Type 0 where
   pub months : LowBits 4294967296 CMonthFacts 0
   pub months-of-quarters : LowBits 4294967296 (λ n. CQuarterOf n 0) 0
   pub quarters : LowBits 4294967296 (CQuarterOf 0) 0
-  pub years-of-terms : LowBits 4294967296 (λ y. CTerm y 0) 1
-  pub terms : LowBits 4294967296 (CTerm 1) 0
+  pub years-of-terms : LowBits 4294967296 (λ y. CTermOf y 0) 1
+  pub terms : LowBits 4294967296 (CTermOf 1) 0
   pub planets : LowBits 256 (λ p. CKthConjunction p 1) 1
   pub counts : LowBits 4294967296 (CKthConjunction 1) 1
   pub planets-of-nexts : LowBits 256 (λ p. CNextConjunction p 0) 1

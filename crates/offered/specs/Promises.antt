@@ -25,6 +25,7 @@ use Rattle.offered.specs.declared.CSolstice.{CSolstice}
 use Rattle.offered.specs.declared.CYear.{CYear}
 use Rattle.offered.specs.declared.CMonth.{CMonth}
 use Rattle.offered.specs.declared.CQuarter.{CQuarter}
+use Rattle.offered.specs.declared.CTerm.{CTerm}
 use Rattle.offered.specs.declared.CConjunction.{CConjunction}
 use Rattle.offered.specs.declared.CNext.{CNext}
 use Rattle.offered.specs.declared.CPair.{CPair}
@@ -38,6 +39,7 @@ use Rattle.offered.specs.Flat.{
   flatYear,
   flatMonth,
   flatQuarter,
+  flatTerm,
   flatConjunction,
   flatNext,
   flatPair,
@@ -76,8 +78,8 @@ abbrev pub CQuarterOf : ℕ → ℕ → CQuarter → Type 0
 CQuarterOf n q r = r ≡ flatQuarter (quarterAt n q)
 
 -- a term of a year
-abbrev pub CTerm : ℕ → ℕ → CDay → Type 0
-CTerm y k r = r ≡ flatDay (termAt y k)
+abbrev pub CTermOf : ℕ → ℕ → CTerm → Type 0
+CTermOf y k r = r ≡ flatTerm (termAt y k)
 
 -- the k-th conjunction of a planet
 abbrev pub CKthConjunction : ℕ → ℕ → CConjunction → Type 0

@@ -6,6 +6,7 @@ use mathlib.Core.Logic.{_≢_}
 use mathlib.Core.Bool.{false}
 use Rattle.rule.specs.Reasons.{refused, refused-with}
 use Rattle.rule.specs.declared.Quarter.{Quarter}
+use Rattle.rule.specs.declared.Term.{Term}
 use Rattle.dates.specs.declared.Date.{Date}
 use Rattle.facts.specs.declared.SolsticeYear.{SolsticeYear}
 use Rattle.facts.specs.declared.YearFacts.{YearFacts}
@@ -20,6 +21,7 @@ use Rattle.offered.specs.declared.CSolstice.{CSolstice}
 use Rattle.offered.specs.declared.CYear.{CYear}
 use Rattle.offered.specs.declared.CMonth.{CMonth}
 use Rattle.offered.specs.declared.CQuarter.{CQuarter}
+use Rattle.offered.specs.declared.CTerm.{CTerm}
 use Rattle.offered.specs.declared.CConjunction.{CConjunction}
 use Rattle.offered.specs.declared.CNext.{CNext}
 use Rattle.offered.specs.declared.CPair.{CPair}
@@ -39,6 +41,8 @@ use Rattle.offered.specs.Flat.{
   noMonth,
   givenQuarter,
   noQuarter,
+  givenTerm,
+  noTerm,
   givenConjunction,
   noConjunction,
   givenNext,
@@ -95,6 +99,10 @@ pub record BareQuarter (r : CQuarter) : Type 0 where
   pub day : r .day ≡ 0
   pub parts : r .parts ≡ 0
 
+pub record BareTerm (r : CTerm) : Type 0 where
+  pub day : r .day ≡ 0
+  pub parts : r .parts ≡ 0
+
 pub record BareConjunction (r : CConjunction) : Type 0 where
   pub day : r .day ≡ 0
   pub parts : r .parts ≡ 0
@@ -133,6 +141,7 @@ pub record Refusals-flat : Type 0 where
   pub year : (k : ℕ) → (noYear k .reason ≡ k) × BareYear (noYear k)
   pub month : (k : ℕ) → (noMonth k .reason ≡ k) × BareMonth (noMonth k)
   pub quarter : (k : ℕ) → (noQuarter k .reason ≡ k) × BareQuarter (noQuarter k)
+  pub term : (k : ℕ) → (noTerm k .reason ≡ k) × BareTerm (noTerm k)
   pub conjunction : (k : ℕ) → (noConjunction k .reason ≡ k) × BareConjunction (noConjunction k)
   pub next : (k : ℕ) → (noNext k .reason ≡ k) × BareNext (noNext k)
   pub pair : (k : ℕ) → (noPair k .reason ≡ k) × BarePair (noPair k)
@@ -149,6 +158,7 @@ pub record Nothing-lost : Type 0 where
   pub year : (a b : YearFacts) → givenYear a ≡ givenYear b → a ≡ b
   pub month : (a b : MonthFacts) → givenMonth a ≡ givenMonth b → a ≡ b
   pub quarter : (a b : Quarter) → givenQuarter a ≡ givenQuarter b → a ≡ b
+  pub term : (a b : Term) → givenTerm a ≡ givenTerm b → a ≡ b
   pub conjunction : (a b : Conjunction) → givenConjunction a ≡ givenConjunction b → a ≡ b
   pub next : (a b : Next) → givenNext a ≡ givenNext b → a ≡ b
   pub pair : (a b : Pair) → givenPair a ≡ givenPair b → a ≡ b

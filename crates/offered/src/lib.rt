@@ -68,6 +68,14 @@ pub struct CQuarter {
     pub parts: u32,
 }
 
+// A term of a year: its day and the rest in parts of 32.
+#[repr(C)]
+pub struct CTerm {
+    pub reason: u32,
+    pub day: u32,
+    pub parts: u32,
+}
+
 // A conjunction of a planet: its day, its remainder in parts of the divisor; `phase` is 1 for a morning one, 2 for an evening one,
 // 0 for neither.
 #[repr(C)]

@@ -10,6 +10,7 @@ use Rattle.rule.specs.Rule.{
   quarterDay,
   quarterParts,
   termDay,
+  termParts,
   firstMonth,
   leapRemainder,
   monthsInYear,
@@ -32,5 +33,5 @@ unfolding monthStart smallRemainder monthLength monthOfDay quarterDay quarterPar
 months = 0
 
 unfoldable pub rule-computed : ℕ
-unfolding termDay firstMonth leapRemainder monthsInYear yearOfMonth shortcutNumber counts months
+unfolding termDay termParts firstMonth leapRemainder monthsInYear yearOfMonth shortcutNumber counts months
 rule-computed = 0

@@ -12,7 +12,7 @@ ghost use Rattle.rule.specs.Rule.{
   quarterDay,
   quarterParts,
   termDay,
-  yearTerm,
+  termParts,
   midTermDay,
   firstMonth,
   leapRemainder,
@@ -73,6 +73,12 @@ pub struct Place {
 pub struct Quarter {
     pub day: u32,
     pub parts: u16,
+}
+
+// A term: its day, and the rest in parts of 32.
+pub struct Term {
+    pub day: u32,
+    pub parts: u8,
 }
 
 // A year, and the number of one of its months.
@@ -213,20 +219,17 @@ pub fn quarter_of(n: u32, q: u8) -> Quarter
     }
 }
 
-// The day of a term of a year: 0 the solstice, even ones the mid-terms.
-pub fn term_day(year: u16, k: u8) -> u32
-    requires { ⌜ YearInRange year × (k ≤ 23) ⌝ }
-    ensures { λ r. ⌜ r ≡ termDay (yearTerm year k) ⌝ }
+// A term, counted from the origin: its day and the rest in parts of 32; even ones are the mid-terms. The term after the last too, with
+// which the last year ends. Whatever asks for a term asks here.
+pub fn term_of(t: u32) -> Term
+    requires { ⌜ t ≤ 984960 ⌝ }
+    ensures { λ r. ⌜ (r .day ≡ termDay t) × (r .parts ≡ termParts t) ⌝ }
 {
-    487 * (24 * (year as u32 - 1) + k as u32) / 32
-}
-
-// The day of a mid-term, counted from the origin; of the one after the last too.
-pub fn mid_term_day(m: u32) -> u32
-    requires { ⌜ m ≤ 492480 ⌝ }
-    ensures { λ r. ⌜ r ≡ midTermDay m ⌝ }
-{
-    487 * m / 16
+    let parts = 487 * t;
+    Term {
+        day: parts / 32,
+        parts: (parts % 32) as u8,
+    }
 }
 
 // The last mid-term before a day, counted from the origin; before the day after the last too.

@@ -112,7 +112,7 @@ unfolding quarterText quarterLine refusing facts-computed
 no-quarter = refl
 
 -- the term after the solstice of year 11: 487 × 241 is 32 × 3,667 and 23 more
-pub term-11-1 : termText 11 1 ≡ inLines (word "TERM 3667" ∷ [])
+pub term-11-1 : termText 11 1 ≡ inLines (word "TERM 3667 23" ∷ [])
 unfolding termText termLine printing facts-computed
 term-11-1 = refl
 

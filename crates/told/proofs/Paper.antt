@@ -7,7 +7,7 @@ use mathlib.Core.List.{List, [], _∷_, _++_, append-assoc}
 use lib.Dec.{leb}
 use lib.IntN.{ℤ, pos, negsuc, _+ℤ_}
 use Rattle.rule.specs.Counts.{DayInRange}
-use Rattle.rule.specs.Rule.{monthStart, monthLength, monthOfDay, termDay, yearTerm}
+use Rattle.rule.specs.Rule.{monthStart, monthLength, monthOfDay}
 use Rattle.rule.specs.Reasons.{Answer, is, refused, refused-with, guard, within, andThen}
 use Rattle.rule.specs.declared.Reason.the-variants.{MoveOutOfRange}
 use Rattle.rule.proofs.Answers.{at-most, within-true, passes, holds-all, given-not}
@@ -30,6 +30,7 @@ use Rattle.facts.specs.Facts.{
   monthFactsAt,
   quarterOf,
   quarterAt,
+  termOf,
   termAt,
 }
 use Rattle.facts.proofs.Given as Given
@@ -114,7 +115,7 @@ unfolding quarterText quarterLine quarterOf followed
 quarter-line-literally n q h i = ap (told quarterLine) (Given.quarter-given n q h i)
 
 pub term-line-literally : Paper.Term-line-literally
-unfolding termText termLine followed
+unfolding termText termLine termOf followed
 term-line-literally y k h i = ap (told termLine) (Given.term-given y k h i)
 
 -- a phase's letter, and the planet that has it
@@ -249,7 +250,7 @@ refusals-told =
           tells-refusal quarterLine (quarterAt n q) (λ x e. refl) (never-two (leb n 507599) 7 (leb q 3) 15 (quarterOf n q));
       term = λ y k.
           tells-refusal termLine (termAt y k) (λ x e. refl)
-          (never-two (within 1 41040 y) 1 (leb k 23) 15 (termDay (yearTerm y k)));
+          (never-two (within 1 41040 y) 1 (leb k 23) 15 (termOf y k));
       conjunction = λ p k.
           tells-refusal conjunctionLine (conjunctionAt p k) (λ x e. refl)
           (never-two (within 1 5 p) 19 (leb (conjunctionDay (numbersOf p) k) 14989859) 6 (conjunctionOf (numbersOf p) k));

@@ -7,6 +7,7 @@ use lib.IntN.{ℤ}
 use Rattle.rule.specs.Rule.{numberOf, leapMark}
 use Rattle.rule.specs.Reasons.{Answer, is, refused, refused-with, reasonOf}
 use Rattle.rule.specs.declared.Quarter.{Quarter}
+use Rattle.rule.specs.declared.Term.{Term}
 use Rattle.dates.specs.declared.Date.{Date}
 use Rattle.dates.specs.Dates.{dateOf, dateAt, dayOfDate}
 use Rattle.moves.specs.Moves.{moved}
@@ -85,9 +86,9 @@ quarterLine q = lined (word "QUARTER" ∷ decimal (q .day) ∷ decimal (q .parts
 unfoldable pub quarterText : ℕ → ℕ → List ℕ
 quarterText n q = told quarterLine (quarterAt n q)
 
--- `TERM year k`: `TERM day`
-unfoldable pub termLine : ℕ → List ℕ
-termLine d = lined (word "TERM" ∷ decimal d ∷ [])
+-- `TERM year k`: `TERM day parts`
+unfoldable pub termLine : Term → List ℕ
+termLine t = lined (word "TERM" ∷ decimal (t .day) ∷ decimal (t .parts) ∷ [])
 
 unfoldable pub termText : ℕ → ℕ → List ℕ
 termText y k = told termLine (termAt y k)

@@ -16,6 +16,7 @@ use Rattle.rule.specs.Rule.{
   quarterDay,
   quarterParts,
   termDay,
+  termParts,
   yearTerm,
   firstMonth,
   leapRemainder,
@@ -119,9 +120,11 @@ Quarter-line-literally =
     (n q : ℕ) → MonthInRange n → q ≤ 3 →
     quarterText n q ≡ (word "QUARTER " ++ (decimal (quarterDay n q) ++ (32 ∷ decimal (quarterParts n q)))) ++ (10 ∷ [])
 
--- "`TERM day`"
+-- "`TERM day parts`"
 abbrev pub Term-line-literally : Type 0
-Term-line-literally = (y k : ℕ) → YearInRange y → k ≤ 23 → termText y k ≡ word "TERM " ++ (decimal (termDay (yearTerm y k)) ++ (10 ∷ []))
+Term-line-literally =
+    (y k : ℕ) → YearInRange y → k ≤ 23 →
+    termText y k ≡ (word "TERM " ++ (decimal (termDay (yearTerm y k)) ++ (32 ∷ decimal (termParts (yearTerm y k))))) ++ (10 ∷ [])
 
 -- "`CONJUNCTION day parts divisor phase`": what stands for the phase is `last`
 abbrev pub conjunctionWith : ℕ → ℕ → List ℕ → List ℕ

@@ -165,11 +165,11 @@ fn quarter(n: u32, q: u32) {
     }
 }
 
-// A term of a year (0 to 23, 0 the solstice): its day.
+// A term of a year (0 to 23, 0 the solstice): its day, and the rest in parts of 32.
 fn term(year: u32, k: u32) {
     two(b"TERM", year, k as u64);
     match facts::term(year, k) {
-        TermTold::Is(day) => show::line(b"TERM", day as u64),
+        TermTold::Is(f) => two(b"TERM", f.day, f.parts as u64),
         TermTold::Refused(why) => show::refused(why),
     }
 }

@@ -22,7 +22,7 @@ answer-term-spec =
     let p = c .before .before in
     let q = p .before .before .before in
     let r = q .before .before in
-    tells termLine saidTerm (r .term .ensures) (q .day .given .1) (omega arith) (p .put-term .ensures))
+    tells termLine saidTerm (r .term .ensures) (q .f .given .1) (omega arith) (p .put-term .ensures))
     (λ c. search needs)
     (λ c.
     let p = c .before .before in

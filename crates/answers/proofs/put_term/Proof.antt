@@ -14,10 +14,13 @@ put-term-spec =
     (λ c. search needs)
     (λ c κs. search needs)
     (λ c κs. search needs)
+    (λ c. search needs)
+    (λ c κs. search needs)
     (λ c κs. search needs)
     (λ c. search needs)
     (λ c.
-    let p3 = c .before .before in
-    let p2 = p3 .before .before .before .before in
+    let p4 = c .before .before in
+    let p3 = p4 .before .before .before .before in
+    let p2 = p3 .before .before .before .before .before in
     let p1 = p2 .before .before .before .before in
-    then (p1 .put-bytes .ensures) (then (p2 .put-next .ensures) (p3 .put-byte .ensures))))
+    then (then (p1 .put-bytes .ensures) (then (p2 .put-next .ensures) (p3 .put-next2 .ensures))) (p4 .put-byte .ensures)))

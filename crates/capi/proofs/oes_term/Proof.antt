@@ -1,7 +1,7 @@
 -- `capi::oes_term` meets its contract. Assumes nothing.
 use Rattle.facts.specs.Facts.{termAt}
 use Rattle.capped.proofs.Paper.{capped-alike}
-use Rattle.offered.specs.Flat.{flatDay}
+use Rattle.offered.specs.Flat.{flatTerm}
 use Rattle.capi.proofs.Asked.{asked-two}
 use borrow.Author.Needs.{needs}
 use Rattle.capi.proofs.oes_term.Statement.{statement}
@@ -16,5 +16,5 @@ oes-term-spec =
     (λ c κs. search needs)
     (λ c κs. search needs)
     (λ c.
-    asked-two flatDay termAt (capped-alike .term) (c .before .before .before .cap .ensures) (c .before .before .cap2 .ensures)
+    asked-two flatTerm termAt (capped-alike .term) (c .before .before .before .cap .ensures) (c .before .before .cap2 .ensures)
     (c .before .term .ensures) (c .flat-term .ensures)))

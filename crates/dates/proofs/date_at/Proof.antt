@@ -4,7 +4,7 @@ use native.Mathlib.Omega.{arith}
 use mathlib.Core.Path.{_≡_}
 use Prim.Native.Nat.{_+_, _-_, _≤_, _<_}
 use Rattle.rule.specs.Counts.{dayName}
-use Rattle.rule.specs.Rule.{monthLength}
+use Rattle.rule.specs.Rule.{monthLength, midTermDay}
 use Rattle.rule.proofs.Terms.{mid-in-range}
 use Rattle.dates.proofs.Days.{between, made}
 use borrow.Author.Needs.{needs}
@@ -28,23 +28,28 @@ spans c =
 last : (c : tie.After-last-mid-term) → c .last-mid-term .result < 492480
 last c = mid-in-range _ _ (c .last-mid-term .ensures .0) (spans (c .before) .3)
 
+-- mid-term m is term 2m
+mid-day : (c : tie.After-term-of) → c .term-of .result .day ≡ midTermDay (c .before .before .last-mid-term .result)
+unfolding midTermDay
+mid-day c = c .term-of .ensures .0
+
 -- the name is that of the day itself
 own-name : (c : tie.After-day-name) →
-    c .day-name .result ≡ dayName (c .before .before .before .before .before .before .before .args .day)
+    c .day-name .result ≡ dayName (c .before .before .before .before .before .before .before .before .args .day)
 unfolding dayName
 own-name c = omega (arith, c .day-name .ensures)
 
 returns : tie.Need-returns
 returns c =
     let month = c .before .before in
-    let mid = month .before in
+    let mid = month .before .before in
     let its = mid .before in
     let m = its .before in
     let l = m .before in
     let at = l .before in
     made (at .before .args .day) _ _ _ (at .stands .ensures .0) (at .stands .ensures .1) (length l) _ (m .last-mid-term .ensures .0)
     (m .last-mid-term .ensures .1)
-    (its .year-and-number .ensures .0) (mid .mid-term-day .ensures) (its .year-and-number .ensures .1) (month .marked .ensures)
+    (its .year-and-number .ensures .0) (mid-day mid) (its .year-and-number .ensures .1) (month .marked .ensures)
     (own-name (c .before)) (c .year-name .ensures)
 
 pub date-at-spec : {M : Type 1} → statement M
@@ -57,11 +62,12 @@ date-at-spec =
     (λ c. omega (arith, spans c))
     (λ c κs. omega (arith, spans c))
     (λ c κs. last c)
+    (λ c. omega (arith, last (c .before)))
     (λ c κs. omega (arith, last (c .before)))
     (λ c κs. search needs)
-    (λ c. omega (arith, spans (c .before .before .before .before)))
-    (λ c. omega (arith, spans (c .before .before .before .before)))
-    (λ c. omega (arith, spans (c .before .before .before .before)))
+    (λ c. omega (arith, spans (c .before .before .before .before .before)))
+    (λ c. omega (arith, spans (c .before .before .before .before .before)))
+    (λ c. omega (arith, spans (c .before .before .before .before .before)))
     (λ c κs. search needs)
     (λ c κs. search needs)
     returns)

@@ -14,21 +14,26 @@ use Rattle.dates.proofs.day_of_named.Statement.{statement}
 use Rattle.dates.proofs.day_of_named.Tie as tie
 
 -- the number's mid-term, and its month
-abbrev m : tie.After-mid-term-day → ℕ
+abbrev m : tie.After-term-of → ℕ
 m c = c .before .mid-term-of .result
 
-is-mid : (c : tie.After-mid-term-day) →
+is-mid : (c : tie.After-term-of) →
     let a = c .before .before .args in
     m c ≡ midOf (a .year) (a .number)
 is-mid c = c .before .mid-term-of .ensures
+
+-- mid-term m is term 2m
+mid-day : (c : tie.After-term-of) → c .term-of .result .day ≡ midTermDay (m c)
+unfolding midTermDay
+mid-day c = c .term-of .ensures .0
 
 abbrev month : tie.After-stands → ℕ
 month c = monthOfDay (midTermDay (m (c .before)))
 
 is-month : (c : tie.After-stands) → c .stands .result .month ≡ month c
-is-month c = c .stands .ensures .0 ∙ ap monthOfDay (c .before .mid-term-day .ensures)
+is-month c = c .stands .ensures .0 ∙ ap monthOfDay (mid-day (c .before))
 
-start : (c : tie.After-stands) → c .before .mid-term-day .result - c .stands .result .passed ≡ monthStart (month c)
+start : (c : tie.After-stands) → c .before .term-of .result .day - c .stands .result .passed ≡ monthStart (month c)
 start c = omega (arith, ap monthStart (is-month c), c .stands .ensures .1)
 
 left : (c : tie.After-stands) → c .stands .result .left + smallRemainder (month c) ≡ 939
@@ -57,7 +62,7 @@ length c = c .length-of .ensures (month (stood c)) (left (stood c))
 
 next : (c : tie.After-length-of) →
     let a = stood c in
-    a .before .mid-term-day .result - a .stands .result .passed + c .length-of .result ≡ monthStart (month a + 1)
+    a .before .term-of .result .day - a .stands .result .passed + c .length-of .result ≡ monthStart (month a + 1)
 next c = omega (arith, start (stood c), length c, ends (stood c))
 
 after : (c : tie.After-next-left) → c .next-left .result + smallRemainder (month (stood (c .before)) + 1) ≡ 939
@@ -66,19 +71,26 @@ after c = c .next-left .ensures (month (stood (c .before))) (left (stood (c .bef
 end : (c : tie.After-length-of2) →
     let l = c .before .before .before in
     let a = stood l in
-    a .before .mid-term-day .result - a .stands .result .passed + l .length-of .result + c .length-of2 .result ≡ monthStart (month a + 2)
+    a .before .term-of .result .day - a .stands .result .passed + l .length-of .result + c .length-of2 .result ≡ monthStart (month a + 2)
 end c =
     let l = c .before .before .before in
     let e = c .length-of2 .ensures (month (stood l) + 1) (after (c .before .before)) in
     omega (arith, next l, e, ends (stood l))
 
+-- the mid-term after it
+next-mid : (c : tie.After-term-of2) →
+    let a = stood (c .before .before) in
+    c .term-of2 .result .day ≡ midTermDay (m (a .before) + 1)
+unfolding midTermDay
+next-mid c = c .term-of2 .ensures .0
+
 returns : tie.Need-returns
 returns c =
-    let l = c .before .before .before .before in
+    let l = c .before .before .before .before .before in
     let a = stood l in
     let s = a .before .before .before in
     no-leap (s .args .year) (s .args .number) (m (a .before)) (s .args .day-of-month) (is-mid (a .before)) (l .before .if1 .taken)
-    (omega (arith, c .before .before .mid-term-day2 .ensures, end (c .before)))
+    (omega (arith, next-mid (c .before .before .before), end (c .before .before)))
 
 -- the month that is asked for, n, which starts on day s and had r left of it: what day q of it is, is the answer
 record Asked (s r y k : ℕ) (l : Bool) (q : ℕ) : Type 0 where
@@ -90,7 +102,7 @@ record Asked (s r y k : ℕ) (l : Bool) (q : ℕ) : Type 0 where
 
 ordinary-month : (c : tie.After-stands) {s r : ℕ} →
     let a = c .before .before .before .args in
-    s ≡ c .before .mid-term-day .result - c .stands .result .passed → r ≡ c .stands .result .left → a .leap ≡ false →
+    s ≡ c .before .term-of .result .day - c .stands .result .passed → r ≡ c .stands .result .left → a .leap ≡ false →
     Asked s r (a .year) (a .number) (a .leap) (a .day-of-month)
 ordinary-month c e f h =
     let a = c .before .before .before .args in
@@ -106,8 +118,8 @@ leap-month : (c : tie.After-length-of2) {s r : ℕ} →
     let l = c .before .before .before in
     let st = stood l in
     let a = st .before .before .before .args in
-    s ≡ st .before .mid-term-day .result - st .stands .result .passed + l .length-of .result → r ≡ c .before .before .next-left .result →
-    s + c .length-of2 .result ≤ c .before .mid-term-day2 .result → Asked s r (a .year) (a .number) (a .leap) (a .day-of-month)
+    s ≡ st .before .term-of .result .day - st .stands .result .passed + l .length-of .result → r ≡ c .before .before .next-left .result →
+    s + c .length-of2 .result ≤ c .before .term-of2 .result .day → Asked s r (a .year) (a .number) (a .leap) (a .day-of-month)
 leap-month c e f h =
     let l = c .before .before .before in
     let st = stood l in
@@ -119,7 +131,7 @@ leap-month c e f h =
       early = omega (arith, e, next l, ends st);
       answer =
           leap-asked (a .year) (a .number) (m (st .before)) (a .day-of-month) (is-mid (st .before)) (l .before .if1 .taken)
-          (omega (arith, c .before .mid-term-day2 .ensures, end c, e, h));
+          (omega (arith, next-mid (c .before), end c, e, h));
     }
 
 asked : (c : tie.Joined1) →
@@ -129,8 +141,8 @@ asked c =
     ⊎-elim
     (λ w.
     let l : tie.After-length-of = record { before = record { before = c .before; if1 = w .0 }; length-of = w .1 } in
-    let t : tie.After-mid-term-day2 = record { before = record { before = l; next-left = w .2 }; mid-term-day2 = w .3 } in
-    leap-month (record { before = t; length-of2 = w .4 }) (w .6) (w .7) (omega (arith, w .6, w .5 .left)))
+    let t : tie.After-term-of2 = record { before = record { before = l; next-left = w .2 }; term-of2 = w .3 } in
+    leap-month (record { before = t; length-of2 = w .4 }) (w .7) (w .8) (omega (arith, w .7, w .6 .left)))
     (λ w. ordinary-month (c .before .before) (w .1) (w .2) (w .0 .left))
     (c .if1 .came)
 
@@ -148,12 +160,14 @@ day-of-named-spec =
     tie.close
     (tie.spec
     (λ c κs. search needs)
+    (λ c. omega (arith, c .mid-term-of .ensures))
     (λ c κs. omega (arith, c .mid-term-of .ensures))
     stands-requires
     (λ c. omega (arith, c .before .stands .ensures .1))
     (λ c κs. search needs)
     (λ c. omega (arith, next c, ends (stood c)))
     (λ c κs. omega (arith, left (stood c)))
+    (λ c. search needs)
     (λ c. search needs)
     (λ c κs. search needs)
     (λ c κs. search needs)

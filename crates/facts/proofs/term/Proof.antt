@@ -1,15 +1,15 @@
--- `facts::term` meets its contract: reason 1, then 15, or the term's day. Assumes nothing.
+-- `facts::term` meets its contract: reason 1, then 15, or the term. Assumes nothing.
 use native.Mathlib.Omega.{arith}
-use mathlib.Core.Path.{_≡_, ap, sym, _∙_}
+use mathlib.Core.Path.{_≡_, refl, ap, sym, _∙_}
 use mathlib.Core.Bool.{true}
 use lib.Dec.{leb}
 use borrow.Author.Tests.{lt-leb}
 use Rattle.rule.specs.Counts.{YearInRange}
 use Rattle.rule.specs.Reasons.{is, within}
-use Rattle.rule.specs.Rule.{termDay, yearTerm}
 use Rattle.rule.proofs.Answers.{within-true, failed, passed, stops, passes}
-use Rattle.facts.specs.Facts.{termAt}
+use Rattle.facts.specs.Facts.{termOf, termAt}
 use Rattle.facts.proofs.Given.{term-given}
+use Rattle.facts.proofs.Made.{term-made}
 use borrow.Author.Needs.{needs}
 use Rattle.facts.proofs.term.Statement.{statement}
 use Rattle.facts.proofs.term.Tie as tie
@@ -33,12 +33,12 @@ returns-2 c =
     let a = c .before .before .before .args in
     sym
     (passes (within 1 41040 (a .year)) 1 _ (year-there (c .before))
-    ∙ stops (leb (a .k) 23) 15 (is (termDay (yearTerm (a .year) (a .k)))) (lt-leb (a .k) 23 (c .if2 .taken)))
+    ∙ stops (leb (a .k) 23) 15 (is (termOf (a .year) (a .k))) (lt-leb (a .k) 23 (c .if2 .taken)))
 
 returns-3 : tie.Need-returns-3
 returns-3 c =
     let a = c .before .before .before .before .args in
-    ap is (c .term-day .ensures) ∙ sym (term-given (a .year) (a .k) (year-range (c .before .before)) (omega arith))
+    ap is (term-made (a .year) (a .k) _ (c .term-of .result) refl (c .term-of .ensures)) ∙ sym (term-given (a .year) (a .k) (year-range (c .before .before)) (omega arith))
 
 pub term-spec : {M : Type 1} → statement M
 term-spec =
@@ -48,6 +48,7 @@ term-spec =
     returns
     returns-2
     (λ c. omega (arith, year-range (c .before)))
-    (λ c. search needs)
-    (λ c κs. (year-range (c .before), omega arith))
+    (λ c. omega (arith, year-range (c .before)))
+    (λ c. omega (arith, year-range (c .before)))
+    (λ c κs. omega (arith, year-range (c .before)))
     returns-3)

@@ -9,7 +9,8 @@ flat-term-spec =
     (tie.spec
     (λ c. search needs)
     (λ c. search needs)
+    (λ c. search needs)
     (λ c κs. search needs)
     (λ c. search needs)
-    (λ c. rw (c .before .a .given .1))
+    (λ c. rw (c .before .before .a .given .1))
     (λ c. rw (c .before .before .a2 .given .1, ← c .reason-number .ensures)))

@@ -1,0 +1,2 @@
+-- The proofs of the statements.
+pub mod Paper

@@ -1,0 +1,2 @@
+-- The statements over the promises of several calls.
+pub mod Paper
