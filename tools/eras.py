@@ -22,6 +22,8 @@ stands in the answer as that term's day and parts (`unrounded`). No term rounds 
 
 term-step and year-step (the days and parts that a term, or so many years, add): the term so far from the origin, which has day 0 and
 parts 0. The same in parts alone, before 004 divides them by 32 (B08, J19, K17), is a step of the sum, and out.
+parts-gone (the terms after which the parts come out at nought, as a count of mid-terms): a mid-term is 974 parts, so that the count says
+on which day and part it comes.
 
 A mark `-` of a month is `ordinary` where the month's number is stated, and else not stated: here `leap=no` and `leap=-`.
 
@@ -79,6 +81,7 @@ IN = {
     "term12": "day twelfths",
     "term-step": "days parts",
     "year-step": "days parts",
+    "parts-gone": "mid-terms",
     "midterm-month": "number",
     "reading": "exists",
     "eclipse-count": "eclipse-months",
@@ -113,7 +116,7 @@ HEADING = [
     "the days of month-step are less whole sixties, one less than the name;",
     "the day and twelfths of term12 are the day and parts rounded to whole twelfths, 12 of which are a day more:",
     "of the days and parts that round so, the answer is that which whole terms make, of 487 parts each;",
-    "the days of year-step are less whole sixties, 360 a year;",
+    "the days of year-step are less whole sixties, 360 a year; the mid-terms of parts-gone are of 974 parts each;",
     "the conjunctions of planet-count are one less than the next k, and 1 of its remainder is 1,461 parts of the divisor,",
     "from the last conjunction to the end of the year.",
 ]
@@ -137,6 +140,7 @@ NAMED = {
     "divmod(168,32)": ("year-step", "years=1"),
     "divmod(2856,32)": ("year-step", "years=17"),
     "divmod(61*168,32)": ("year-step", "years=61"),
+    "7*32//7//2": ("parts-gone", "terms=32"),
     "civil 9368..9460": ("eclipse-count", "first-civil=9368 last-civil=9460"),
     "remainder r of a month: previous and this both big": ("big-pair", "months=941"),
     "343335*e-1461*r == 27759*n, e<41040": ("first-day-identity", "years=41040"),
@@ -273,6 +277,16 @@ class Asked:
     def year_step(self, years):
         """Days less whole sixties, six for each year."""
         return [f"TERM {years + 1} 0"], [at(0, "day", plus(360 * years)), at(0, "parts")]
+
+    def parts_gone(self, terms):
+        """After so many terms no parts are left (餘分盡); 004 counts the mid-terms among them, and the last one's day and parts follow."""
+        last = {
+            "day": lambda mid_terms: str(974 * int(mid_terms) // 32),
+            "parts": lambda mid_terms: str(974 * int(mid_terms) % 32),
+        }
+        query = f"TERM {terms // 24 + 1} {terms % 24}"
+        assert self.told(query, "parts") == 0
+        return [query], [(0, last)]
 
     def midterm_month(self, k):
         return self.term(1, k)[0], [at(1, "number")]

@@ -3,12 +3,15 @@ use Prim.Native.Nat.{ℕ, _+_, _-_, _*_, _/_, _%_, _≤_, _<_}
 use native.Mathlib.Omega.{arith}
 use mathlib.Core.Path.{_≡_, refl, ap, sym, _∙_, subst}
 use mathlib.Core.Logic.{_↔_}
+use lib.Dec.{leb}
 use mathlib.Core.Bool.{Bool, true, false, false≢true}
-use Rattle.rule.specs.Counts.{YearInRange, MonthInRange}
-use Rattle.rule.specs.Rule.{InMonth, monthOfDay, termDay, yearTerm, midTermDay, InYear, leap, marked}
+use Rattle.rule.specs.Counts.{YearInRange, DayInRange, MonthInRange}
+use Rattle.rule.specs.Rule.{InMonth, termDay, yearTerm, midTermDay, InYear, leap, marked}
+use Rattle.rule.specs.Reasons.{is, within}
 use Rattle.rule.specs.Paper.{MidTerm, NoMidTerm, Numbered, IsMonth}
 use Rattle.rule.specs.declared.Month.{Month}
 use Rattle.rule.specs.declared.Month.the-variants.{Ordinary, Leap}
+use Rattle.rule.proofs.Answers.{within-true, at-most}
 use Rattle.rule.proofs.Months.{of-day, of-day-range, start-end}
 use Rattle.rule.proofs.Terms.{year-mid-term}
 use Rattle.rule.proofs.Years.{of-month, of-month-range}
@@ -21,13 +24,11 @@ use Rattle.dates.specs.Promises.{DateOfDay, DayOfDate}
 use Rattle.dates.specs.Paper.{IsDate, IsDayOf}
 use Rattle.dates.proofs.Named.{last-leap, month-in-range}
 use Rattle.dates.proofs.Paper as Dates
-use Rattle.facts.specs.declared.TermTold.{TermTold}
-use Rattle.facts.specs.Facts.{termOf}
-use Rattle.facts.specs.Promises.{saidTerm}
-use Rattle.facts.proofs.Given.{term-given}
+use Rattle.facts.specs.Paper.{termBefore}
+use Rattle.facts.proofs.Given.{two-literally}
 use Rattle.facts.proofs.Paper as Facts
 use Rattle.agreed.specs.Paper as Paper
-use Rattle.agreed.specs.Paper.{TermsTold, FallsIn, HoldsOne, MonthByTerms, DayByTerms}
+use Rattle.agreed.specs.Paper.{FallsIn, HoldsOne, MonthByTerms, DateByTerms, DayByTerms, DatesBy}
 
 -- month n holds mid-term 2j of year y: it is ordinary, and of that year
 module _ (y j n : ℕ) (l : 1 ≤ y) (b : j < 12) (h : InMonth n (termDay (yearTerm y (2 * j)))) where
@@ -46,152 +47,158 @@ module _ (y j n : ℕ) (l : 1 ≤ y) (b : j < 12) (h : InMonth n (termDay (yearT
 in-its-year : (t : ℕ) → MidTerm t → yearTerm (t / 24 + 1) (2 * (t % 24 / 2)) ≡ t
 in-its-year t e = omega arith
 
-module _ (told : ℕ → ℕ → TermTold) (h : TermsTold told) where
-  -- what is told of a term is its day, and it is told in range
-  falls : (y j n : ℕ) → FallsIn told y j n ↔ (YearInRange y × (j < 12) × InMonth n (termDay (yearTerm y (2 * j))))
-  unfolding termOf
-  falls y j n = (there, back)
+-- mid-term 2j of year y falls in month n: what was answered before W2 is its day, in range
+module _ (y j n : ℕ) where
+  abbrev There : Type 0
+  There = YearInRange y × (j < 12) × InMonth n (termDay (yearTerm y (2 * j)))
+
+  given : (d : ℕ) → (is d ≡ termBefore y (2 * j)) ↔ (YearInRange y × (2 * j ≤ 23) × (termDay (yearTerm y (2 * j)) ≡ d))
+  unfolding termDay
+  given d =
+      two-literally (within 1 41040 y) (leb (2 * j) 23) 1 15 (omega arith) (termDay (yearTerm y (2 * j))) (within-true 1 41040 y) (at-most (2 * j) 23) _ d
+      (λ h. (λ e. e, λ e. e))
+
+  falls : FallsIn termBefore y j n ↔ There
+  falls = (there, back)
     where
-      there : FallsIn told y j n → YearInRange y × (j < 12) × InMonth n (termDay (yearTerm y (2 * j)))
+      there : FallsIn termBefore y j n → There
       there f =
-          let g = Facts.term-of-year y (2 * j) (f .term) .0 (sym (ap saidTerm (f .is-told)) ∙ h y (2 * j)) in
-          let e = Rule.one-pair-a-term (yearTerm y (2 * j)) (f .term .day) (f .term .parts) .0 (g .2) .0 in
-          (g .0, omega (arith, g .1), (omega (arith, e, f .on-its-days), omega (arith, e, f .on-its-days)))
+          let (r, b, e) = given (f .day) .0 (sym (f .answered)) in
+          (r, omega (arith, b), (omega (arith, e, f .on-its-days), omega (arith, e, f .on-its-days)))
 
-      back : YearInRange y × (j < 12) × InMonth n (termDay (yearTerm y (2 * j))) → FallsIn told y j n
-      back g =
+      back : There → FallsIn termBefore y j n
+      back (r, b, on) =
+          record { day = termDay (yearTerm y (2 * j)); answered = sym (given _ .1 (r, omega (arith, b), refl)); on-its-days = on }
+
+-- an ordinary month
+ordinary-told : (y n k : ℕ) → (YearInRange y × InYear y n × Numbered n k) ↔ HoldsOne termBefore y n k
+ordinary-told y n k = (there, back)
+  where
+    there : YearInRange y × InYear y n × Numbered n k → HoldsOne termBefore y n k
+    there (r, i, a) =
+        let own = holding-year (a .year) (a .j) n (a .year-from-1) (a .one-of-twelve) (a .holds) in
+        let e : a .year ≡ y = sym (of-month (a .year) n .0 own) ∙ of-month y n .0 i in
+        record {
+          j = a .j;
+          falls = falls y (a .j) n .1 (r, a .one-of-twelve, subst (λ z. InMonth n (termDay (yearTerm z (2 * a .j)))) e (a .holds));
+          number = a .number;
+        }
+
+    back : HoldsOne termBefore y n k → YearInRange y × InYear y n × Numbered n k
+    back a =
+        let f = falls y (a .j) n .0 (a .falls) in (
+          f .0,
+          holding-year y (a .j) n (f .0 .0) (f .1) (f .2),
+          record { year = y; j = a .j; year-from-1 = f .0 .0; one-of-twelve = f .1; holds = f .2; number = a .number },
+        )
+
+-- a leap month: the month before it holds one, so that it is in the range, and so is every mid-term on its days
+module _ (y n k : ℕ) (p : 1 ≤ n) (a : HoldsOne termBefore y (n - 1) k) where
+  before : YearInRange y × InYear y (n - 1) × Numbered (n - 1) k
+  before = ordinary-told y (n - 1) k .1 a
+
+  not-last : n ≤ 507599
+  not-last = omega (arith, month-in-range y (n - 1) (before .0) (before .1), no)
+    where
+      no : ¬ (n - 1 ≡ 507599)
+      no e =
+          let f = falls y (a .j) (n - 1) .0 (a .falls) in
+          let o : leap (n - 1) ≡ false = holding-ordinary y (a .j) (n - 1) (f .0 .0) (f .1) (f .2) in
+          false≢true (sym o ∙ ap leap e ∙ last-leap)
+
+  none-falls : ((z j : ℕ) → FallsIn termBefore z j n → ⊥) → NoMidTerm n
+  unfolding termDay
+  none-falls none t d even on e =
+      let day : termDay (yearTerm (t / 24 + 1) (2 * (t % 24 / 2))) ≡ d = ap termDay (in-its-year t even) ∙ e in
+      let range : YearInRange (t / 24 + 1) = omega (arith, e, on, start-end (n + 1) (omega (arith, not-last))) in
+      none (t / 24 + 1) (t % 24 / 2) (falls (t / 24 + 1) (t % 24 / 2) n .1 (range, omega arith, (omega (arith, on, day), omega (arith, on, day))))
+
+leap-told : (y n k : ℕ) → (YearInRange y × InYear y n × IsMonth n (Leap k)) ↔ MonthByTerms termBefore y n (Leap k)
+leap-told y n k = (there, back)
+  where
+    there : YearInRange y × InYear y n × IsMonth n (Leap k) → MonthByTerms termBefore y n (Leap k)
+    there (r, i, m) =
+        let same = after-namesake y n i (Rule.leap-without-mid-term n .1 (m .1)) in (
+          m .0,
+          λ z j f.
+              let g = falls z j n .0 f in
+              m .1 (yearTerm z (2 * j)) _ (omega arith) (g .2) refl,
+          ordinary-told y (n - 1) k .0 (r, same .same-year, m .2),
+        )
+
+    back : MonthByTerms termBefore y n (Leap k) → YearInRange y × InYear y n × IsMonth n (Leap k)
+    back (p, none, a) =
+        let b = before y n k p a in
+        let bare = none-falls y n k p a none in
+        let e : n - 1 + 1 ≡ n = omega (arith, p) in
+        let l : leap (n - 1 + 1) ≡ true = ap leap e ∙ Rule.leap-without-mid-term n .1 bare in
+        (b .0, subst (InYear y) e (leap-follows y (n - 1) (b .1) l), (p, bare, b .2))
+
+month-told : (y : ℕ) (m : Month) (n : ℕ) → (YearInRange y × InYear y n × IsMonth n m) ↔ MonthByTerms termBefore y n m
+month-told y (Ordinary k) n = ordinary-told y n k
+month-told y (Leap k) n = leap-told y n k
+
+-- the date of a day
+date-told : (d : ℕ) (r : Date) → DateOfDay d (Dated'.Is r) ↔ DateByTerms termBefore d r
+date-told d r = (λ p. there (Dates.date-of-day d r .0 p), λ a. Dates.date-of-day d r .1 (back a))
+  where
+    there : DayInRange d × IsDate d r → DateByTerms termBefore d r
+    there (h, i) =
+        let month : MonthInRange (i .n) = omega (arith, of-day (i .n) d .0 (i .on-its-days), of-day-range d .0 h) in
+        let year : YearInRange (r .year) = subst YearInRange (of-month (r .year) (i .n) .0 (i .of-its-year)) (of-month-range (i .n) .0 month) in
+        record {
+          n = i .n;
+          on-its-days = i .on-its-days;
+          its-month = month-told (r .year) (r .month) (i .n) .0 (year, i .of-its-year, i .its-month);
+          its-day = i .its-day;
+          its-length = i .its-length;
+          its-day-name = i .its-day-name;
+          its-year-name = i .its-year-name;
+        }
+
+    back : DateByTerms termBefore d r → DayInRange d × IsDate d r
+    back a =
+        let (year, in-year, month) = month-told (r .year) (r .month) (a .n) .1 (a .its-month) in
+        let end = start-end (a .n + 1) (omega (arith, month-in-range (r .year) (a .n) year in-year)) in (
+          omega (arith, end, a .on-its-days),
           record {
-            term = termOf y (2 * j);
-            is-told = Facts.unique-facts .term y (2 * j) (told y (2 * j)) _ (h y (2 * j)) (sym (term-given y (2 * j) (g .0) (omega (arith, g .1))));
-            on-its-days = g .2;
-          }
+            n = a .n;
+            on-its-days = a .on-its-days;
+            of-its-year = in-year;
+            its-month = month;
+            its-day = a .its-day;
+            its-length = a .its-length;
+            its-day-name = a .its-day-name;
+            its-year-name = a .its-year-name;
+          },
+        )
 
-  -- an ordinary month
-  ordinary-told : (y n k : ℕ) → (YearInRange y × InYear y n × Numbered n k) ↔ HoldsOne told y n k
-  ordinary-told y n k = (there, back)
-    where
-      there : YearInRange y × InYear y n × Numbered n k → HoldsOne told y n k
-      there (r, i, a) =
-          let own = holding-year (a .year) (a .j) n (a .year-from-1) (a .one-of-twelve) (a .holds) in
-          let e : a .year ≡ y = sym (of-month (a .year) n .0 own) ∙ of-month y n .0 i in
-          record {
-            j = a .j;
-            falls = falls y (a .j) n .1 (r, a .one-of-twelve, subst (λ z. InMonth n (termDay (yearTerm z (2 * a .j)))) e (a .holds));
-            number = a .number;
-          }
+-- the day of a date
+day-told : (y k : ℕ) (l : Bool) (m d : ℕ) → DayOfDate y k l m (DayTold'.Is d) ↔ DayByTerms termBefore y k l m d
+day-told y k l m d = (λ p. there (Dates.day-of-date y k l m d .0 p), λ a. Dates.day-of-date y k l m d .1 (back a))
+  where
+    there : IsDayOf y k l m d → DayByTerms termBefore y k l m d
+    there i =
+        record {
+          n = i .n;
+          the-month = month-told y (marked l k) (i .n) .0 (i .year, i .of-the-year, i .the-month);
+          the-day = i .the-day;
+          counted = i .counted;
+        }
 
-      back : HoldsOne told y n k → YearInRange y × InYear y n × Numbered n k
-      back a =
-          let f = falls y (a .j) n .0 (a .falls) in (
-            f .0,
-            holding-year y (a .j) n (f .0 .0) (f .1) (f .2),
-            record { year = y; j = a .j; year-from-1 = f .0 .0; one-of-twelve = f .1; holds = f .2; number = a .number },
-          )
+    back : DayByTerms termBefore y k l m d → IsDayOf y k l m d
+    back a =
+        let b = month-told y (marked l k) (a .n) .1 (a .the-month) in
+        record { year = b .0; n = a .n; of-the-year = b .1; the-month = b .2; the-day = a .the-day; counted = a .counted }
 
-  -- a leap month: the month before it holds one, so that it is in the range, and so is every mid-term on its days
-  module _ (y n k : ℕ) (p : 1 ≤ n) (a : HoldsOne told y (n - 1) k) where
-    before : YearInRange y × InYear y (n - 1) × Numbered (n - 1) k
-    before = ordinary-told y (n - 1) k .1 a
-
-    not-last : n ≤ 507599
-    not-last = omega (arith, month-in-range y (n - 1) (before .0) (before .1), no)
-      where
-        no : ¬ (n - 1 ≡ 507599)
-        no e =
-            let f = falls y (a .j) (n - 1) .0 (a .falls) in
-            let o : leap (n - 1) ≡ false = holding-ordinary y (a .j) (n - 1) (f .0 .0) (f .1) (f .2) in
-            false≢true (sym o ∙ ap leap e ∙ last-leap)
-
-    none-falls : ((z j : ℕ) → FallsIn told z j n → ⊥) → NoMidTerm n
-    unfolding termDay
-    none-falls none t d even on e =
-        let day : termDay (yearTerm (t / 24 + 1) (2 * (t % 24 / 2))) ≡ d = ap termDay (in-its-year t even) ∙ e in
-        let range : YearInRange (t / 24 + 1) = omega (arith, e, on, start-end (n + 1) (omega (arith, not-last))) in
-        none (t / 24 + 1) (t % 24 / 2) (falls (t / 24 + 1) (t % 24 / 2) n .1 (range, omega arith, (omega (arith, on, day), omega (arith, on, day))))
-
-  leap-told : (y n k : ℕ) → (YearInRange y × InYear y n × IsMonth n (Leap k)) ↔ MonthByTerms told y n (Leap k)
-  leap-told y n k = (there, back)
-    where
-      there : YearInRange y × InYear y n × IsMonth n (Leap k) → MonthByTerms told y n (Leap k)
-      there (r, i, m) =
-          let same = after-namesake y n i (Rule.leap-without-mid-term n .1 (m .1)) in (
-            m .0,
-            λ z j f.
-                let g = falls z j n .0 f in
-                m .1 (yearTerm z (2 * j)) _ (omega arith) (g .2) refl,
-            ordinary-told y (n - 1) k .0 (r, same .same-year, m .2),
-          )
-
-      back : MonthByTerms told y n (Leap k) → YearInRange y × InYear y n × IsMonth n (Leap k)
-      back (p, none, a) =
-          let b = before y n k p a in
-          let bare = none-falls y n k p a none in
-          let e : n - 1 + 1 ≡ n = omega (arith, p) in
-          let l : leap (n - 1 + 1) ≡ true = ap leap e ∙ Rule.leap-without-mid-term n .1 bare in
-          (b .0, subst (InYear y) e (leap-follows y (n - 1) (b .1) l), (p, bare, b .2))
-
-  month-told : (y : ℕ) (m : Month) (n : ℕ) → (YearInRange y × InYear y n × IsMonth n m) ↔ MonthByTerms told y n m
-  month-told y (Ordinary k) n = ordinary-told y n k
-  month-told y (Leap k) n = leap-told y n k
-
-  -- the date of a day of month n has the month's year, number and mark
-  date-told : (d n : ℕ) (r : Date) → DateOfDay d (Dated'.Is r) → InMonth n d →
-      (y : ℕ) (m : Month) → ((r .year ≡ y) × (r .month ≡ m)) ↔ MonthByTerms told y n m
-  date-told d n r p on y m = (there, back)
-    where
-      its : IsDate d r
-      its = Dates.date-of-day d r .0 p .1
-
-      same : its .n ≡ n
-      same = sym (of-day (its .n) d .0 (its .on-its-days)) ∙ of-day n d .0 on
-
-      in-year : InYear (r .year) n
-      in-year = subst (InYear (r .year)) same (its .of-its-year)
-
-      month : IsMonth n (r .month)
-      month = subst (λ i. IsMonth i (r .month)) same (its .its-month)
-
-      range : YearInRange (r .year)
-      range =
-          let days : MonthInRange (monthOfDay d) = of-day-range d .0 (Dates.date-of-day d r .0 p .0) in
-          subst YearInRange (of-month (r .year) n .0 in-year) (of-month-range n .0 (omega (arith, of-day n d .0 on, days)))
-
-      there : (r .year ≡ y) × (r .month ≡ m) → MonthByTerms told y n m
-      there (e, f) = month-told y m n .0 (subst YearInRange e range, subst (λ z. InYear z n) e in-year, subst (IsMonth n) f month)
-
-      back : MonthByTerms told y n m → (r .year ≡ y) × (r .month ≡ m)
-      back a =
-          let b = month-told y m n .1 a in (
-            sym (of-month (r .year) n .0 in-year) ∙ of-month y n .0 (b .1),
-            sym (Rule.month-literally n (r .month) .1 month) ∙ Rule.month-literally n m .1 (b .2),
-          )
-
-  -- the day of a date
-  day-told : (y k : ℕ) (l : Bool) (m d : ℕ) → DayOfDate y k l m (DayTold'.Is d) ↔ DayByTerms told y k l m d
-  day-told y k l m d = (λ p. there (Dates.day-of-date y k l m d .0 p), λ a. Dates.day-of-date y k l m d .1 (back a))
-    where
-      there : IsDayOf y k l m d → DayByTerms told y k l m d
-      there i =
-          record {
-            n = i .n;
-            the-month = month-told y (marked l k) (i .n) .0 (i .year, i .of-the-year, i .the-month);
-            the-day = i .the-day;
-            counted = i .counted;
-          }
-
-      back : DayByTerms told y k l m d → IsDayOf y k l m d
-      back a =
-          let b = month-told y (marked l k) (a .n) .1 (a .the-month) in
-          record { year = b .0; n = a .n; of-the-year = b .1; the-month = b .2; the-day = a .the-day; counted = a .counted }
-
-pub dates-by-terms : Paper.Dates-by-terms
-dates-by-terms told h =
+pub dates-as-before : Paper.Dates-as-before
+dates-as-before =
     record {
-      dates = date-told told h;
-      days = day-told told h;
+      dates = date-told;
+      days = day-told;
       four = λ y k l m.
           let r = Dates.reasons-of-a-date y k l m .four in
-          let by = month-told told h y (Leap k) in (
+          let by = month-told y (Leap k) in (
             λ p.
                 let (a, (b, (c, (e, none)))) = r .0 p in
                 (a, (b, (c, (e, λ w. none (w .0, by (w .0) .1 (w .1) .1, by (w .0) .1 (w .1) .2))))),
@@ -199,8 +206,11 @@ dates-by-terms told h =
           );
       five = λ y k l m.
           let r = Dates.reasons-of-a-date y k l m .five in
-          let by = month-told told h y (marked l k) in (
+          let by = month-told y (marked l k) in (
             λ p. let (a, (b, w)) = r .0 p in (b, (w .0, by (w .0) .0 (a, w .1, w .2), w .3, w .4)),
             λ q. let (b, w) = q in let g = by (w .0) .1 (w .1) in r .1 (g .0, (b, (w .0, g .1, g .2, w .2, w .3))),
           );
     }
+
+pub dates-by-terms : Paper.Dates-by-terms
+dates-by-terms told h = subst DatesBy (sym (λ i y k. Facts.term-as-before y k (told y k) (h y k) i)) dates-as-before

@@ -43,8 +43,8 @@ pub fn date_at(day: u32) -> Date
     let last = rule::last_mid_term(start + length);
     let its = rule::year_and_number(last);
     let year = its.year;
-    let mid = rule::term_of(2 * last);
-    let leap = mid.day < start;
+    let term = rule::term_of(2 * last);
+    let leap = term.day < start;
     Date {
         month: rule::marked(leap, its.number),
         year: year,

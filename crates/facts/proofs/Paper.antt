@@ -1,5 +1,5 @@
 -- What the paper says of these answers, proved, each statement under its name in small letters. Assumes nothing.
-use Prim.Native.Nat.{ℕ, _*_}
+use Prim.Native.Nat.{ℕ, _+_, _-_, _*_}
 use native.Mathlib.Omega.{arith}
 use mathlib.Core.Path.{_≡_, refl, ap, sym, _∙_}
 use mathlib.Core.Bool.{Bool, true, false, false≢true}
@@ -168,9 +168,9 @@ term-as-before y k a p =
 
 pub mid-term-even : Paper.Mid-term-even
 mid-term-even y j r p =
-    let g = term-of-year y (2 * j) r .0 p in
-    let t = yearTerm y (2 * j) in
-    omega (arith, Rule.one-pair-a-term t (r .day) (r .parts) .0 (g .2) .1, Rule.mid-term-parts t (omega arith))
+    let g = term-of-year y (2 * j) r .0 p .2 .falls in
+    let e : r .parts ≡ 2 * (487 * (12 * (y - 1) + j) - 16 * r .day) = omega (arith, g) in
+    omega (arith, e)
 
 -- one answer for two inputs at which some number of what is given differs
 differ : {A E : Type 0} (said : E → Answer A) (f : A → ℕ) (a : E) (x y : A) → (f x ≡ f y → ⊥) → said a ≡ is x → said a ≡ is y → ⊥

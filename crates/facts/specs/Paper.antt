@@ -103,7 +103,7 @@ abbrev pub termBefore : ℕ → ℕ → Answer ℕ
 termBefore y k = guard (within 1 41040 y) 1 (guard (leb k 23) 15 (is (487 * (24 * (y - 1) + k) / 32)))
 
 -- "Everything that asks for a term now receives both and must be shown unchanged in what it answers. Refusals stay." (W2): the answer
--- without its parts is what it was, for every input; the crate `agreed` has the same of dates
+-- without its parts is what it was, for every input; of dates the crate `agreed` says it, Dates-as-before
 abbrev pub Term-as-before : Type 0
 Term-as-before = (y k : ℕ) (a : TermTold) → TermOfYear y k a → andThen (saidTerm a) (λ r. is (r .day)) ≡ termBefore y k
 

@@ -1,7 +1,7 @@
 -- Proofs of the statements about the calls for C. Assumes nothing.
 use Prim.Native.Nat.{ℕ, _<_}
 use native.Mathlib.Omega.{arith}
-use mathlib.Core.Path.{_≡_, refl, ap, sym, _∙_}
+use mathlib.Core.Path.{_≡_, refl, ap, sym, _∙_, subst}
 use mathlib.Core.Logic.{_↔_, _≢_}
 use mathlib.Core.Bool.{Bool, true, false, _&&_}
 use mathlib.Core.List.{List}
@@ -20,6 +20,8 @@ use Rattle.moves.specs.Moves.{moved}
 use Rattle.facts.specs.declared.SolsticeYearTold.the-variants as Solstice'
 use Rattle.facts.specs.declared.YearTold.the-variants as Year'
 use Rattle.facts.specs.declared.MonthTold.the-variants as Month'
+use Rattle.rule.specs.Rule.{yearTerm}
+use Rattle.rule.specs.Paper.{IsTerm}
 use Rattle.rule.specs.declared.Term.{Term}
 use Rattle.facts.specs.declared.QuarterTold.the-variants as Quarter'
 use Rattle.facts.specs.declared.TermTold.the-variants as Term'
@@ -419,6 +421,11 @@ says-what-the-call-says =
     date-said :
         {a : Answer Date} → Sound a → (r : CDate) → (r ≡ flatDate a) ↔ ((e : Dated) × (saidDate e ≡ a) × (r ≡ flatDate (saidDate e)))
     date-said = as-said saidDate Dated'.Is Dated'.Refused (λ x. refl) (λ w. refl) flatDate
+
+pub c-term : Paper.C-term
+c-term y k r p e =
+    let (x, t, f) = reason-0-iff-answered .term y k r p .0 e in
+    subst (λ (c : CTerm). IsTerm (yearTerm y k) (c .day) (c .parts)) (sym f) (Facts.term-of-year y k x .0 t .2)
 
 pub c-term-as-before : Paper.C-term-as-before
 c-term-as-before y k r p =

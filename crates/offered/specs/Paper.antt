@@ -1,6 +1,6 @@
 -- What holds of the calls for C, as statements. proofs/Paper.antt proves each under the same name in small letters.
 -- Assumes nothing.
-use Prim.Native.Nat.{ℕ, _+_, _≤_}
+use Prim.Native.Nat.{ℕ, _+_, _-_, _*_, _≤_}
 use mathlib.Core.Path.{_≡_}
 use mathlib.Core.Logic.{_↔_, _≢_}
 use mathlib.Core.Bool.{Bool, true, false}
@@ -8,6 +8,7 @@ use mathlib.Core.List.{List, [], _∷_}
 use lib.IntN.{ℤ, pos}
 use lib.ListN.{length, getD, replicate}
 use Rattle.rule.specs.Reasons.{is}
+use Rattle.rule.specs.Paper.{IsTerm}
 use Rattle.rule.specs.declared.Quarter.{Quarter}
 use Rattle.rule.specs.declared.Term.{Term}
 use Rattle.dates.specs.declared.Date.{Date}
@@ -242,7 +243,11 @@ pub record Says-what-the-call-says : Type 0 where
   pub print-month : PrintSaid CPrintMonth PrintMonth
   pub print-day : PrintSaid CPrintDay PrintDay
 
--- W2: reason and day of a term are what the call for C gave when it gave the day alone
+-- W2: where a term is answered, day and parts are the one pair
+abbrev pub C-term : Type 0
+C-term = (y k : ℕ) (r : CTerm) → CTermOf y k r → r .reason ≡ 0 → IsTerm (24 * (y - 1) + k) (r .day) (r .parts)
+
+-- reason and day of a term are what the call for C gave when it gave the day alone
 abbrev pub C-term-as-before : Type 0
 C-term-as-before = (y k : ℕ) (r : CTerm) → CTermOf y k r → flatDay (termBefore y k) ≡ record { reason = r .reason; day = r .day }
 
