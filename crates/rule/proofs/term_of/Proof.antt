@@ -1,4 +1,5 @@
 -- `rule::term_of` meets its contract: the two formulas themselves. Assumes nothing.
+use mathlib.Core.Path.{refl}
 use Rattle.rule.specs.Rule.{termDay, termParts}
 use borrow.Author.Needs.{needs}
 use Rattle.rule.proofs.term_of.Statement.{statement}
@@ -6,7 +7,7 @@ use Rattle.rule.proofs.term_of.Tie as tie
 
 returns : tie.Need-returns
 unfolding termDay termParts
-returns c = search needs
+returns c = (refl, refl)
 
 pub term-of-spec : {M : Type 1} → statement M
 term-of-spec = tie.close (tie.spec (λ c. search needs) (λ c. search needs) returns)
