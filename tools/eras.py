@@ -110,7 +110,7 @@ planet-gcd planet-parts planet-long-days planet-long-circle planet-mornings""".s
 CLASSES = ["MISPRINT(numeral)", "MISPRINT(scan gap/interleave)", "SOURCE-DATE"]
 HEADING = [
     "FIGURES OF 004: the row's name, 004's lines (L), kind and inputs, what 004 prints, and its words where there is room.",
-    "- is not stated in 004.",
+    "- is not stated in 004, ? is lost in its print.",
     "Where a figure is not the answer's own: elapsed years are one less than the year in the bu;",
     "the days of bu-month and planet-in-month are counted from the first day of the first month that is asked;",
     "the days of month-step are less whole sixties, one less than the name;",

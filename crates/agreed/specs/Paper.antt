@@ -73,7 +73,8 @@ pub record DatesBy (term : ℕ → ℕ → Answer ℕ) : Type 0 where
       DayOfDate y k l m (DayTold'.Refused NoThirtiethDay)
       ↔ (NumberInRange k × ((n : ℕ) × MonthByTerms term y n (marked l k) × (monthLength n ≡ 29) × (m ≡ 30)))
 
--- dates are as before: by what was answered as a term's day before W2
+-- dates are as before in all that a term decides: by what was answered as a term's day before W2 (starts, lengths and names are rule's own
+-- definitions, which ask for no term)
 abbrev pub Dates-as-before : Type 0
 Dates-as-before = DatesBy termBefore
 

@@ -206,6 +206,7 @@ wrong-facts =
           (p ∙ term-given 1 0 (omega arith) (omega arith))
           (q ∙ term-given 1 1 (omega arith) (omega arith));
       term-other-divisor = λ r p e. omega (arith, ap (λ (t : Term). t .parts) (near-midnight r p));
+      term-by-mid-terms = λ r p e. omega (arith, ap (λ (t : Term). t .parts) (near-midnight r p));
       term-after = λ r p e. omega (arith, ap (λ (t : Term). t .parts) (near-midnight r p));
     }
   where

@@ -148,8 +148,9 @@ pub record Unique-facts : Type 0 where
   pub quarter : (n q : ℕ) (a b : QuarterTold) → QuarterOfMonth n q a → QuarterOfMonth n q b → a ≡ b
   pub term : (y k : ℕ) (a b : TermTold) → TermOfYear y k a → TermOfYear y k b → a ≡ b
 
--- wrong versions, each shut out at a named input: of each call one that refuses all, and one fixed answer; the remainder of another
--- divisor, 16, by which a mid-term counted among mid-terms is divided, and the remainder of the term after (day 15,857 and 30 parts)
+-- wrong versions, each shut out at a named input: of each call one that refuses all, and one fixed answer; and at year 44, term 10, which is
+-- day 15,857 and 30 parts: the remainder of another divisor, 487 × t by 16 (14 parts) or, counted among mid-terms, 487 × m by 16 (15);
+-- the remainder of the term after (5)
 pub record Wrong-facts : Type 0 where
   pub solstice-year-refused : (why : Reason) → SolsticeYearFacts 1 (Solstice'.Refused why) → ⊥
   pub year-refused : (why : Reason) → YearOwnFacts 11 (Year'.Refused why) → ⊥
@@ -162,6 +163,7 @@ pub record Wrong-facts : Type 0 where
   pub quarter-fixed : (a : QuarterTold) → QuarterOfMonth 0 0 a → QuarterOfMonth 0 1 a → ⊥
   pub term-fixed : (a : TermTold) → TermOfYear 1 0 a → TermOfYear 1 1 a → ⊥
   pub term-other-divisor : (r : Term) → TermOfYear 44 10 (Term'.Is r) → r .parts ≡ 487 * (24 * 43 + 10) % 16 → ⊥
+  pub term-by-mid-terms : (r : Term) → TermOfYear 44 10 (Term'.Is r) → r .parts ≡ 487 * (12 * 43 + 5) % 16 → ⊥
   pub term-after : (r : Term) → TermOfYear 44 10 (Term'.Is r) → r .parts ≡ 487 * (24 * 43 + 11) % 32 → ⊥
 
 -- and those of "What would mislead the desk":
