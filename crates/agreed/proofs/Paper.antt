@@ -5,8 +5,8 @@ use mathlib.Core.Path.{_≡_, refl, ap, sym, _∙_, subst}
 use mathlib.Core.Logic.{_↔_}
 use lib.Dec.{leb}
 use mathlib.Core.Bool.{Bool, true, false, false≢true}
-use Rattle.rule.specs.Counts.{YearInRange, DayInRange, MonthInRange}
-use Rattle.rule.specs.Rule.{InMonth, termDay, yearTerm, midTermDay, InYear, leap, marked}
+use Rattle.rule.specs.Counts.{CivilYearInRange, DayInRange, MonthInRange}
+use Rattle.rule.specs.Rule.{InMonth, termDay, yearTerm, midTermDay, InCivilYear, leap, marked}
 use Rattle.rule.specs.Reasons.{is, within}
 use Rattle.rule.specs.Paper.{MidTerm, NoMidTerm, Numbered, IsMonth}
 use Rattle.rule.specs.declared.Month.{Month}
@@ -38,7 +38,7 @@ module _ (y j n : ℕ) (l : 1 ≤ y) (b : j < 12) (h : InMonth n (termDay (yearT
   holding-ordinary : leap n ≡ false
   holding-ordinary = rises-ordinary n (omega (arith, holds-next n (12 * (y - 1) + j) mid))
 
-  holding-year : InYear y n
+  holding-year : InCivilYear y n
   holding-year =
       let m = holds-next n (12 * (y - 1) + j) mid in
       ordinary-year y n l holding-ordinary (omega (arith, m)) (omega (arith, m))
@@ -50,9 +50,9 @@ in-its-year t e = omega arith
 -- mid-term 2j of year y falls in month n: what was answered before W2 is its day, in range
 module _ (y j n : ℕ) where
   abbrev There : Type 0
-  There = YearInRange y × (j < 12) × InMonth n (termDay (yearTerm y (2 * j)))
+  There = CivilYearInRange y × (j < 12) × InMonth n (termDay (yearTerm y (2 * j)))
 
-  given : (d : ℕ) → (is d ≡ termBefore y (2 * j)) ↔ (YearInRange y × (2 * j ≤ 23) × (termDay (yearTerm y (2 * j)) ≡ d))
+  given : (d : ℕ) → (is d ≡ termBefore y (2 * j)) ↔ (CivilYearInRange y × (2 * j ≤ 23) × (termDay (yearTerm y (2 * j)) ≡ d))
   unfolding termDay
   given d =
       two-literally (within 1 41040 y) (leb (2 * j) 23) 1 15 (omega arith) (termDay (yearTerm y (2 * j))) (within-true 1 41040 y) (at-most (2 * j) 23) _ d
@@ -71,10 +71,10 @@ module _ (y j n : ℕ) where
           record { day = termDay (yearTerm y (2 * j)); answered = sym (given _ .1 (r, omega (arith, b), refl)); on-its-days = on }
 
 -- an ordinary month
-ordinary-told : (y n k : ℕ) → (YearInRange y × InYear y n × Numbered n k) ↔ HoldsOne termBefore y n k
+ordinary-told : (y n k : ℕ) → (CivilYearInRange y × InCivilYear y n × Numbered n k) ↔ HoldsOne termBefore y n k
 ordinary-told y n k = (there, back)
   where
-    there : YearInRange y × InYear y n × Numbered n k → HoldsOne termBefore y n k
+    there : CivilYearInRange y × InCivilYear y n × Numbered n k → HoldsOne termBefore y n k
     there (r, i, a) =
         let own = holding-year (a .year) (a .j) n (a .year-from-1) (a .one-of-twelve) (a .holds) in
         let e : a .year ≡ y = sym (of-month (a .year) n .0 own) ∙ of-month y n .0 i in
@@ -84,7 +84,7 @@ ordinary-told y n k = (there, back)
           number = a .number;
         }
 
-    back : HoldsOne termBefore y n k → YearInRange y × InYear y n × Numbered n k
+    back : HoldsOne termBefore y n k → CivilYearInRange y × InCivilYear y n × Numbered n k
     back a =
         let f = falls y (a .j) n .0 (a .falls) in (
           f .0,
@@ -94,7 +94,7 @@ ordinary-told y n k = (there, back)
 
 -- a leap month: the month before it holds one, so that it is in the range, and so is every mid-term on its days
 module _ (y n k : ℕ) (p : 1 ≤ n) (a : HoldsOne termBefore y (n - 1) k) where
-  before : YearInRange y × InYear y (n - 1) × Numbered (n - 1) k
+  before : CivilYearInRange y × InCivilYear y (n - 1) × Numbered (n - 1) k
   before = ordinary-told y (n - 1) k .1 a
 
   not-last : n ≤ 507599
@@ -110,13 +110,13 @@ module _ (y n k : ℕ) (p : 1 ≤ n) (a : HoldsOne termBefore y (n - 1) k) where
   unfolding termDay
   none-falls none t d even on e =
       let day : termDay (yearTerm (t / 24 + 1) (2 * (t % 24 / 2))) ≡ d = ap termDay (in-its-year t even) ∙ e in
-      let range : YearInRange (t / 24 + 1) = omega (arith, e, on, start-end (n + 1) (omega (arith, not-last))) in
+      let range : CivilYearInRange (t / 24 + 1) = omega (arith, e, on, start-end (n + 1) (omega (arith, not-last))) in
       none (t / 24 + 1) (t % 24 / 2) (falls (t / 24 + 1) (t % 24 / 2) n .1 (range, omega arith, (omega (arith, on, day), omega (arith, on, day))))
 
-leap-told : (y n k : ℕ) → (YearInRange y × InYear y n × IsMonth n (Leap k)) ↔ MonthByTerms termBefore y n (Leap k)
+leap-told : (y n k : ℕ) → (CivilYearInRange y × InCivilYear y n × IsMonth n (Leap k)) ↔ MonthByTerms termBefore y n (Leap k)
 leap-told y n k = (there, back)
   where
-    there : YearInRange y × InYear y n × IsMonth n (Leap k) → MonthByTerms termBefore y n (Leap k)
+    there : CivilYearInRange y × InCivilYear y n × IsMonth n (Leap k) → MonthByTerms termBefore y n (Leap k)
     there (r, i, m) =
         let same = after-namesake y n i (Rule.leap-without-mid-term n .1 (m .1)) in (
           m .0,
@@ -126,15 +126,15 @@ leap-told y n k = (there, back)
           ordinary-told y (n - 1) k .0 (r, same .same-year, m .2),
         )
 
-    back : MonthByTerms termBefore y n (Leap k) → YearInRange y × InYear y n × IsMonth n (Leap k)
+    back : MonthByTerms termBefore y n (Leap k) → CivilYearInRange y × InCivilYear y n × IsMonth n (Leap k)
     back (p, none, a) =
         let b = before y n k p a in
         let bare = none-falls y n k p a none in
         let e : n - 1 + 1 ≡ n = omega (arith, p) in
         let l : leap (n - 1 + 1) ≡ true = ap leap e ∙ Rule.leap-without-mid-term n .1 bare in
-        (b .0, subst (InYear y) e (leap-follows y (n - 1) (b .1) l), (p, bare, b .2))
+        (b .0, subst (InCivilYear y) e (leap-follows y (n - 1) (b .1) l), (p, bare, b .2))
 
-month-told : (y : ℕ) (m : Month) (n : ℕ) → (YearInRange y × InYear y n × IsMonth n m) ↔ MonthByTerms termBefore y n m
+month-told : (y : ℕ) (m : Month) (n : ℕ) → (CivilYearInRange y × InCivilYear y n × IsMonth n m) ↔ MonthByTerms termBefore y n m
 month-told y (Ordinary k) n = ordinary-told y n k
 month-told y (Leap k) n = leap-told y n k
 
@@ -145,7 +145,7 @@ date-told d r = (λ p. there (Dates.date-of-day d r .0 p), λ a. Dates.date-of-d
     there : DayInRange d × IsDate d r → DateByTerms termBefore d r
     there (h, i) =
         let month : MonthInRange (i .n) = omega (arith, of-day (i .n) d .0 (i .on-its-days), of-day-range d .0 h) in
-        let year : YearInRange (r .year) = subst YearInRange (of-month (r .year) (i .n) .0 (i .of-its-year)) (of-month-range (i .n) .0 month) in
+        let year : CivilYearInRange (r .year) = subst CivilYearInRange (of-month (r .year) (i .n) .0 (i .of-its-year)) (of-month-range (i .n) .0 month) in
         record {
           n = i .n;
           on-its-days = i .on-its-days;

@@ -5,7 +5,7 @@ use mathlib.Core.Path.{_≡_}
 use mathlib.Core.Logic.{_↔_}
 use mathlib.Core.Bool.{Bool, true}
 use lib.ListN.{getD}
-use Rattle.rule.specs.Counts.{YearInRange, dayName, yearName}
+use Rattle.rule.specs.Counts.{CivilYearInRange, dayName, yearName}
 use Rattle.rule.specs.Rule.{monthStart, monthLength, InMonth, marked}
 use Rattle.rule.specs.Reasons.{Answer, is, andThen}
 use Rattle.rule.specs.Paper.{numbersInOrder}
@@ -67,7 +67,7 @@ pub record DatesBy (term : ℕ → ℕ → Answer ℕ) : Type 0 where
   pub four :
       (y k : ℕ) (l : Bool) (m : ℕ) →
       DayOfDate y k l m (DayTold'.Refused NoSuchLeapMonth)
-      ↔ (YearInRange y × (NumberInRange k × (DayOfMonthInRange m × ((l ≡ true) × (((n : ℕ) × MonthByTerms term y n (Leap k)) → ⊥)))))
+      ↔ (CivilYearInRange y × (NumberInRange k × (DayOfMonthInRange m × ((l ≡ true) × (((n : ℕ) × MonthByTerms term y n (Leap k)) → ⊥)))))
   pub five :
       (y k : ℕ) (l : Bool) (m : ℕ) →
       DayOfDate y k l m (DayTold'.Refused NoThirtiethDay)

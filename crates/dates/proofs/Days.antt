@@ -6,8 +6,8 @@ use mathlib.Core.Logic.{_↔_, _⊎_, inl, inr}
 use mathlib.Core.Bool.{Bool, true, false, _&&_}
 use lib.Dec.{leb, ltb}
 use borrow.Author.Tests.{le-leb, lt-leb, ltb-true, lt-ltb}
-use Rattle.rule.specs.Counts.{YearInRange, DayInRange, MonthInRange, dayName, yearName}
-use Rattle.rule.specs.Rule.{monthStart, smallRemainder, monthLength, InMonth, monthOfDay, midTermDay, yearOfMonth, midTermNumber, marked, monthAt}
+use Rattle.rule.specs.Counts.{CivilYearInRange, DayInRange, MonthInRange, dayName, yearName}
+use Rattle.rule.specs.Rule.{monthStart, smallRemainder, monthLength, InMonth, monthOfDay, midTermDay, civilYearOfMonth, midTermNumber, marked, monthAt}
 use Rattle.rule.specs.Reasons.{is, refused, within}
 use Rattle.rule.specs.declared.Month.{Month}
 use Rattle.rule.proofs.Months.{of-day, of-day-low, of-day-high, of-day-range, length-range, length-big, length-small, start-next, start-end}
@@ -43,7 +43,7 @@ module _ (d n p l : ℕ) (i : n ≡ monthOfDay d) (a : monthStart n + p ≡ d) (
     start : d - p ≡ monthStart n
     start = omega arith
 
-    its-year : {y : ℕ} → y ≡ m / 12 + 1 → y ≡ yearOfMonth n
+    its-year : {y : ℕ} → y ≡ m / 12 + 1 → y ≡ civilYearOfMonth n
     its-year h = h ∙ year-by-last n m low′ high′
 
     its-month : {t k : ℕ} → t ≡ midTermDay m → k ≡ midTermNumber m → marked (ltb t (d - p)) k ≡ monthAt n
@@ -115,7 +115,7 @@ module _ (y k m q : ℕ) (e : m ≡ midOf y k) where
   leap-asked f h = rw (f, ← named-of y k m e, leap-after n m holds h)
 
   -- the month after the ordinary one ends in the range
-  pub named-end : YearInRange y → monthStart (n + 2) ≤ 14989860
+  pub named-end : CivilYearInRange y → monthStart (n + 2) ≤ 14989860
   named-end r = start-end (n + 2) (omega (arith, named-of y k m e, named-in-range y k r))
 
 -- the refusals of a date, in order, from the tests

@@ -6,14 +6,14 @@ use mathlib.Core.Logic.{_↔_, Iff·trans}
 use mathlib.Core.Bool.{Bool, true, false}
 use lib.Dec.{leb}
 use borrow.Author.Tests.{leb-true, leb-false, le-leb, lt-leb}
-use Rattle.rule.specs.Counts.{YearInRange, DayInRange, MonthInRange, yearName}
+use Rattle.rule.specs.Counts.{CivilYearInRange, DayInRange, MonthInRange, yearName}
 use Rattle.rule.specs.Rule.{
   monthStart,
   monthLength,
   InMonth,
   monthOfDay,
-  InYear,
-  yearOfMonth,
+  InCivilYear,
+  civilYearOfMonth,
   leap,
   monthNumber,
   marked,
@@ -58,8 +58,8 @@ use Rattle.dates.specs.Dates.{
 use Rattle.dates.specs.Paper.{IsDate, IsDayOf, AsksFor}
 use Rattle.dates.proofs.Named
 
-year-of : (n : ℕ) → InYear (yearOfMonth n) n
-year-of n = Years.of-month (yearOfMonth n) n .1 refl
+year-of : (n : ℕ) → InCivilYear (civilYearOfMonth n) n
+year-of n = Years.of-month (civilYearOfMonth n) n .1 refl
 
 is-date : (d : ℕ) → IsDate d (dateOf d)
 unfolding dateOf dateIn
@@ -93,7 +93,7 @@ date-is d r = (λ e. subst (IsDate d) e (is-date d), back)
           «year_name» = (ap yearName same-year ∙ sym (a .its-year-name)) i;
         })
       where
-        same-year : yearOfMonth (a .n) ≡ r .year
+        same-year : civilYearOfMonth (a .n) ≡ r .year
         same-year = Years.of-month (r .year) (a .n) .0 (a .of-its-year)
 
         same-day : d - monthStart (a .n) + 1 ≡ r .«day_of_month»
@@ -110,8 +110,8 @@ dated d r =
     (at-most d 14989859)
 
 -- the month of a year with a number and mark is the one asked for
-asked : (y k : ℕ) (l : Bool) → YearInRange y → NumberInRange k → isThere y k l ≡ true →
-    InYear y (monthAsked y k l) × (monthAt (monthAsked y k l) ≡ marked l k)
+asked : (y k : ℕ) (l : Bool) → CivilYearInRange y → NumberInRange k → isThere y k l ≡ true →
+    InCivilYear y (monthAsked y k l) × (monthAt (monthAsked y k l) ≡ marked l k)
 asked y k false r s h = (
   Named.named-year y k (r .0),
   sym (Leaps.as-ordinary (namedMonth y k) k (Named.named-ordinary y k) (sym (Named.named-number y k s))),
@@ -121,7 +121,7 @@ asked y k true r s h = (
   sym (Leaps.as-leap (namedMonth y k + 1) k h (sym (Named.leap-named-number y k s h))),
 )
 
-pub asked-only : (y k n : ℕ) (l : Bool) → InYear y n → (leap n ≡ l) × (monthNumber n ≡ k) → (isThere y k l ≡ true) × (monthAsked y k l ≡ n)
+pub asked-only : (y k n : ℕ) (l : Bool) → InCivilYear y n → (leap n ≡ l) × (monthNumber n ≡ k) → (isThere y k l ≡ true) × (monthAsked y k l ≡ n)
 asked-only y k n false i h = (refl, sym (Named.named-only y k n i (h .0) (h .1)))
 asked-only y k n true i h =
     let e : n ≡ namedMonth y k + 1 = Named.leap-named y k n i (h .0) (h .1) in
@@ -136,7 +136,7 @@ module _ (y k : ℕ) (l : Bool) (m : ℕ) where
   answered : (d : ℕ) →
       let found = _≡_ {A = Answer ℕ} (is (monthStart n + (m - 1))) (is d) in
       (dayOfDate y k l m ≡ is d)
-      ↔ (YearInRange y × (NumberInRange k × (DayOfMonthInRange m × ((isThere y k l ≡ true) × ((m ≤ monthLength n) × found)))))
+      ↔ (CivilYearInRange y × (NumberInRange k × (DayOfMonthInRange m × ((isThere y k l ≡ true) × ((m ≤ monthLength n) × found)))))
   unfolding dayOfDate dayOfNamed dayInMonth n
   answered d =
       test-iff (then-iff (holds-all (within 1 41040 y) 1 _ d)
@@ -197,7 +197,7 @@ back-to-day d h =
     day-is (dateOf d .year) (numberOf (dateOf d .month)) (leapMark (dateOf d .month)) (dateOf d .«day_of_month») d .1
     record {
       year =
-          subst YearInRange (Years.of-month (dateOf d .year) (a .n) .0 (a .of-its-year))
+          subst CivilYearInRange (Years.of-month (dateOf d .year) (a .n) .0 (a .of-its-year))
           (Years.of-month-range (a .n) .0 (subst MonthInRange e (Months.of-day-range d .0 h)));
       n = a .n;
       of-the-year = a .of-its-year;
@@ -213,10 +213,10 @@ found-date y k l m d e =
     let a : IsDayOf y k l m d = day-is y k l m d .0 e in
     let i : InMonth (a .n) d = (omega (arith, a .counted, a .the-day .0), omega (arith, a .counted, a .the-day .1, Months.start-next (a .n))) in
     let f : monthOfDay d ≡ a .n = Months.of-day (a .n) d .0 i in
-    let g : yearOfMonth (a .n) ≡ y = Years.of-month y (a .n) .0 (a .of-the-year) in (
+    let g : civilYearOfMonth (a .n) ≡ y = Years.of-month y (a .n) .0 (a .of-the-year) in (
       Months.of-day-range d .1 (subst MonthInRange (sym f) (Named.month-in-range y (a .n) (a .year) (a .of-the-year))),
       record {
-        year = ap yearOfMonth f ∙ g;
+        year = ap civilYearOfMonth f ∙ g;
         month = ap monthAt f ∙ month-is (a .n) (marked l k) (a .the-month);
         day = ap (λ (n : ℕ). d - monthStart n + 1) f ∙ omega (arith, a .counted, a .the-day .0);
       },
@@ -224,7 +224,7 @@ found-date y k l m d e =
 
 -- where each reason of a date comes from
 module _ (y k : ℕ) (l : Bool) (m : ℕ) where
-  years : (within 1 41040 y ≡ true) ↔ YearInRange y
+  years : (within 1 41040 y ≡ true) ↔ CivilYearInRange y
   years = within-true 1 41040 y
 
   numbers : (within 1 12 k ≡ true) ↔ NumberInRange k
@@ -247,7 +247,7 @@ module _ (y k : ℕ) (l : Bool) (m : ℕ) where
 
   -- a reason after the third: the three ranges hold
   after-three : (j : ℕ) → 3 < j →
-      (dayOfDate y k l m ≡ refused j) ↔ (YearInRange y × (NumberInRange k × (DayOfMonthInRange m × (dayOfNamed y k l m ≡ refused j))))
+      (dayOfDate y k l m ≡ refused j) ↔ (CivilYearInRange y × (NumberInRange k × (DayOfMonthInRange m × (dayOfNamed y k l m ≡ refused j))))
   unfolding dayOfDate
   after-three j h =
       test-iff (then-iff (fails-later (within 1 41040 y) 1 j _ (omega arith))
@@ -256,18 +256,18 @@ module _ (y k : ℕ) (l : Bool) (m : ℕ) where
       numbers))
       years
 
-  pub one : (dayOfDate y k l m ≡ refused 1) ↔ (YearInRange y → ⊥)
+  pub one : (dayOfDate y k l m ≡ refused 1) ↔ (CivilYearInRange y → ⊥)
   unfolding dayOfDate
   one = Iff·trans (fails-here (within 1 41040 y) 1 _ (beyond-number 1 (omega arith))) (fails (within 1 41040 y) years)
 
-  pub two : (dayOfDate y k l m ≡ refused 2) ↔ (YearInRange y × (NumberInRange k → ⊥))
+  pub two : (dayOfDate y k l m ≡ refused 2) ↔ (CivilYearInRange y × (NumberInRange k → ⊥))
   unfolding dayOfDate
   two =
       test-iff (then-iff (fails-later (within 1 41040 y) 1 2 _ (omega arith))
       (Iff·trans (fails-here (within 1 12 k) 2 _ (beyond-day 2 (omega arith))) (fails (within 1 12 k) numbers)))
       years
 
-  pub three : (dayOfDate y k l m ≡ refused 3) ↔ (YearInRange y × (NumberInRange k × (DayOfMonthInRange m → ⊥)))
+  pub three : (dayOfDate y k l m ≡ refused 3) ↔ (CivilYearInRange y × (NumberInRange k × (DayOfMonthInRange m → ⊥)))
   unfolding dayOfDate
   three =
       test-iff (then-iff (fails-later (within 1 41040 y) 1 3 _ (omega arith))
@@ -277,22 +277,22 @@ module _ (y k : ℕ) (l : Bool) (m : ℕ) where
       years
 
 -- reason 4: a leap month is asked, and the year has none of that number
-none-there : (y k : ℕ) (l : Bool) → YearInRange y → NumberInRange k →
-    (isThere y k l ≡ false) ↔ ((l ≡ true) × (((n : ℕ) × InYear y n × IsMonth n (Leap k)) → ⊥))
+none-there : (y k : ℕ) (l : Bool) → CivilYearInRange y → NumberInRange k →
+    (isThere y k l ≡ false) ↔ ((l ≡ true) × (((n : ℕ) × InCivilYear y n × IsMonth n (Leap k)) → ⊥))
 none-there y k false r s = (
   λ e. absurd (let o : _≡_ {A = ℕ} 0 1 = cc in omega arith),
   λ h. absurd (let e : false ≡ true = h .0 in let o : _≡_ {A = ℕ} 0 1 = cc in omega arith),
 )
 none-there y k true r s = (λ e. (refl, none e), λ h. back (h .1) (leap (namedMonth y k + 1)) refl)
   where
-    none : leap (namedMonth y k + 1) ≡ false → ((n : ℕ) × InYear y n × IsMonth n (Leap k)) → ⊥
+    none : leap (namedMonth y k + 1) ≡ false → ((n : ℕ) × InCivilYear y n × IsMonth n (Leap k)) → ⊥
     none e w =
         let mark = Leaps.mark-of (w .0) k true (month-is (w .0) (Leap k) (w .2)) in
         let f : leap (namedMonth y k + 1) ≡ true = asked-only y k (w .0) true (w .1) mark .0 in
         let o : _≡_ {A = ℕ} 0 1 = cc in
         omega arith
 
-    back : (((n : ℕ) × InYear y n × IsMonth n (Leap k)) → ⊥) → (b : Bool) → leap (namedMonth y k + 1) ≡ b → leap (namedMonth y k + 1) ≡ false
+    back : (((n : ℕ) × InCivilYear y n × IsMonth n (Leap k)) → ⊥) → (b : Bool) → leap (namedMonth y k + 1) ≡ b → leap (namedMonth y k + 1) ≡ false
     back w true e =
         let a = asked y k true r s e in
         absurd (w (namedMonth y k + 1, a .0, subst (IsMonth (namedMonth y k + 1)) (a .1) (is-month (namedMonth y k + 1))))
@@ -300,7 +300,7 @@ none-there y k true r s = (λ e. (refl, none e), λ h. back (h .1) (leap (namedM
 
 pub four : (y k : ℕ) (l : Bool) (m : ℕ) →
     (dayOfDate y k l m ≡ refused 4)
-    ↔ (YearInRange y × (NumberInRange k × (DayOfMonthInRange m × ((l ≡ true) × (((n : ℕ) × InYear y n × IsMonth n (Leap k)) → ⊥)))))
+    ↔ (CivilYearInRange y × (NumberInRange k × (DayOfMonthInRange m × ((l ≡ true) × (((n : ℕ) × InCivilYear y n × IsMonth n (Leap k)) → ⊥)))))
 unfolding dayOfNamed dayInMonth
 four y k l m = (
   λ e. let a = after-three y k l m 4 (omega arith) .0 e in (a .0, (a .1 .0, (a .1 .1 .0, none-there y k l (a .0) (a .1 .0) .0 (here .0 (a .1 .1 .1))))),
@@ -315,7 +315,7 @@ four y k l m = (
 -- reason 5: day 30 of a 29-day month
 pub five : (y k : ℕ) (l : Bool) (m : ℕ) →
     (dayOfDate y k l m ≡ refused 5)
-    ↔ (YearInRange y × (NumberInRange k × ((n : ℕ) × InYear y n × IsMonth n (marked l k) × (monthLength n ≡ 29) × (m ≡ 30))))
+    ↔ (CivilYearInRange y × (NumberInRange k × ((n : ℕ) × InCivilYear y n × IsMonth n (marked l k) × (monthLength n ≡ 29) × (m ≡ 30))))
 unfolding dayOfNamed dayInMonth
 five y k l m = (there, back)
   where
@@ -324,14 +324,14 @@ five y k l m = (there, back)
 
     -- the month asked for has 29 days
     Small : Type 0
-    Small = (n : ℕ) × InYear y n × IsMonth n (marked l k) × (monthLength n ≡ 29) × (m ≡ 30)
+    Small = (n : ℕ) × InCivilYear y n × IsMonth n (marked l k) × (monthLength n ≡ 29) × (m ≡ 30)
 
     short : (dayOfNamed y k l m ≡ refused 5) ↔ ((isThere y k l ≡ true) × (leb m (monthLength N) ≡ false))
     short =
         then-iff (fails-later (isThere y k l) 4 5 (dayInMonth N m) (omega arith))
         (fails-here (leb m (monthLength N)) 5 (is (monthStart N + (m - 1))) (beyond-is 5 (monthStart N + (m - 1))))
 
-    there : dayOfDate y k l m ≡ refused 5 → YearInRange y × (NumberInRange k × Small)
+    there : dayOfDate y k l m ≡ refused 5 → CivilYearInRange y × (NumberInRange k × Small)
     there e =
         let a = after-three y k l m 5 (omega arith) .0 e in
         let b = short .0 (a .1 .1 .1) in
@@ -350,7 +350,7 @@ five y k l m = (there, back)
           ),
         )
 
-    back : YearInRange y × (NumberInRange k × Small) → dayOfDate y k l m ≡ refused 5
+    back : CivilYearInRange y × (NumberInRange k × Small) → dayOfDate y k l m ≡ refused 5
     back h =
         let w = h .1 .1 in
         let only = asked-only y k (w .0) l (w .1) (Leaps.mark-of (w .0) k l (month-is (w .0) (marked l k) (w .2))) in

@@ -1,7 +1,7 @@
 // Dates both ways: the date of a day, and the day of a date asked for by year, month number, ordinary or leap, day of month.
 ghost use mathlib.Core.Path.{_≡_};
 ghost use Prim.Native.Nat.{ℕ, _+_, _-_, _*_, _%_, _≤_};
-ghost use Rattle.rule.specs.Counts.{YearInRange, DayInRange};
+ghost use Rattle.rule.specs.Counts.{CivilYearInRange, DayInRange};
 ghost use Rattle.rule.specs.Rule.{monthStart, smallRemainder};
 ghost use Rattle.dates.specs.Dates.{NumberInRange, DayOfMonthInRange, dateOf, dayInMonth, dayOfNamed};
 ghost use Rattle.dates.specs.Promises.{saidDay, DateOfDay, DayOfDate};
@@ -41,7 +41,7 @@ pub fn date_at(day: u32) -> Date
     let length = rule::length_of(at.left);
     let start = day - passed;
     let last = rule::last_mid_term(start + length);
-    let its = rule::year_and_number(last);
+    let its = rule::civil_year_and_number(last);
     let year = its.year;
     let term = rule::term_of(2 * last);
     let leap = term.day < start;
@@ -81,7 +81,7 @@ fn day_in(start: u32, left: u32, day_of_month: u32) -> DayTold
 
 // The mid-term of a month number in a year, counted from the origin: 11 has the first of the year's twelve, 12 the second, 1 the third ..
 fn mid_term_of(year: u16, number: u8) -> u32
-    requires { ⌜ YearInRange year × NumberInRange number ⌝ }
+    requires { ⌜ CivilYearInRange year × NumberInRange number ⌝ }
     ensures { λ r. ⌜ r ≡ 12 * (year - 1) + (number + 1) % 12 ⌝ }
 {
     let count = 12 * (year as u32 - 1) + number as u32;
@@ -91,7 +91,7 @@ fn mid_term_of(year: u16, number: u8) -> u32
 // The day of a date whose four things are each in their range: reason 4 or 5 can still be met. The ordinary month of the number holds
 // its mid-term, and the month after it is leap where it ends before the next mid-term.
 fn day_of_named(year: u16, number: u8, leap: bool, day_of_month: u32) -> DayTold
-    requires { ⌜ YearInRange year × NumberInRange number × DayOfMonthInRange «day_of_month» ⌝ }
+    requires { ⌜ CivilYearInRange year × NumberInRange number × DayOfMonthInRange «day_of_month» ⌝ }
     ensures { λ r. ⌜ saidDay r ≡ dayOfNamed year number leap «day_of_month» ⌝ }
 {
     let m = mid_term_of(year, number);

@@ -11,10 +11,10 @@ use Rattle.rule.specs.Rule.{
   quarterDay,
   quarterParts,
   yearTerm,
-  firstMonth,
+  solsticeFirstMonth,
   leapRemainder,
-  monthsInYear,
-  InYear,
+  monthsInSolsticeYear,
+  InSolsticeYear,
   leap,
   monthNumber,
   monthAt,
@@ -52,12 +52,12 @@ same-test false true f g = f .1 (g .0 refl)
 same-test false false f g = refl
 
 -- whole part and rest: of a year's months, a month's days, a quarter's
-year-parts : (y : ℕ) → (19 * firstMonth y + leapRemainder y ≡ 235 * elapsed y) × (leapRemainder y < 19)
-unfolding firstMonth leapRemainder
+year-parts : (y : ℕ) → (19 * solsticeFirstMonth y + leapRemainder y ≡ 235 * elapsed y) × (leapRemainder y < 19)
+unfolding solsticeFirstMonth leapRemainder
 year-parts y = (omega arith, omega arith)
 
-year-whole : (y a b : ℕ) → 19 * a + b ≡ 235 * elapsed y → b < 19 → (a ≡ firstMonth y) × (b ≡ leapRemainder y)
-unfolding firstMonth leapRemainder
+year-whole : (y a b : ℕ) → 19 * a + b ≡ 235 * elapsed y → b < 19 → (a ≡ solsticeFirstMonth y) × (b ≡ leapRemainder y)
+unfolding solsticeFirstMonth leapRemainder
 year-whole y a b e h = (omega arith, omega arith)
 
 month-parts : (n : ℕ) → (940 * monthStart n + smallRemainder n ≡ 27759 * n) × (smallRemainder n < 940)
@@ -119,7 +119,7 @@ month-exactly n = exactly (IsMonthFacts n) (monthFacts n) (month-there n) (month
 
 -- a year of 13 months or of 12
 module _ (y : ℕ) (l : 1 ≤ y) where
-  begins-there : YearBegins y (firstMonth y) (leapRemainder y) (monthsInYear y)
+  begins-there : YearBegins y (solsticeFirstMonth y) (leapRemainder y) (monthsInSolsticeYear y)
   begins-there =
       record {
         begins = year-parts y .0;
@@ -128,16 +128,16 @@ module _ (y : ℕ) (l : 1 ≤ y) where
         twelve = Rule.thirteen-months y l .twelve;
       }
 
-  begins-only : (a b m : ℕ) → YearBegins y a b m → (a ≡ firstMonth y) × (b ≡ leapRemainder y) × (m ≡ monthsInYear y)
+  begins-only : (a b m : ℕ) → YearBegins y a b m → (a ≡ solsticeFirstMonth y) × (b ≡ leapRemainder y) × (m ≡ monthsInSolsticeYear y)
   begins-only a b m h = (whole .0, whole .1, ⊎-elim short long (lt-or-le b 12))
     where
-      whole : (a ≡ firstMonth y) × (b ≡ leapRemainder y)
+      whole : (a ≡ solsticeFirstMonth y) × (b ≡ leapRemainder y)
       whole = year-whole y a b (h .begins) (h .below)
 
-      short : b < 12 → m ≡ monthsInYear y
+      short : b < 12 → m ≡ monthsInSolsticeYear y
       short g = omega (arith, h .twelve .1 g, Years.months-short y l (omega (arith, whole .1)))
 
-      long : 12 ≤ b → m ≡ monthsInYear y
+      long : 12 ≤ b → m ≡ monthsInSolsticeYear y
       long g = omega (arith, h .thirteen .1 g, Years.months-long y l (omega (arith, whole .1)))
 
   -- its place among the years
@@ -167,10 +167,10 @@ module _ (y : ℕ) (l : 1 ≤ y) where
 
       head : s .«head_name» ≡ headName (s .bu)
       head =
-          h .its-head ∙ ap (λ (i : ℕ). dayName (monthStart (firstMonth (y - (i - 1))))) (place .2)
+          h .its-head ∙ ap (λ (i : ℕ). dayName (monthStart (solsticeFirstMonth (y - (i - 1))))) (place .2)
           ∙ sym (Rule.head-name y l) ∙ ap headName (sym (place .1))
 
-      months : (s .«first_month» ≡ firstMonth y) × (s .«leap_remainder» ≡ leapRemainder y) × (s .months ≡ monthsInYear y)
+      months : (s .«first_month» ≡ solsticeFirstMonth y) × (s .«leap_remainder» ≡ leapRemainder y) × (s .months ≡ monthsInSolsticeYear y)
       months = begins-only (s .«first_month») (s .«leap_remainder») (s .months) (h .its-months)
 
   pub solstice-exactly : (s : SolsticeYear) → (solsticeYear y ≡ s) ↔ IsSolsticeYear y s
@@ -180,20 +180,20 @@ module _ (y : ℕ) (l : 1 ≤ y) where
   pub leap-there : LeapMonthOf y (leapMonth y)
   leap-there = record { with-one = λ k n. (there k n, back k n); without = (none, λ h. leap-none y l (λ n i. ordinary h n i (leap n) refl)) }
     where
-      there : (k n : ℕ) → leapMonth y ≡ With k n → InYear y n × IsMonth n (Leap k)
+      there : (k n : ℕ) → leapMonth y ≡ With k n → InSolsticeYear y n × IsMonth n (Leap k)
       there k n f = let h = leap-is y k n l f in (h .0, Rule.month-literally n (Leap k) .0 (sym (as-leap n k (h .1) (sym (h .2)))))
 
-      back : (k n : ℕ) → InYear y n × IsMonth n (Leap k) → leapMonth y ≡ With k n
+      back : (k n : ℕ) → InSolsticeYear y n × IsMonth n (Leap k) → leapMonth y ≡ With k n
       back k n h =
           let e : monthAt n ≡ Leap k = Rule.month-literally n (Leap k) .1 (h .1) in
           leap-found y n (h .0) (sym (mark-at n) ∙ ap leapMark e) ∙ ap (λ (j : ℕ). With j n) (sym (number-at n) ∙ ap numberOf e)
 
-      none : leapMonth y ≡ Without → (n : ℕ) → InYear y n → NoMidTerm n → ⊥
+      none : leapMonth y ≡ Without → (n : ℕ) → InSolsticeYear y n → NoMidTerm n → ⊥
       none e n i h =
           let g : leapMonth y ≡ With (monthNumber n) n = leap-found y n i (Rule.leap-without-mid-term n .1 h) in
           let o : _≡_ {A = ℕ} 0 1 = cc in omega arith
 
-      ordinary : ((n : ℕ) → InYear y n → NoMidTerm n → ⊥) → (n : ℕ) → InYear y n → (b : Bool) → leap n ≡ b → leap n ≡ false
+      ordinary : ((n : ℕ) → InSolsticeYear y n → NoMidTerm n → ⊥) → (n : ℕ) → InSolsticeYear y n → (b : Bool) → leap n ≡ b → leap n ≡ false
       ordinary h n i true e = absurd (h n i (Rule.leap-without-mid-term n .0 e))
       ordinary h n i false e = e
 
@@ -211,7 +211,7 @@ module _ (y : ℕ) (l : 1 ≤ y) where
       year-made y (h .its-name) (months .0) (months .2)
       (leap-only (f .«leap_month») (h .its-leap-month))
     where
-      months : (f .«first_month» ≡ firstMonth y) × (h .rest ≡ leapRemainder y) × (f .months ≡ monthsInYear y)
+      months : (f .«first_month» ≡ solsticeFirstMonth y) × (h .rest ≡ leapRemainder y) × (f .months ≡ monthsInSolsticeYear y)
       months = begins-only (f .«first_month») (h .rest) (f .months) (h .its-months)
 
   pub year-exactly : (f : YearFacts) → (yearFacts y ≡ f) ↔ IsYearFacts y f

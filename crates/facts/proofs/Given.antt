@@ -4,7 +4,7 @@ use mathlib.Core.Path.{_≡_, ap, sym, _∙_}
 use mathlib.Core.Logic.{_↔_}
 use mathlib.Core.Bool.{Bool, true}
 use lib.Dec.{leb}
-use Rattle.rule.specs.Counts.{YearInRange, MonthInRange}
+use Rattle.rule.specs.Counts.{SolsticeYearInRange, MonthInRange}
 use Rattle.rule.specs.Reasons.{Answer, is, refused, guard, within}
 use Rattle.rule.proofs.Answers.{within-true, at-most, passes, holds-all, then-iff, test-iff, one-refused, two-first, two-second, turned, under}
 use Rattle.facts.specs.Facts.{
@@ -55,11 +55,11 @@ module _ {A P Q : Type 0} (t s : Bool) (k j : ℕ) (l : k < j) (x : A) (e : (t �
   two-reason-second = turned (two-second t s k j l x e f)
 
 -- what each call gives in range
-pub solstice-year-given : (y : ℕ) → YearInRange y → solsticeYearAt y ≡ is (solsticeYear y)
+pub solstice-year-given : (y : ℕ) → SolsticeYearInRange y → solsticeYearAt y ≡ is (solsticeYear y)
 unfolding solsticeYearAt
 solstice-year-given y h = passes (within 1 41040 y) 1 (is (solsticeYear y)) (within-true 1 41040 y .1 h)
 
-pub year-given : (y : ℕ) → YearInRange y → yearFactsAt y ≡ is (yearFacts y)
+pub year-given : (y : ℕ) → SolsticeYearInRange y → yearFactsAt y ≡ is (yearFacts y)
 unfolding yearFactsAt
 year-given y h = passes (within 1 41040 y) 1 (is (yearFacts y)) (within-true 1 41040 y .1 h)
 
@@ -71,6 +71,6 @@ pub quarter-given : (n q : ℕ) → MonthInRange n → q ≤ 3 → quarterAt n q
 unfolding quarterAt
 quarter-given n q h i = passes (leb n 507599) 7 _ (at-most n 507599 .1 h) ∙ passes (leb q 3) 15 (is (quarterOf n q)) (at-most q 3 .1 i)
 
-pub term-given : (y k : ℕ) → YearInRange y → k ≤ 23 → termAt y k ≡ is (termOf y k)
+pub term-given : (y k : ℕ) → SolsticeYearInRange y → k ≤ 23 → termAt y k ≡ is (termOf y k)
 unfolding termAt
 term-given y k h i = passes (within 1 41040 y) 1 _ (within-true 1 41040 y .1 h) ∙ passes (leb k 23) 15 (is (termOf y k)) (at-most k 23 .1 i)

@@ -7,8 +7,8 @@ use mathlib.Core.Bool.{true, false}
 use mathlib.Core.List.{List, [], _∷_}
 use lib.ListN.{length}
 use Rattle.rule.specs.Lists.{those}
-use Rattle.rule.specs.Rule.{firstMonth, monthsInYear, InYear, leap, monthNumber}
-use Rattle.rule.specs.Paper.{monthsOf}
+use Rattle.rule.specs.Rule.{solsticeFirstMonth, monthsInSolsticeYear, InSolsticeYear, leap, monthNumber}
+use Rattle.rule.specs.Paper.{solsticeMonthsOf}
 use Rattle.rule.proofs.Lists.{first-hit, empty, hit-counts, none-pass, head-passes}
 use Rattle.rule.proofs.Years
 use Rattle.rule.proofs.Leap as Leaps
@@ -29,48 +29,48 @@ pub none-at-all : (first months : ℕ) → those leap first months ≡ [] → fi
 none-at-all first months e = ap firstOf e
 
 -- a year's leap months are at most one
-at-most-one : (y : ℕ) → 1 ≤ y → length (monthsOf leap y) ≤ 1
+at-most-one : (y : ℕ) → 1 ≤ y → length (solsticeMonthsOf leap y) ≤ 1
 at-most-one y l = omega (arith, Leaps.year-leaps y l, Years.first-step y l, Years.first-next y l)
 
 -- so a month of the year that is leap is the first of them
-pub leap-found : (y n : ℕ) → InYear y n → leap n ≡ true → leapMonth y ≡ With (monthNumber n) n
+pub leap-found : (y n : ℕ) → InSolsticeYear y n → leap n ≡ true → leapMonth y ≡ With (monthNumber n) n
 unfolding leapMonth
-leap-found y n i h = found (firstMonth y) (monthsInYear y) (n - firstMonth y) none inside here ∙ ap (λ (m : ℕ). With (monthNumber m) m) e
+leap-found y n i h = found (solsticeFirstMonth y) (monthsInSolsticeYear y) (n - solsticeFirstMonth y) none inside here ∙ ap (λ (m : ℕ). With (monthNumber m) m) e
   where
-    e : firstMonth y + (n - firstMonth y) ≡ n
+    e : solsticeFirstMonth y + (n - solsticeFirstMonth y) ≡ n
     e = omega (arith, i .1)
 
-    here : leap (firstMonth y + (n - firstMonth y)) ≡ true
+    here : leap (solsticeFirstMonth y + (n - solsticeFirstMonth y)) ≡ true
     here = ap leap e ∙ h
 
-    inside : n - firstMonth y < monthsInYear y
+    inside : n - solsticeFirstMonth y < monthsInSolsticeYear y
     inside = omega (arith, i .1, i .2, Years.first-next y (i .0))
 
-    none : those leap (firstMonth y) (n - firstMonth y) ≡ []
+    none : those leap (solsticeFirstMonth y) (n - solsticeFirstMonth y) ≡ []
     none =
-        let f = firstMonth y in
-        empty (those leap f (n - f)) (omega (arith, hit-counts leap f (n - f) (monthsInYear y) inside here, at-most-one y (i .0)))
+        let f = solsticeFirstMonth y in
+        empty (those leap f (n - f)) (omega (arith, hit-counts leap f (n - f) (monthsInSolsticeYear y) inside here, at-most-one y (i .0)))
 
 -- and a year none of whose months is leap has none
-pub leap-none : (y : ℕ) → 1 ≤ y → ((n : ℕ) → InYear y n → leap n ≡ false) → leapMonth y ≡ Without
+pub leap-none : (y : ℕ) → 1 ≤ y → ((n : ℕ) → InSolsticeYear y n → leap n ≡ false) → leapMonth y ≡ Without
 unfolding leapMonth
 leap-none y l h =
     ap firstOf
-    (empty (monthsOf leap y)
-    (none-pass leap (firstMonth y) (monthsInYear y) (λ i j. h (firstMonth y + i) (l, omega arith, omega (arith, Years.first-next y l)))))
+    (empty (solsticeMonthsOf leap y)
+    (none-pass leap (solsticeFirstMonth y) (monthsInSolsticeYear y) (λ i j. h (solsticeFirstMonth y + i) (l, omega arith, omega (arith, Years.first-next y l)))))
 
 -- what stands as the year's leap month is a month of that year that is leap, and its number
-pub leap-is : (y k n : ℕ) → 1 ≤ y → leapMonth y ≡ With k n → InYear y n × (leap n ≡ true) × (monthNumber n ≡ k)
+pub leap-is : (y k n : ℕ) → 1 ≤ y → leapMonth y ≡ With k n → InSolsticeYear y n × (leap n ≡ true) × (monthNumber n ≡ k)
 unfolding leapMonth
-leap-is y k n l f = go (monthsOf leap y) refl
+leap-is y k n l f = go (solsticeMonthsOf leap y) refl
   where
-    go : (ns : List ℕ) → monthsOf leap y ≡ ns → InYear y n × (leap n ≡ true) × (monthNumber n ≡ k)
+    go : (ns : List ℕ) → solsticeMonthsOf leap y ≡ ns → InSolsticeYear y n × (leap n ≡ true) × (monthNumber n ≡ k)
     go [] e = absurd (let g : leapMonth y ≡ Without = ap firstOf e in let o : _≡_ {A = ℕ} 0 1 = cc in omega arith)
     go (x ∷ xs) e =
         let g : With (monthNumber x) x ≡ With k n = sym (ap firstOf e) ∙ f in
         let same : x ≡ n = cc in
         let number : monthNumber x ≡ k = cc in
-        let h = head-passes leap (firstMonth y) (monthsInYear y) x xs e in (
+        let h = head-passes leap (solsticeFirstMonth y) (monthsInSolsticeYear y) x xs e in (
           (l, omega (arith, h .1), omega (arith, h .2, Years.first-next y l)),
           sym (ap leap same) ∙ h .0,
           sym (ap monthNumber same) ∙ number,

@@ -13,9 +13,9 @@ use Rattle.rule.specs.Rule.{
   termDay,
   termParts,
   yearTerm,
-  firstMonth,
+  solsticeFirstMonth,
   leapRemainder,
-  monthsInYear,
+  monthsInSolsticeYear,
   monthAt,
 }
 use Rattle.rule.specs.Rule as Rule
@@ -30,12 +30,12 @@ pub bu-range : (y b : ℕ) → b ≡ bu y → (1 ≤ b) × (b ≤ 20)
 bu-range y b e = omega (arith, place y .bu-range)
 
 pub solstice-year-made : (y : ℕ) {j b i h f l m : ℕ} →
-    j ≡ ji y → b ≡ bu y → i ≡ yearInBu y → h ≡ headName b → f ≡ firstMonth y → l ≡ leapRemainder y → m ≡ monthsInYear y →
+    j ≡ ji y → b ≡ bu y → i ≡ yearInBu y → h ≡ headName b → f ≡ solsticeFirstMonth y → l ≡ leapRemainder y → m ≡ monthsInSolsticeYear y →
     record { ji = j; bu = b; «year_in_bu» = i; «head_name» = h; «first_month» = f; «leap_remainder» = l; months = m } ≡ solsticeYear y
 unfolding solsticeYear
 solstice-year-made y p q r s t u v = cc
 
-pub year-made : (y : ℕ) {n f m : ℕ} {l : LeapMonth} → n ≡ yearName y → f ≡ firstMonth y → m ≡ monthsInYear y → l ≡ leapMonth y →
+pub year-made : (y : ℕ) {n f m : ℕ} {l : LeapMonth} → n ≡ yearName y → f ≡ solsticeFirstMonth y → m ≡ monthsInSolsticeYear y → l ≡ leapMonth y →
     record { name = n; «first_month» = f; months = m; «leap_month» = l } ≡ yearFacts y
 unfolding yearFacts
 year-made y p q r s = cc

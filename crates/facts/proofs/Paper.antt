@@ -4,7 +4,7 @@ use native.Mathlib.Omega.{arith}
 use mathlib.Core.Path.{_≡_, refl, ap, sym, _∙_}
 use mathlib.Core.Bool.{Bool, true, false, false≢true}
 use lib.Dec.{leb}
-use Rattle.rule.specs.Counts.{YearInRange, MonthInRange, yearName, bu, yearInBu}
+use Rattle.rule.specs.Counts.{SolsticeYearInRange, MonthInRange, yearName, bu, yearInBu}
 use Rattle.rule.specs.Rule.{monthStart, monthLength, quarterDay, termDay, termParts, yearTerm, leapMark, monthAt, eclipse}
 use Rattle.rule.specs.Reasons.{Answer, is, guard, within, andThen, reasonNumber, reasonOf}
 use Rattle.rule.specs.Paper.{IsTerm}
@@ -214,7 +214,7 @@ wrong-facts =
     near-midnight r = told-is (termOf 44 10) r (termAt 44 10) (term-given 44 10 (omega arith) (omega arith))
 
 -- what is told of a year and of a month
-its-place : (y : ℕ) (s : SolsticeYear) → YearInRange y → SolsticeYearFacts y (Solstice'.Is s) → s ≡ solsticeYear y
+its-place : (y : ℕ) (s : SolsticeYear) → SolsticeYearInRange y → SolsticeYearFacts y (Solstice'.Is s) → s ≡ solsticeYear y
 its-place y s h = told-is (solsticeYear y) s (solsticeYearAt y) (solstice-year-given y h)
 
 its-month : (n : ℕ) (f : MonthFacts) → MonthInRange n → MonthByCount n (Month'.Is f) → f ≡ monthFacts n

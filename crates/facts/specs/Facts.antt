@@ -13,16 +13,18 @@ use Rattle.rule.specs.Rule.{
   termDay,
   termParts,
   yearTerm,
-  firstMonth,
+  solsticeFirstMonth,
   leapRemainder,
-  monthsInYear,
+  monthsInSolsticeYear,
+  civilFirstMonth,
+  monthsInCivilYear,
   leap,
   monthNumber,
   monthAt,
   eclipse,
 }
 use Rattle.rule.specs.Reasons.{Answer, is, guard, within}
-use Rattle.rule.specs.Paper.{monthsOf}
+use Rattle.rule.specs.Paper.{civilMonthsOf}
 use Rattle.rule.specs.declared.Quarter.{Quarter}
 use Rattle.rule.specs.declared.Term.{Term}
 use Rattle.facts.specs.declared.SolsticeYear.{SolsticeYear}
@@ -39,29 +41,29 @@ solsticeYear y =
       bu = bu y;
       «year_in_bu» = yearInBu y;
       «head_name» = headName (bu y);
-      «first_month» = firstMonth y;
+      «first_month» = solsticeFirstMonth y;
       «leap_remainder» = leapRemainder y;
-      months = monthsInYear y;
+      months = monthsInSolsticeYear y;
     }
 
 unfoldable pub solsticeYearAt : ℕ → Answer SolsticeYear
 solsticeYearAt y = guard (within 1 41040 y) 1 (is (solsticeYear y))
 
--- of the leap months of a year: the first, by number and count
+-- of the leap months of a civil year: the first, by number and count
 abbrev pub firstOf : List ℕ → LeapMonth
 firstOf [] = Without
 firstOf (n ∷ ns) = With (monthNumber n) n
 
 unfoldable pub leapMonth : ℕ → LeapMonth
-leapMonth y = firstOf (monthsOf leap y)
+leapMonth y = firstOf (civilMonthsOf leap y)
 
--- a year's own: name, the months that it lists, its leap month
+-- a civil year's own: name, the months that it lists, its leap month
 unfoldable pub yearFacts : ℕ → YearFacts
 yearFacts y =
     record {
       name = yearName y;
-      «first_month» = firstMonth y;
-      months = monthsInYear y;
+      «first_month» = civilFirstMonth y;
+      months = monthsInCivilYear y;
       «leap_month» = leapMonth y;
     }
 
@@ -90,7 +92,7 @@ quarterOf n q = record { day = quarterDay n q; parts = quarterParts n q }
 unfoldable pub quarterAt : ℕ → ℕ → Answer Quarter
 quarterAt n q = guard (leb n 507599) 7 (guard (leb q 3) 15 (is (quarterOf n q)))
 
--- a term of a year: its day and the rest in parts of 32
+-- a term of a solstice year: its day and the rest in parts of 32
 unfoldable pub termOf : ℕ → ℕ → Term
 termOf y k = record { day = termDay (yearTerm y k); parts = termParts (yearTerm y k) }
 

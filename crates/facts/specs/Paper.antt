@@ -5,8 +5,8 @@ use mathlib.Core.Path.{_≡_}
 use mathlib.Core.Logic.{_↔_, _⊎_}
 use mathlib.Core.Bool.{true, false}
 use lib.Dec.{leb}
-use Rattle.rule.specs.Counts.{YearInRange, MonthInRange, elapsed, dayName, yearName}
-use Rattle.rule.specs.Rule.{monthStart, firstMonth, InYear}
+use Rattle.rule.specs.Counts.{SolsticeYearInRange, CivilYearInRange, MonthInRange, elapsed, dayName, yearName}
+use Rattle.rule.specs.Rule.{monthStart, solsticeFirstMonth, InCivilYear}
 use Rattle.rule.specs.Reasons.{Answer, is, guard, within, andThen}
 use Rattle.rule.specs.Paper.{IsPlace, IsTerm, NoMidTerm, IsMonth}
 use Rattle.rule.specs.declared.Month.the-variants.{Ordinary, Leap}
@@ -44,20 +44,20 @@ pub record YearBegins (y first rest months : ℕ) : Type 0 where
 pub record IsSolsticeYear (y : ℕ) (s : SolsticeYear) : Type 0 where
   pub w : ℕ
   pub its-place : IsPlace y w (s .ji) (s .bu) (s .«year_in_bu»)
-  pub its-head : s .«head_name» ≡ dayName (monthStart (firstMonth (y - (s .«year_in_bu» - 1))))
+  pub its-head : s .«head_name» ≡ dayName (monthStart (solsticeFirstMonth (y - (s .«year_in_bu» - 1))))
   pub its-months : YearBegins y (s .«first_month») (s .«leap_remainder») (s .months)
 
 -- a solstice year's facts are given exactly in range, and are just what the paper says
 abbrev pub Solstice-year : Type 0
-Solstice-year = (y : ℕ) (s : SolsticeYear) → SolsticeYearFacts y (Solstice'.Is s) ↔ (YearInRange y × IsSolsticeYear y s)
+Solstice-year = (y : ℕ) (s : SolsticeYear) → SolsticeYearFacts y (Solstice'.Is s) ↔ (SolsticeYearInRange y × IsSolsticeYear y s)
 
--- a year's leap month: with number k and count n exactly where month n of that year is leap with that number, and none exactly where
+-- a civil year's leap month: with number k and count n exactly where month n of that year is leap with that number, and none exactly where
 -- each month of that year holds a mid-term
 pub record LeapMonthOf (y : ℕ) (l : LeapMonth) : Type 0 where
-  pub with-one : (k n : ℕ) → (l ≡ With k n) ↔ (InYear y n × IsMonth n (Leap k))
-  pub without : (l ≡ Without) ↔ ((n : ℕ) → InYear y n → NoMidTerm n → ⊥)
+  pub with-one : (k n : ℕ) → (l ≡ With k n) ↔ (InCivilYear y n × IsMonth n (Leap k))
+  pub without : (l ≡ Without) ↔ ((n : ℕ) → InCivilYear y n → NoMidTerm n → ⊥)
 
--- what a year's own facts are: its name, the months that it lists, by its leap remainder, and its leap month
+-- what a civil year's own facts are: its name, the months that it lists, by its leap remainder, and its leap month
 pub record IsYearFacts (y : ℕ) (f : YearFacts) : Type 0 where
   pub its-name : f .name ≡ yearName y
   pub rest : ℕ
@@ -65,7 +65,7 @@ pub record IsYearFacts (y : ℕ) (f : YearFacts) : Type 0 where
   pub its-leap-month : LeapMonthOf y (f .«leap_month»)
 
 abbrev pub Year-facts : Type 0
-Year-facts = (y : ℕ) (f : YearFacts) → YearOwnFacts y (Year'.Is f) ↔ (YearInRange y × IsYearFacts y f)
+Year-facts = (y : ℕ) (f : YearFacts) → YearOwnFacts y (Year'.Is f) ↔ (CivilYearInRange y × IsYearFacts y f)
 
 -- what the facts of month n are: ordinary or leap, with its number; "Month n starts on day 27,759 × n divided by 940, whole part; the
 -- rest is its small remainder. Its length runs to the next start. It is 30 exactly when the remainder is 441 or more, else 29."; the
@@ -96,7 +96,7 @@ Quarter-of-month = (n q : ℕ) (r : Quarter) → QuarterOfMonth n q (Quarter'.Is
 -- parts of 32." (W2)
 abbrev pub Term-of-year : Type 0
 Term-of-year =
-    (y k : ℕ) (r : Term) → TermOfYear y k (Term'.Is r) ↔ (YearInRange y × (k ≤ 23) × IsTerm (24 * (y - 1) + k) (r .day) (r .parts))
+    (y k : ℕ) (r : Term) → TermOfYear y k (Term'.Is r) ↔ (SolsticeYearInRange y × (k ≤ 23) × IsTerm (24 * (y - 1) + k) (r .day) (r .parts))
 
 -- what the call answered before W2, when a term was its day alone
 abbrev pub termBefore : ℕ → ℕ → Answer ℕ
@@ -113,9 +113,9 @@ Mid-term-even = (y j : ℕ) (r : Term) → TermOfYear y (2 * j) (Term'.Is r) →
 
 -- reason 1, "year outside 1 to 41,040", and no other, for both calls of a year
 pub record YearReasons (y : ℕ) : Type 0 where
-  pub place-one : SolsticeYearFacts y (Solstice'.Refused NoSuchYear) ↔ (YearInRange y → ⊥)
+  pub place-one : SolsticeYearFacts y (Solstice'.Refused NoSuchYear) ↔ (SolsticeYearInRange y → ⊥)
   pub place-only : (why : Reason) → SolsticeYearFacts y (Solstice'.Refused why) → why ≡ NoSuchYear
-  pub own-one : YearOwnFacts y (Year'.Refused NoSuchYear) ↔ (YearInRange y → ⊥)
+  pub own-one : YearOwnFacts y (Year'.Refused NoSuchYear) ↔ (CivilYearInRange y → ⊥)
   pub own-only : (why : Reason) → YearOwnFacts y (Year'.Refused why) → why ≡ NoSuchYear
 
 -- reason 7, "month count outside the range", and no other
@@ -130,8 +130,8 @@ pub record QuarterReasons (n q : ℕ) : Type 0 where
   pub only : (why : Reason) → QuarterOfMonth n q (Quarter'.Refused why) → (why ≡ NoSuchMonth) ⊎ (why ≡ NoSuchTermOrQuarter)
 
 pub record TermReasons (y k : ℕ) : Type 0 where
-  pub one : TermOfYear y k (Term'.Refused NoSuchYear) ↔ (YearInRange y → ⊥)
-  pub fifteen : TermOfYear y k (Term'.Refused NoSuchTermOrQuarter) ↔ (YearInRange y × (k ≤ 23 → ⊥))
+  pub one : TermOfYear y k (Term'.Refused NoSuchYear) ↔ (SolsticeYearInRange y → ⊥)
+  pub fifteen : TermOfYear y k (Term'.Refused NoSuchTermOrQuarter) ↔ (SolsticeYearInRange y × (k ≤ 23 → ⊥))
   pub only : (why : Reason) → TermOfYear y k (Term'.Refused why) → (why ≡ NoSuchYear) ⊎ (why ≡ NoSuchTermOrQuarter)
 
 pub record Reasons-of-facts : Type 0 where

@@ -44,7 +44,7 @@ saidTerm (Term'.Refused r) = refused (reasonNumber r)
 abbrev pub SolsticeYearFacts : ℕ → SolsticeYearTold → Type 0
 SolsticeYearFacts y r = saidSolsticeYear r ≡ solsticeYearAt y
 
--- a year's own
+-- a civil year's own
 abbrev pub YearOwnFacts : ℕ → YearTold → Type 0
 YearOwnFacts y r = saidYear r ≡ yearFactsAt y
 
@@ -56,6 +56,6 @@ MonthByCount n r = saidMonth r ≡ monthFactsAt n
 abbrev pub QuarterOfMonth : ℕ → ℕ → QuarterTold → Type 0
 QuarterOfMonth n q r = saidQuarter r ≡ quarterAt n q
 
--- a term of a year
+-- a term of a solstice year
 abbrev pub TermOfYear : ℕ → ℕ → TermTold → Type 0
 TermOfYear y k r = saidTerm r ≡ termAt y k

@@ -1,7 +1,7 @@
-// The facts of a year and of a month: a solstice year's place and months, a year's own, a month by its count, a quarter, a term.
+// The facts of a year and of a month: a solstice year's place and months, a civil year's own, a month by its count, a quarter, a term.
 ghost use mathlib.Core.Path.{_≡_};
 ghost use Prim.Native.Nat.{_+_, _≤_};
-ghost use Rattle.rule.specs.Counts.{YearInRange, MonthInRange};
+ghost use Rattle.rule.specs.Counts.{SolsticeYearInRange, CivilYearInRange, MonthInRange};
 ghost use Rattle.rule.specs.Lists.{those};
 ghost use Rattle.rule.specs.Rule.{leap};
 ghost use Rattle.facts.specs.Facts.{solsticeYear, firstOf, leapMonth, yearFacts, monthFacts};
@@ -22,13 +22,13 @@ pub struct SolsticeYear {
     pub months: u8,
 }
 
-// A year's leap month, if it has one: its number and its month count.
+// A civil year's leap month, if it has one: its number and its month count.
 pub enum LeapMonth {
     Without,
     With(u8, u32),
 }
 
-// A year's own: its name, the months that it lists, and its leap month.
+// A civil year's own: its name, the months that it lists, and its leap month.
 pub struct YearFacts {
     pub name: u8,
     pub first_month: u32,
@@ -73,7 +73,7 @@ pub enum TermTold {
 
 // The facts of a solstice year in range.
 fn solstice_year_at(year: u16) -> SolsticeYear
-    requires { ⌜ YearInRange year ⌝ }
+    requires { ⌜ SolsticeYearInRange year ⌝ }
     ensures { λ r. ⌜ r ≡ solsticeYear year ⌝ }
 {
     let p = rule::place_of(year);
@@ -83,9 +83,9 @@ fn solstice_year_at(year: u16) -> SolsticeYear
         bu: b,
         year_in_bu: p.year_in_bu,
         head_name: rule::head_name(b),
-        first_month: rule::first_month(year),
+        first_month: rule::solstice_first_month(year),
         leap_remainder: rule::leap_remainder(year),
-        months: rule::months_in_year(year),
+        months: rule::months_in_solstice_year(year),
     }
 }
 
@@ -114,29 +114,32 @@ fn leap_among(first: u32, months: u32) -> LeapMonth
     LeapMonth::Without
 }
 
-// The leap month of a year, if it has one.
+// The leap month of a civil year, if it has one.
 fn leap_month_of(year: u16) -> LeapMonth
-    requires { ⌜ YearInRange year ⌝ }
+    requires { ⌜ CivilYearInRange year ⌝ }
     ensures { λ r. ⌜ r ≡ leapMonth year ⌝ }
 {
-    leap_among(rule::first_month(year), rule::months_in_year(year) as u32)
+    leap_among(
+        rule::civil_first_month(year),
+        rule::months_in_civil_year(year) as u32,
+    )
 }
 
-// The own facts of a year in range. Whoever lists a year asks here.
+// The own facts of a civil year in range. Whoever lists a year asks here.
 pub fn year_facts_at(year: u16) -> YearFacts
-    requires { ⌜ YearInRange year ⌝ }
+    requires { ⌜ CivilYearInRange year ⌝ }
     ensures { λ r. ⌜ r ≡ yearFacts year ⌝ }
 {
     let leap_month = leap_month_of(year);
     YearFacts {
         name: rule::year_name(year),
-        first_month: rule::first_month(year),
-        months: rule::months_in_year(year),
+        first_month: rule::civil_first_month(year),
+        months: rule::months_in_civil_year(year),
         leap_month: leap_month,
     }
 }
 
-// A year's own facts, or reason 1.
+// A civil year's own facts, or reason 1.
 pub fn year_facts(year: u32) -> YearTold
     ensures { λ r. ⌜ YearOwnFacts year r ⌝ }
 {
@@ -186,7 +189,7 @@ pub fn quarter(n: u32, q: u32) -> QuarterTold
     QuarterTold::Is(rule::quarter_of(n, q as u8))
 }
 
-// A term of a year: reason 1, then 15.
+// A term of a solstice year: reason 1, then 15.
 pub fn term(year: u32, k: u32) -> TermTold
     ensures { λ r. ⌜ TermOfYear year k r ⌝ }
 {

@@ -3,7 +3,7 @@ use Prim.Native.Nat.{ℕ, _+_, _≤_}
 use native.Mathlib.Omega.{arith}
 use mathlib.Core.Path.{_≡_, ap}
 use mathlib.Core.List.{List, [], _∷_, _++_, append-assoc}
-use Rattle.rule.specs.Counts.{YearInRange}
+use Rattle.rule.specs.Counts.{CivilYearInRange}
 use Rattle.rule.proofs.Years.{first-step, first-next, first-end}
 use Rattle.facts.specs.declared.YearFacts.{YearFacts}
 use Rattle.facts.specs.Facts.{yearFacts}
@@ -18,7 +18,7 @@ number-and-mark k m {rest} p q = put-as (ap (λ (l : List ℕ). 32 ∷ l) (appen
 
 -- a year lists months in range, 13 at most
 pub months-listed :
-    (y : ℕ) → YearInRange y → (f : YearFacts) → f ≡ yearFacts y → (f .«first_month» + f .months ≤ 507600) × (f .months ≤ 13)
+    (y : ℕ) → CivilYearInRange y → (f : YearFacts) → f ≡ yearFacts y → (f .«first_month» + f .months ≤ 507600) × (f .months ≤ 13)
 unfolding yearFacts
 months-listed y h f e =
     let a = ap (λ (g : YearFacts). g .«first_month») e in

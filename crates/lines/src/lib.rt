@@ -4,7 +4,7 @@ ghost use mathlib.Core.Bool.{true};
 ghost use mathlib.Core.List.{[], _∷_};
 ghost use Prim.Native.Nat.{_+_, _*_, _≤_};
 ghost use lib.ListN.{length};
-ghost use Rattle.rule.specs.Counts.{YearInRange, MonthInRange, DayInRange};
+ghost use Rattle.rule.specs.Counts.{CivilYearInRange, MonthInRange, DayInRange};
 ghost use Rattle.rule.specs.Reasons.{reasonNumber, intoRoom};
 ghost use Rattle.rule.specs.Lists.{those};
 ghost use Rattle.rule.specs.Rule.{numberOf, leapMark};
@@ -99,7 +99,7 @@ fn put_months(first: u32, months: u32, out: &mut [u8], at: usize) -> usize
 
 // A year's block: its header, and one line a month.
 pub fn put_year(year: u16, out: &mut [u8], at: usize) -> usize
-    requires { ⌜ YearInRange year × (at + 674 ≤ length (now out)) ⌝ }
+    requires { ⌜ CivilYearInRange year × (at + 674 ≤ length (now out)) ⌝ }
     ensures { λ r. ⌜ Put 674 (now (out .entry)) at (yearBlock year) (now (out .exit)) r ⌝ }
 {
     let f = facts::year_facts_at(year);

@@ -8,7 +8,7 @@ use lib.Dec.{leb}
 use lib.IntN.{ℤ, pos, negsuc, _+ℤ_, +ℤ-assoc}
 use borrow.Author.Tests.{leb-true, leb-false}
 use Rattle.rule.specs.Counts.{DayInRange, dayName, yearName}
-use Rattle.rule.specs.Rule.{monthStart, monthLength, monthOfDay, yearOfMonth, monthAt, numberOf, leapMark}
+use Rattle.rule.specs.Rule.{monthStart, monthLength, monthOfDay, civilYearOfMonth, monthAt, numberOf, leapMark}
 use Rattle.rule.specs.Reasons.{Answer, is, refused, refused-with, reasonNumber, reasonOf}
 use Rattle.rule.specs.declared.Reason.{Reason}
 use Rattle.rule.proofs.Months
@@ -143,12 +143,12 @@ later d =
       month = ap monthAt e ∙ Leaps.month-shift 1 (monthOfDay d);
       day-of-month = ap (λ (n : ℕ). d + 27759 - monthStart n + 1) e ∙ omega (arith, Months.start-shift 1 (monthOfDay d), Months.of-day-low d);
       month-length = ap monthLength e ∙ Months.length-shift 1 (monthOfDay d);
-      year = omega (arith, ap yearOfMonth e, Years.of-month-shift 1 (monthOfDay d));
+      year = omega (arith, ap civilYearOfMonth e, Years.of-month-shift 1 (monthOfDay d));
       day-name = Counts.day-name-further 1 d;
       year-name =
-          ap (λ (n : ℕ). yearName (yearOfMonth n)) e
+          ap (λ (n : ℕ). yearName (civilYearOfMonth n)) e
           ∙ ap yearName (Years.of-month-shift 1 (monthOfDay d))
-          ∙ Counts.year-name-further 1 (yearOfMonth (monthOfDay d));
+          ∙ Counts.year-name-further 1 (civilYearOfMonth (monthOfDay d));
     }
   where
     e : monthOfDay (d + 27759) ≡ monthOfDay d + 940

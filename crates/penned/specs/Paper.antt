@@ -6,9 +6,9 @@ use mathlib.Core.Logic.{_↔_, _⊎_}
 use mathlib.Core.Bool.{true}
 use mathlib.Core.List.{List, [], _∷_, _++_}
 use lib.ListN.{length, replicate}
-use Rattle.rule.specs.Counts.{YearInRange, MonthInRange, DayInRange, dayName, yearName}
-use Rattle.rule.specs.Rule.{monthStart, monthLength, monthOfDay, monthsInYear, yearOfMonth, leap, monthNumber, eclipse}
-use Rattle.rule.specs.Paper.{monthsOf}
+use Rattle.rule.specs.Counts.{CivilYearInRange, MonthInRange, DayInRange, dayName, yearName}
+use Rattle.rule.specs.Rule.{monthStart, monthLength, monthOfDay, monthsInCivilYear, civilYearOfMonth, leap, monthNumber, eclipse}
+use Rattle.rule.specs.Paper.{civilMonthsOf}
 use Rattle.rule.specs.Reasons.{is, refused}
 use Rattle.rule.specs.declared.Reason.{Reason}
 use Rattle.rule.specs.declared.Reason.the-variants.{NoSuchYear, NoSuchMonth, NoSuchDay, LentTooShort}
@@ -88,8 +88,8 @@ abbrev pub Year-block-literally : Type 0
 Year-block-literally =
     (y : ℕ) →
     yearBlock y
-    ≡ (word "YEAR " ++ (decimal y ++ (word " NAME " ++ (decimal (yearName y) ++ (word " MONTHS " ++ decimal (monthsInYear y))))))
-    ++ (10 ∷ each (λ n. monthLine n ++ (10 ∷ [])) (monthsOf (λ n. true) y))
+    ≡ (word "YEAR " ++ (decimal y ++ (word " NAME " ++ (decimal (yearName y) ++ (word " MONTHS " ++ decimal (monthsInCivilYear y))))))
+    ++ (10 ∷ each (λ n. monthLine n ++ (10 ∷ [])) (civilMonthsOf (λ n. true) y))
 
 -- "`MONTH` and such a line"
 abbrev pub Month-and-such-a-line : Type 0
@@ -103,7 +103,7 @@ Day-line-literally =
     ≡ (word "DAY "
     ++ (decimal d
     ++ (32
-    ∷ (decimal (yearOfMonth (monthOfDay d))
+    ∷ (decimal (civilYearOfMonth (monthOfDay d))
     ++ (32
     ∷ (decimal (monthNumber (monthOfDay d))
     ++ (32
@@ -125,7 +125,7 @@ pub record PrintReasons (There : Type 0) (why : Reason) (text o : List ℕ) (Cal
   pub given : Call (HowMany'.Is (length text)) (placed text o) ↔ (There × (length text ≤ length o))
 
 pub record Reasons-of-printing : Type 0 where
-  pub year : (y : ℕ) (o : List ℕ) → PrintReasons (YearInRange y) NoSuchYear (yearBlock y) o (PrintYear y o)
+  pub year : (y : ℕ) (o : List ℕ) → PrintReasons (CivilYearInRange y) NoSuchYear (yearBlock y) o (PrintYear y o)
   pub month-line : (m : ℕ) (o : List ℕ) → PrintReasons (MonthInRange m) NoSuchMonth (monthLined m) o (PrintMonthLine m o)
   pub month : (m : ℕ) (o : List ℕ) → PrintReasons (MonthInRange m) NoSuchMonth (monthItem m) o (PrintMonth m o)
   pub day : (d : ℕ) (o : List ℕ) → PrintReasons (DayInRange d) NoSuchDay (dayItem d) o (PrintDay d o)

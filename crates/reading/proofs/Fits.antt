@@ -5,7 +5,7 @@ use mathlib.Core.Bool.{Bool, true, false, _&&_}
 use lib.Dec.{leb}
 use borrow.Author.Tests.{le-leb, lt-leb}
 use Rattle.rule.specs.Counts.{dayName, yearName}
-use Rattle.rule.specs.Rule.{monthStart, yearOfMonth, leap, monthNumber}
+use Rattle.rule.specs.Rule.{monthStart, civilYearOfMonth, leap, monthNumber}
 use Rattle.reading.specs.declared.Reading.{Reading}
 use Rattle.reading.specs.Readings.{
   markNumber,
@@ -25,11 +25,11 @@ day-made r s d e f g = ap₂ _&&_ e (f ∙ ap (fieldFits (r .«day_name»)) g)
 
 -- a month's four values in the order in which they are looked at: the first that does not fit decides, and else the last does
 module _ (r : Reading) (n : ℕ) where
-  pub year-name-fails : fieldFits (r .«year_name») (yearName (yearOfMonth n)) ≡ false → monthFits r n ≡ false
+  pub year-name-fails : fieldFits (r .«year_name») (yearName (civilYearOfMonth n)) ≡ false → monthFits r n ≡ false
   unfolding monthFits
   year-name-fails a = rw a
 
-  module _ (a : fieldFits (r .«year_name») (yearName (yearOfMonth n)) ≡ true) where
+  module _ (a : fieldFits (r .«year_name») (yearName (civilYearOfMonth n)) ≡ true) where
     pub number-fails : fieldFits (r .«month_number») (monthNumber n) ≡ false → monthFits r n ≡ false
     unfolding monthFits
     number-fails b = rw (a, b)

@@ -9,7 +9,7 @@ use lib.ListN.{length, getD, drop, List·getD-append}
 use borrow.Author.Tests.{eqb-true, eq-eqb}
 use Rattle.rule.specs.Counts.{dayName, yearName}
 use Rattle.rule.specs.Lists.{those, placed}
-use Rattle.rule.specs.Rule.{monthStart, monthOfDay, yearOfMonth, leap, midTermsBefore, midTermNumber, monthNumber, monthAt}
+use Rattle.rule.specs.Rule.{monthStart, monthOfDay, solsticeYearOfMonth, civilYearOfMonth, leap, midTermsBefore, midTermNumber, monthNumber, monthAt}
 use Rattle.rule.specs.Reasons.{Answer, is, refused, refused-with, reasonNumber, reasonOf, afterwards}
 use Rattle.rule.proofs.Months.{of-day}
 use Rattle.rule.proofs.Leap as Leaps
@@ -62,7 +62,7 @@ fits-literally r d = (λ e. there (six .0 e), λ h. six .1 (back h))
 
     Four : Type 0
     Four =
-        ((FieldFits (r .«year_name») (yearName (yearOfMonth n)) × FieldFits (r .«month_number») (monthNumber n))
+        ((FieldFits (r .«year_name») (yearName (civilYearOfMonth n)) × FieldFits (r .«month_number») (monthNumber n))
         × FieldFits (r .«leap_mark») (markNumber (leap n)))
         × FieldFits (r .«first_name») (dayName (monthStart n))
 
@@ -73,8 +73,8 @@ fits-literally r d = (λ e. there (six .0 e), λ h. six .1 (back h))
     four =
         both-true _ (fieldFits (r .«first_name») (dayName (monthStart n)))
         (both-true _ (fieldFits (r .«leap_mark») (markNumber (leap n)))
-        (both-true (fieldFits (r .«year_name») (yearName (yearOfMonth n))) (fieldFits (r .«month_number») (monthNumber n))
-        (field-fits (r .«year_name») (yearName (yearOfMonth n))) (field-fits (r .«month_number») (monthNumber n)))
+        (both-true (fieldFits (r .«year_name») (yearName (civilYearOfMonth n))) (fieldFits (r .«month_number») (monthNumber n))
+        (field-fits (r .«year_name») (yearName (civilYearOfMonth n))) (field-fits (r .«month_number») (monthNumber n)))
         (field-fits (r .«leap_mark») (markNumber (leap n))))
         (field-fits (r .«first_name») (dayName (monthStart n)))
 
@@ -329,7 +329,7 @@ second-of-two-big-listed n d r first last k old new big also inside e h g s = fo
 
 -- what a day's six values are computed from
 computing : ℕ
-unfolding sixOf dateOf dateIn monthAt monthStart monthOfDay yearOfMonth monthNumber midTermNumber midTermsBefore leap dayName yearName
+unfolding sixOf dateOf dateIn monthAt monthStart monthOfDay solsticeYearOfMonth monthNumber midTermNumber midTermsBefore leap dayName yearName
 computing = 0
 
 pub wrong-searches : Paper.Wrong-searches

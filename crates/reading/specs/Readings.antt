@@ -6,7 +6,7 @@ use mathlib.Core.List.{List}
 use lib.Dec.{eqb, leb}
 use Rattle.rule.specs.Counts.{MonthInRange, dayName, yearName}
 use Rattle.rule.specs.Lists.{those}
-use Rattle.rule.specs.Rule.{monthStart, monthOfDay, yearOfMonth, leap, monthNumber, numberOf, leapMark}
+use Rattle.rule.specs.Rule.{monthStart, monthOfDay, civilYearOfMonth, leap, monthNumber, numberOf, leapMark}
 use Rattle.rule.specs.Reasons.{within}
 use Rattle.dates.specs.declared.Date.{Date}
 use Rattle.dates.specs.Dates.{dateOf}
@@ -51,7 +51,7 @@ fieldFits Unread value = true
 -- the four values that all days of month n share: year name, month number, leap mark, name of the month's first day
 unfoldable pub monthFits : Reading → ℕ → Bool
 monthFits r n =
-    fieldFits (r .«year_name») (yearName (yearOfMonth n))
+    fieldFits (r .«year_name») (yearName (civilYearOfMonth n))
     && fieldFits (r .«month_number») (monthNumber n)
     && fieldFits (r .«leap_mark») (markNumber (leap n))
     && fieldFits (r .«first_name») (dayName (monthStart n))

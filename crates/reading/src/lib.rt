@@ -5,7 +5,7 @@ ghost use lib.ListN.{length};
 ghost use lib.Seq.{sets};
 ghost use Rattle.rule.specs.Counts.{DayInRange, MonthInRange, dayName, yearName};
 ghost use Rattle.rule.specs.Lists.{those, placed};
-ghost use Rattle.rule.specs.Rule.{monthStart, yearOfMonth, monthNumber, leap};
+ghost use Rattle.rule.specs.Rule.{monthStart, civilYearOfMonth, monthNumber, leap};
 ghost use Rattle.reading.specs.Readings.{markNumber, fieldFits, fieldInRange, inRanges, monthFits, dayFits, PartOfMonth, windowHolds, fitting};
 ghost use Rattle.reading.specs.Search.{Searched};
 use rule::Reason;
@@ -82,9 +82,9 @@ fn mark_number(leap: bool) -> u32
 // Whether a field fits a month's year name.
 fn year_name_fits(f: Field, n: u32) -> bool
     requires { ⌜ MonthInRange n ⌝ }
-    ensures { λ b. ⌜ b ≡ fieldFits f (yearName (yearOfMonth n)) ⌝ }
+    ensures { λ b. ⌜ b ≡ fieldFits f (yearName (civilYearOfMonth n)) ⌝ }
 {
-    field_fits(f, rule::year_name(rule::year_of_month(n)) as u32)
+    field_fits(f, rule::year_name(rule::civil_year_of_month(n)) as u32)
 }
 
 // Whether a field fits a month's number.

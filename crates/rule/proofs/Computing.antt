@@ -11,10 +11,10 @@ use Rattle.rule.specs.Rule.{
   quarterParts,
   termDay,
   termParts,
-  firstMonth,
+  solsticeFirstMonth,
   leapRemainder,
-  monthsInYear,
-  yearOfMonth,
+  monthsInSolsticeYear,
+  solsticeYearOfMonth,
   midTermsBefore,
   leap,
   midTermNumber,
@@ -33,5 +33,5 @@ unfolding monthStart smallRemainder monthLength monthOfDay quarterDay quarterPar
 months = 0
 
 unfoldable pub rule-computed : ℕ
-unfolding termDay termParts firstMonth leapRemainder monthsInYear yearOfMonth shortcutNumber counts months
+unfolding termDay termParts solsticeFirstMonth leapRemainder monthsInSolsticeYear solsticeYearOfMonth shortcutNumber counts months
 rule-computed = 0

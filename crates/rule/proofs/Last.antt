@@ -5,7 +5,7 @@ use mathlib.Core.Path.{_≡_, refl, ap, sym, _∙_}
 use mathlib.Core.Bool.{Bool, true, false}
 use lib.Dec.{ltb}
 use borrow.Author.Tests.{lt-ltb, le-ltb}
-use Rattle.rule.specs.Rule.{monthStart, InMonth, midTermDay, midTermsBefore, firstMonth, InYear, yearOfMonth, leap, midTermNumber, monthNumber}
+use Rattle.rule.specs.Rule.{monthStart, InMonth, midTermDay, midTermsBefore, solsticeFirstMonth, InSolsticeYear, solsticeYearOfMonth, leap, midTermNumber, monthNumber}
 use Rattle.rule.proofs.Years.{of-month}
 use Rattle.rule.proofs.Leap.{before-iff, before-first, before-mono, before-step, first-ordinary, holds-next, leap-stays, ordinary-rises, stays-leap, rises-ordinary}
 
@@ -30,10 +30,10 @@ module _ (n m : ℕ) (low : midTermDay m < monthStart (n + 1)) (high : monthStar
           le-ltb (midTermDay m) (monthStart n) (omega arith) ∙ sym h
 
   -- a year has twelve mid-terms, the first in its first month
-  pub year-by-last : m / 12 + 1 ≡ yearOfMonth n
-  year-by-last = go (yearOfMonth n) (of-month (yearOfMonth n) n .1 refl)
+  pub year-by-last : m / 12 + 1 ≡ solsticeYearOfMonth n
+  year-by-last = go (solsticeYearOfMonth n) (of-month (solsticeYearOfMonth n) n .1 refl)
     where
-      go : (y : ℕ) → InYear y n → m / 12 + 1 ≡ y
+      go : (y : ℕ) → InSolsticeYear y n → m / 12 + 1 ≡ y
       go y i =
           omega (
             arith,
@@ -42,8 +42,8 @@ module _ (n m : ℕ) (low : midTermDay m < monthStart (n + 1)) (high : monthStar
             before-first y,
             before-first (y + 1),
             first-ordinary y,
-            before-mono (firstMonth y + 1) (n + 1) (omega (arith, i .1)),
-            before-mono (n + 1) (firstMonth (y + 1)) (omega (arith, i .2)),
+            before-mono (solsticeFirstMonth y + 1) (n + 1) (omega (arith, i .1)),
+            before-mono (n + 1) (solsticeFirstMonth (y + 1)) (omega (arith, i .2)),
           )
 
 -- and the month after one that holds mid-term m is leap exactly where the next mid-term does not come before its end

@@ -3,7 +3,7 @@
 // All of these are inner: what asks for a range in its `requires` is called where the range has been tested.
 ghost use mathlib.Core.Path.{_≡_};
 ghost use Prim.Native.Nat.{ℕ, _+_, _*_, _/_, _≤_, _<_};
-ghost use Rattle.rule.specs.Counts.{YearInRange, DayInRange, MonthInRange, dayName, yearName, ji, bu, yearInBu, headName};
+ghost use Rattle.rule.specs.Counts.{SolsticeYearInRange, CivilYearInRange, DayInRange, MonthInRange, dayName, yearName, ji, bu, yearInBu, headName};
 ghost use Rattle.rule.specs.Rule.{
   monthStart,
   smallRemainder,
@@ -14,10 +14,12 @@ ghost use Rattle.rule.specs.Rule.{
   termDay,
   termParts,
   midTermDay,
-  firstMonth,
+  solsticeFirstMonth,
   leapRemainder,
-  monthsInYear,
-  yearOfMonth,
+  monthsInSolsticeYear,
+  civilFirstMonth,
+  monthsInCivilYear,
+  civilYearOfMonth,
   midTermsBefore,
   leap,
   midTermNumber,
@@ -62,7 +64,7 @@ pub enum Reason {
     NoConjunctionLeft,
 }
 
-// The place of a year: ji 1 to 3, bu 1 to 20, year in bu 1 to 76.
+// The place of a solstice year: ji 1 to 3, bu 1 to 20, year in bu 1 to 76.
 pub struct Place {
     pub ji: u8,
     pub bu: u8,
@@ -81,7 +83,7 @@ pub struct Term {
     pub parts: u8,
 }
 
-// A year, and the number of one of its months.
+// A civil year, and the number of one of its months.
 pub struct YearMonth {
     pub year: u16,
     pub number: u8,
@@ -142,16 +144,16 @@ pub fn day_name(day: u32) -> u8
     (day % 60 + 1) as u8
 }
 
-// The name of a year.
+// The name of a civil year.
 pub fn year_name(year: u16) -> u8
     ensures { λ r. ⌜ r ≡ yearName year ⌝ }
 {
     ((year as u32 + 15) % 60 + 1) as u8
 }
 
-// The place of a year, from its elapsed years.
+// The place of a solstice year, from its elapsed years.
 pub fn place_of(year: u16) -> Place
-    requires { ⌜ YearInRange year ⌝ }
+    requires { ⌜ SolsticeYearInRange year ⌝ }
     ensures { λ r. ⌜ (r .ji ≡ ji year) × (r .bu ≡ bu year) × (r .«year_in_bu» ≡ yearInBu year) ⌝ }
 {
     let elapsed = year - 1;
@@ -240,8 +242,8 @@ pub fn last_mid_term(day: u32) -> u32
     (16 * day - 1) / 487
 }
 
-// The year in which a mid-term falls, and the number of the month that holds it: 11, 12, 1, 2 .. 10.
-pub fn year_and_number(m: u32) -> YearMonth
+// The civil year of the month that holds a mid-term, and the number of the month that holds it: 11, 12, 1, 2 .. 10.
+pub fn civil_year_and_number(m: u32) -> YearMonth
     requires { ⌜ m < 492480 ⌝ }
     ensures { λ r. ⌜ (r .year ≡ m / 12 + 1) × (r .number ≡ midTermNumber m) ⌝ }
 {
@@ -257,34 +259,50 @@ pub fn year_and_number(m: u32) -> YearMonth
     }
 }
 
-// The first month of a year; of the year after the last too, where the last year ends.
-pub fn first_month(year: u16) -> u32
+// The first month of a solstice year; of the year after the last too, where the last year ends.
+pub fn solstice_first_month(year: u16) -> u32
     requires { ⌜ (1 ≤ year) × (year ≤ 41041) ⌝ }
-    ensures { λ r. ⌜ r ≡ firstMonth year ⌝ }
+    ensures { λ r. ⌜ r ≡ solsticeFirstMonth year ⌝ }
 {
     235 * (year as u32 - 1) / 19
 }
 
-// The leap remainder of a year.
+// The leap remainder of a solstice year.
 pub fn leap_remainder(year: u16) -> u8
-    requires { ⌜ YearInRange year ⌝ }
+    requires { ⌜ SolsticeYearInRange year ⌝ }
     ensures { λ r. ⌜ r ≡ leapRemainder year ⌝ }
 {
     (235 * (year as u32 - 1) % 19) as u8
 }
 
-// How many months a year has: 13 at a leap remainder of 12 or more, else 12.
-pub fn months_in_year(year: u16) -> u8
-    requires { ⌜ YearInRange year ⌝ }
-    ensures { λ r. ⌜ r ≡ monthsInYear year ⌝ }
+// How many months a solstice year has: 13 at a leap remainder of 12 or more, else 12.
+pub fn months_in_solstice_year(year: u16) -> u8
+    requires { ⌜ SolsticeYearInRange year ⌝ }
+    ensures { λ r. ⌜ r ≡ monthsInSolsticeYear year ⌝ }
 {
     if leap_remainder(year) < 12 { 12 } else { 13 }
 }
 
-// The year that a month is in.
-pub fn year_of_month(n: u32) -> u16
+// The month with which a civil year opens.
+pub fn civil_first_month(year: u16) -> u32
+    requires { ⌜ CivilYearInRange year ⌝ }
+    ensures { λ r. ⌜ r ≡ civilFirstMonth year ⌝ }
+{
+    solstice_first_month(year)
+}
+
+// How many months a civil year has.
+pub fn months_in_civil_year(year: u16) -> u8
+    requires { ⌜ CivilYearInRange year ⌝ }
+    ensures { λ r. ⌜ r ≡ monthsInCivilYear year ⌝ }
+{
+    months_in_solstice_year(year)
+}
+
+// The civil year that a month is in.
+pub fn civil_year_of_month(n: u32) -> u16
     requires { ⌜ MonthInRange n ⌝ }
-    ensures { λ r. ⌜ r ≡ yearOfMonth n ⌝ }
+    ensures { λ r. ⌜ r ≡ civilYearOfMonth n ⌝ }
 {
     ((19 * n + 18) / 235 + 1) as u16
 }

@@ -4,7 +4,7 @@ use native.Mathlib.Omega.{arith}
 use mathlib.Core.Path.{_≡_, ap, sym, subst, _∙_}
 use mathlib.Core.List.{List, [], _∷_, _++_}
 use lib.ListN.{length}
-use Rattle.rule.specs.Counts.{YearInRange}
+use Rattle.rule.specs.Counts.{CivilYearInRange}
 use Rattle.rule.specs.Reasons.{Answer, is, within, reasonNumber}
 use Rattle.rule.specs.declared.Reason.{Reason}
 use Rattle.rule.proofs.Answers.{reason-back, holds-all, within-true}
@@ -32,7 +32,7 @@ pub tells : {A R : Type 0} {w v a b : ℕ} {o o′ : List ℕ} (f : A → List �
 tells {R = R} f said {r} {s} e g h p = put-as (sym (ap (λ (t : R). told f (said t)) g) ∙ ap (told f) e) (wide h p)
 
 -- a year that has facts is in range
-pub year-there : (y : ℕ) {r : YearTold} {f : YearFacts} → YearOwnFacts y r → r ≡ Is f → YearInRange y
+pub year-there : (y : ℕ) {r : YearTold} {f : YearFacts} → YearOwnFacts y r → r ≡ Is f → CivilYearInRange y
 unfolding yearFactsAt
 year-there y {r} {f} e g =
     within-true 1 41040 y .0 (holds-all (within 1 41040 y) 1 (is (yearFacts y)) f .0 (sym e ∙ ap saidYear g) .0)

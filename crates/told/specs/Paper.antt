@@ -7,7 +7,7 @@ use mathlib.Core.Bool.{Bool}
 use mathlib.Core.List.{List, [], _∷_, _++_}
 use lib.IntN.{ℤ, pos, _+ℤ_}
 use lib.ListN.{length}
-use Rattle.rule.specs.Counts.{YearInRange, MonthInRange, DayInRange, dayName, yearName, ji, bu, yearInBu, headName}
+use Rattle.rule.specs.Counts.{SolsticeYearInRange, CivilYearInRange, MonthInRange, DayInRange, dayName, yearName, ji, bu, yearInBu, headName}
 use Rattle.rule.specs.Rule.{
   monthStart,
   smallRemainder,
@@ -18,11 +18,13 @@ use Rattle.rule.specs.Rule.{
   termDay,
   termParts,
   yearTerm,
-  firstMonth,
+  solsticeFirstMonth,
   leapRemainder,
-  monthsInYear,
-  InYear,
-  yearOfMonth,
+  monthsInSolsticeYear,
+  civilFirstMonth,
+  monthsInCivilYear,
+  InCivilYear,
+  civilYearOfMonth,
   leap,
   monthNumber,
   eclipse,
@@ -75,15 +77,15 @@ Refusal-literally =
 -- "`PLACE ji bu year-in-bu head-name first-month leap-remainder months`"
 abbrev pub Place-line-literally : Type 0
 Place-line-literally =
-    (y : ℕ) → YearInRange y →
+    (y : ℕ) → SolsticeYearInRange y →
     placeText y
     ≡ (word "PLACE " ++ (decimal (ji y)
     ++ (32 ∷ (decimal (bu y)
     ++ (32 ∷ (decimal (yearInBu y)
     ++ (32 ∷ (decimal (headName (bu y))
-    ++ (32 ∷ (decimal (firstMonth y)
+    ++ (32 ∷ (decimal (solsticeFirstMonth y)
     ++ (32 ∷ (decimal (leapRemainder y)
-    ++ (32 ∷ decimal (monthsInYear y))))))))))))))
+    ++ (32 ∷ decimal (monthsInSolsticeYear y))))))))))))))
     ++ (10 ∷ [])
 
 -- "`YEAR year NAME name MONTHS months FIRST first-month LEAP number month-count` (the last two `-` where there is none)": what
@@ -92,14 +94,14 @@ abbrev pub yearWith : ℕ → List ℕ → List ℕ
 yearWith y last =
     (word "YEAR " ++ (decimal y
     ++ (word " NAME " ++ (decimal (yearName y)
-    ++ (word " MONTHS " ++ (decimal (monthsInYear y)
-    ++ (word " FIRST " ++ (decimal (firstMonth y)
+    ++ (word " MONTHS " ++ (decimal (monthsInCivilYear y)
+    ++ (word " FIRST " ++ (decimal (civilFirstMonth y)
     ++ (word " LEAP " ++ last)))))))))
     ++ (10 ∷ [])
 
 pub record Year-line-literally : Type 0 where
-  pub with-leap : (y k n : ℕ) → YearInRange y → InYear y n → IsMonth n (Leap k) → yearText y ≡ yearWith y (decimal k ++ (32 ∷ decimal n))
-  pub without : (y : ℕ) → YearInRange y → ((n : ℕ) → InYear y n → NoMidTerm n → ⊥) → yearText y ≡ yearWith y (word "- -")
+  pub with-leap : (y k n : ℕ) → CivilYearInRange y → InCivilYear y n → IsMonth n (Leap k) → yearText y ≡ yearWith y (decimal k ++ (32 ∷ decimal n))
+  pub without : (y : ℕ) → CivilYearInRange y → ((n : ℕ) → InCivilYear y n → NoMidTerm n → ⊥) → yearText y ≡ yearWith y (word "- -")
 
 -- "`MONTH count number mark first-name length eclipse first-day small-remainder` (eclipse `E` or `-`)"
 abbrev pub Month-line-literally : Type 0
@@ -123,7 +125,7 @@ Quarter-line-literally =
 -- "`TERM day parts`"
 abbrev pub Term-line-literally : Type 0
 Term-line-literally =
-    (y k : ℕ) → YearInRange y → k ≤ 23 →
+    (y k : ℕ) → SolsticeYearInRange y → k ≤ 23 →
     termText y k ≡ (word "TERM " ++ (decimal (termDay (yearTerm y k)) ++ (32 ∷ decimal (termParts (yearTerm y k))))) ++ (10 ∷ [])
 
 -- "`CONJUNCTION day parts divisor phase`": what stands for the phase is `last`
@@ -164,12 +166,12 @@ Day-line-literally =
     (d : ℕ) →
     dayLine d
     ≡ (word "DAY " ++ (decimal d
-    ++ (32 ∷ (decimal (yearOfMonth (monthOfDay d))
+    ++ (32 ∷ (decimal (civilYearOfMonth (monthOfDay d))
     ++ (32 ∷ (decimal (monthNumber (monthOfDay d))
     ++ (32 ∷ mark (leap (monthOfDay d)) letterL ∷ 32 ∷ (decimal (d - monthStart (monthOfDay d) + 1)
     ++ (32 ∷ (decimal (dayName d)
     ++ (32 ∷ (decimal (monthLength (monthOfDay d))
-    ++ (32 ∷ decimal (yearName (yearOfMonth (monthOfDay d))))))))))))))))
+    ++ (32 ∷ decimal (yearName (civilYearOfMonth (monthOfDay d))))))))))))))))
     ++ (10 ∷ [])
 
 abbrev pub Line-of-a-day : Type 0

@@ -49,7 +49,7 @@ returns c =
     let at = l .before in
     made (at .before .args .day) _ _ _ (at .stands .ensures .0) (at .stands .ensures .1) (length l) _ (m .last-mid-term .ensures .0)
     (m .last-mid-term .ensures .1)
-    (its .year-and-number .ensures .0) (mid-day mid) (its .year-and-number .ensures .1) (month .marked .ensures)
+    (its .civil-year-and-number .ensures .0) (mid-day mid) (its .civil-year-and-number .ensures .1) (month .marked .ensures)
     (own-name (c .before)) (c .year-name .ensures)
 
 pub date-at-spec : {M : Type 1} → statement M

@@ -19,7 +19,7 @@ returns : tie.Need-returns
 unfolding leapMonth
 returns c =
     c .leap-among .ensures
-    ∙ ap₂ (λ (f m : ℕ). firstOf (those leap f m)) (c .before .before .first-month .ensures) (c .before .months-in-year .ensures)
+    ∙ ap₂ (λ (f m : ℕ). firstOf (those leap f m)) (c .before .before .civil-first-month .ensures) (c .before .months-in-civil-year .ensures)
 
 pub leap-month-of-spec : {M : Type 1} → statement M
 leap-month-of-spec =

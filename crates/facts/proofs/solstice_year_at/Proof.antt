@@ -9,7 +9,7 @@ returns c =
     let p = c .before .before .before .before in
     let place = p .place-of .ensures in
     solstice-year-made (p .before .args .year) (place .0) (place .1) (place .2) (c .before .before .before .head-name .ensures)
-    (c .before .before .first-month .ensures) (c .before .leap-remainder .ensures) (c .months-in-year .ensures)
+    (c .before .before .solstice-first-month .ensures) (c .before .leap-remainder .ensures) (c .months-in-solstice-year .ensures)
 
 pub solstice-year-at-spec : {M : Type 1} → statement M
 solstice-year-at-spec =

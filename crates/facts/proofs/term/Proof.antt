@@ -4,7 +4,7 @@ use mathlib.Core.Path.{_≡_, refl, ap, sym, _∙_}
 use mathlib.Core.Bool.{true}
 use lib.Dec.{leb}
 use borrow.Author.Tests.{lt-leb}
-use Rattle.rule.specs.Counts.{YearInRange}
+use Rattle.rule.specs.Counts.{SolsticeYearInRange}
 use Rattle.rule.specs.Reasons.{is, within}
 use Rattle.rule.proofs.Answers.{within-true, failed, passed, stops, passes}
 use Rattle.facts.specs.Facts.{termOf, termAt}
@@ -24,7 +24,7 @@ returns c =
 year-there : (c : tie.Else1) → within 1 41040 (c .before .before .args .year) ≡ true
 year-there c = passed (c .before .in-range .result) _ (c .before .in-range .ensures) (c .if1 .left)
 
-year-range : (c : tie.Else1) → YearInRange (c .before .before .args .year)
+year-range : (c : tie.Else1) → SolsticeYearInRange (c .before .before .args .year)
 year-range c = within-true 1 41040 (c .before .before .args .year) .0 (year-there c)
 
 returns-2 : tie.Need-returns-2

@@ -1,7 +1,7 @@
 -- `facts::year_facts` meets its contract: reason 1, or the facts. Assumes nothing.
 use native.Mathlib.Omega.{arith}
 use mathlib.Core.Path.{ap, sym, _∙_}
-use Rattle.rule.specs.Counts.{YearInRange}
+use Rattle.rule.specs.Counts.{SolsticeYearInRange}
 use Rattle.rule.specs.Reasons.{is, within}
 use Rattle.rule.proofs.Answers.{within-true, failed, passed, stops}
 use Rattle.facts.specs.Facts.{yearFacts, yearFactsAt}
@@ -18,7 +18,7 @@ returns c =
     sym (stops (within 1 41040 y) 1 (is (yearFacts y)) (failed (test .result) _ (test .ensures) (c .if1 .taken)))
 
 -- the year is there
-year-there : (c : tie.Else1) → YearInRange (c .before .before .args .year)
+year-there : (c : tie.Else1) → SolsticeYearInRange (c .before .before .args .year)
 year-there c =
     let test = c .before .in-range in
     within-true 1 41040 (c .before .before .args .year) .0 (passed (test .result) _ (test .ensures) (c .if1 .left))

@@ -7,8 +7,8 @@ use Rattle.facts.proofs.year_facts_at.Tie as tie
 returns : tie.Need-returns
 returns c =
     let leap = c .before .before .before in
-    year-made (leap .before .args .year) (c .before .before .year-name .ensures) (c .before .first-month .ensures)
-    (c .months-in-year .ensures) (leap .leap-month-of .ensures)
+    year-made (leap .before .args .year) (c .before .before .year-name .ensures) (c .before .civil-first-month .ensures)
+    (c .months-in-civil-year .ensures) (leap .leap-month-of .ensures)
 
 pub year-facts-at-spec : {M : Type 1} → statement M
 year-facts-at-spec =

@@ -2,7 +2,7 @@
 use mathlib.Core.Path.{_≡_, sym, _∙_}
 use mathlib.Core.Bool.{true}
 use Rattle.rule.specs.Counts.{yearName}
-use Rattle.rule.specs.Rule.{yearOfMonth, monthNumber}
+use Rattle.rule.specs.Rule.{civilYearOfMonth, monthNumber}
 use Rattle.rule.proofs.Answers.{failed, passed}
 use Rattle.reading.specs.Readings.{fieldFits}
 use Rattle.reading.proofs.Fits.{year-name-fails, number-fails, mark-fails, first-name-decides}
@@ -13,7 +13,7 @@ use Rattle.reading.proofs.month_fits.Tie as tie
 -- a value that was looked at and fits
 year-name : (c : tie.Else1) →
     let a = c .before .before .args in
-    fieldFits (a .r .«year_name») (yearName (yearOfMonth (a .n))) ≡ true
+    fieldFits (a .r .«year_name») (yearName (civilYearOfMonth (a .n))) ≡ true
 year-name c = passed (c .before .year-name-fits .result) _ (c .before .year-name-fits .ensures) (c .if1 .left)
 
 number : (c : tie.Else2) →

@@ -9,7 +9,7 @@ use Rattle.reading.proofs.year_name_fits.Tie as tie
 returns : tie.Need-returns
 returns c =
     c .field-fits .ensures
-    ∙ ap (fieldFits (c .before .before .before .args .f)) (c .before .year-name .ensures ∙ ap yearName (c .before .before .year-of-month .ensures))
+    ∙ ap (fieldFits (c .before .before .before .args .f)) (c .before .year-name .ensures ∙ ap yearName (c .before .before .civil-year-of-month .ensures))
 
 pub year-name-fits-spec : {M : Type 1} → statement M
 year-name-fits-spec =
