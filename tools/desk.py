@@ -4,8 +4,9 @@ from the origin and shares nothing with the library.
 
 The desk's first lines are worked by hand from the issue's and the paper's own figures, edges and wrong lines; then come lines drawn
 by a generator with a fixed seed, sound and damaged, enough to pass the 65,536 bytes that the program reads at a time. After these
-stand the notes and the pairs, by hand and drawn by a second generator, so that no line before them changes. The last line has no
-newline. The lines of `echo` are a short page that tries what it does with notes, queries and lines of any length.
+stand the notes and the pairs, by hand and drawn by a second generator, and then days about the turns of civil years and dates of
+the years at both ends, drawn by a third, so that no line before them changes. The last line has no newline. The lines of `echo` are
+a short page that tries what it does with notes, queries and lines of any length.
 
 usage: tools/desk.py            write stdin and stdout of crates/desk and crates/echo
        tools/desk.py --check    say whether what stands is what it computes (exit status 1 if not)
@@ -167,12 +168,12 @@ DAY 3420558
 DAY 14989859
 DAY 14989860
 DAY 99999999999
-DATE 9366 11 - 1
+DATE 9365 11 - 1
 DATE 11 9 L 29
 DATE 11 9 L 30
 DATE 11 9 - 30
 DATE 11 8 L 1
-DATE 1 11 - 1
+DATE 0 11 - 1
 DATE 41040 10 - 30
 DATE 0 13 L 31
 DATE 5 300 - 1
@@ -180,11 +181,11 @@ DATE 5 0 - 31
 DATE 5 1 - 31
 DATE 5 1 - 0
 DATE 5 1 L 4294967297
-MOVE 1 11 - 1 0
-MOVE 1 11 - 1 27759
-MOVE 1 11 - 1 -1
-MOVE 1 11 - 1 14989859
-MOVE 1 11 - 1 14989860
+MOVE 0 11 - 1 0
+MOVE 0 11 - 1 27759
+MOVE 0 11 - 1 -1
+MOVE 0 11 - 1 14989859
+MOVE 0 11 - 1 14989860
 MOVE 11 9 L 29 -5
 MOVE 11 9 L 29 -3985
 MOVE 11 9 L 29 -3986
@@ -225,7 +226,7 @@ WRONG = [
 
 def long_lines():
     """At most 200 bytes, and more; a number of so many digits is refused by its own reason."""
-    return [b"YEAR " + b"9" * 195, b"YEAR " + b"9" * 196, b"MOVE 1 11 - 1 -" + b"9" * 185, b"MOVE 1 11 - 1 -" + b"9" * 186,
+    return [b"YEAR " + b"9" * 195, b"YEAR " + b"9" * 196, b"MOVE 0 11 - 1 -" + b"9" * 185, b"MOVE 0 11 - 1 -" + b"9" * 186,
             b"SEARCH" + b" ?" * 97, b"x" * 200, b"x" * 201, b"YEAR 11" + b" " * 500, b"\xff\x00" * 400]
 
 
@@ -293,7 +294,7 @@ def queries(desk):
 
 NOTES = [
     "#", "# a note", "#YEAR 11", " # not a note", "##", "# 木周率四千三百二十七, a note of more bytes than letters", "#\t\r",
-    "YEAR 11 # not a note", "YEAR 11#", "# UNREADABLE", "# REFUSED 1 year outside 1 to 41,040", "?#", "", "# after an empty line",
+    "YEAR 11 # not a note", "YEAR 11#", "# UNREADABLE", "# REFUSED 1 year outside its range", "?#", "", "# after an empty line",
 ]
 PAIRS = [f"PAIR {p}" for p in (1, 2, 3, 4, 5, 0, 6, 10, 257, 261, 2**32 - 1, 2**32, 2**32 + 1, 2**64, 2**64 + 5, 10**40 + 3)]
 WRONG_PAIRS = [
@@ -318,7 +319,25 @@ def added(desk):
         while len(desk.told(line.encode())) > 30:
             line = drawn(desk, draw, words)
         lines.append((damaged(line, draw) if turn % 5 == 0 else line).encode())
-    return lines + [b"# the last line has no newline", b"PAIR 3"]
+    return lines
+
+
+# The civil year: the days about its turns, and the dates of the years at both ends, which are there or not.
+
+
+def turns(desk):
+    draw, lines = random.Random(20261117), []
+    for _ in range(200):
+        first = desk.c.starts[desk.c.months_of_civil[draw.randint(1, YEARS)][0]]
+        day = max(0, first + draw.randint(-65, 35))
+        y, k, l, m, _, _, yn = desk.date_fields(day)
+        date = f"{y} {k} {mark(l)} {m}"
+        lines.append(draw.choice((f"DAY {day}", f"DATE {date}", f"MOVE {date} {draw.randint(-90, 90)}", f"YEAR {y}",
+                                  f"SEARCH {yn} ? ? ? ? ? {max(0, day - 3)} {day + 3}")))
+        year = draw.choice((0, 0, 1, YEARS - 1, YEARS, YEARS, YEARS + 1))
+        date = f"{year} {draw.randint(0, 13)} {draw.choice('-L')} {draw.choice((0, 1, 15, 29, 30, 31))}"
+        lines.append(draw.choice((f"DATE {date}", f"MOVE {date} {draw.randint(-400, 400)}")))
+    return [line.encode() for line in lines] + [b"# the last line has no newline", b"PAIR 3"]
 
 
 # The page of `echo`.
@@ -338,7 +357,7 @@ NEXT 4 3453334
 PAIR 4
 DAY 3420558
 DATE 11 9 L 29
-MOVE 1 11 - 1 27759
+MOVE 0 11 - 1 27759
 SEARCH 27 9 ? 1 ? ? 3600 4000
 SEARCH 27 9 ? 30 ? ? 3600 3700
 # and refused
@@ -352,7 +371,8 @@ NEXT 1 14989826
 PAIR 6
 DAY 14989860
 DATE 11 9 L 30
-MOVE 1 11 - 1 -1
+DATE 0 10 - 1
+MOVE 0 11 - 1 -1
 SEARCH 61 ? ? ? ? ? 0 5
 # No queries: a word of the answers, a space before the mark of a note, letters for a number, an empty line, a space, a return
 UNREADABLE
@@ -382,7 +402,8 @@ def main():
             sys.stdout.buffer.write(b"".join(map(call, lines_in(sys.stdin.buffer.read()))))
             return 0
     files = {}
-    for program, lines, call in (("desk", queries(desk) + added(desk), desk.answer), ("echo", echo_lines(), desk.echo)):
+    asked = queries(desk) + added(desk) + turns(desk)
+    for program, lines, call in (("desk", asked, desk.answer), ("echo", echo_lines(), desk.echo)):
         files[ROOT / "crates" / program / "stdin"] = b"\n".join(lines)
         files[ROOT / "crates" / program / "stdout"] = b"".join(map(call, lines))
     return hold(files)

@@ -12,7 +12,11 @@ read off an answer of the desk: see BESIDE; the program `beside` asks these of t
 planet-const, arith, const, identity and the like that has a question in it gets a kind of its own: see NAMED.
 Out, by kind: see OUT, with the reason of each. Out, by class: CONVENTION (another way of counting, eclipses from other epochs).
 
-planet-count (積合 and 合餘, by the end of year Y): the year ends with the next year's solstice. The first conjunction from that day on
+Years: 004 counts solstice years, and PLACE and TERM ask a row's Y as it stands. A year's name is that of the civil year of the same
+count, which months 1 to 10 lie in. A month 11 or 12, leap or not, that a row names by its solstice year is asked in the civil year
+before it (D18), and its note says which that is.
+
+planet-count (積合 and 合餘, by the end of solstice year Y): the year ends with the next one's solstice. The first conjunction from that day on
 is one more than the last by then. No query gives the 合餘, Y × 周率 - k × 日率; since a year is 1,461 quarters of a day, 1 of it is 1,461
 parts of the divisor, so that 004's figure says when the last conjunction was, and stands in the answer as its day and parts.
 
@@ -111,6 +115,8 @@ CLASSES = ["MISPRINT(numeral)", "MISPRINT(scan gap/interleave)", "SOURCE-DATE"]
 HEADING = [
     "FIGURES OF 004: the row's name, 004's lines (L), kind and inputs, what 004 prints, and its words where there is room.",
     "- is not stated in 004, ? is lost in its print.",
+    "A year Y is a solstice year: PLACE and TERM ask it as it stands. A year's name is that of the civil year of the same count.",
+    "A month 11 or 12 that a row names by its solstice year is asked in the civil year before it, which the note then names.",
     "Where a figure is not the answer's own: elapsed years are one less than the year in the bu;",
     "the days of bu-month and planet-in-month are counted from the first day of the first month that is asked;",
     "the days of month-step are less whole sixties, one less than the name;",
@@ -200,8 +206,13 @@ class Asked:
     def told(self, query, field):
         return int(fields(self.page.answer(query)[0])[field])
 
+    def civil_year(self, year, number):
+        """The civil year of the month of that number in a solstice year, as the calendar has it."""
+        [civil] = {self.c.civil_year[n] for n in self.c.months_of_solstice[year] if self.c.number[n] == number}
+        return civil
+
     def bu(self, ji, bu):
-        """The first year of a bu of the first yuan, and its place."""
+        """The first solstice year of a bu of the first yuan, by its place."""
         year = 1520 * (ji - 1) + 76 * (bu - 1) + 1
         place = self.page.desk.place(year)[0]
         assert [fields(place)[field] for field in ("ji", "bu", "year-in-bu")] == [str(ji), str(bu), "1"]
@@ -227,7 +238,9 @@ class Asked:
         return [f"PLACE {year}"], [at(0, "first-month"), at(0, "leap-remainder")]
 
     def leap_month(self, year):
-        return [f"YEAR {year}"], [at(0, "leap-number"), at(0, "leap-month")]
+        """The leap month of a solstice year, asked of the civil year that it lies in."""
+        [leap] = [n for n in self.c.months_of_solstice[year] if self.c.leap[n]]
+        return [f"YEAR {self.c.civil_year[leap]}"], [at(0, "leap-number"), at(0, "leap-month")]
 
     def month_start(self, n):
         return [f"MONTH {n}"], [at(0, "first-day"), at(0, "small-remainder"), at(0, "first-name")]
@@ -292,9 +305,10 @@ class Asked:
         return self.term(1, k)[0], [at(1, "number")]
 
     def reading(self, year, number, leap, day_name):
-        """In the 384 days from the year's first, which the longest year has: a month has one day of a name at most."""
-        year_name = self.told(f"YEAR {year}", "name")
-        first = self.c.starts[self.c.months_of[year][0]]
+        """In the 384 days from the civil year's first, which the longest one has: a month has one day of a name at most."""
+        civil = self.civil_year(year, number)
+        year_name = self.told(f"YEAR {civil}", "name")
+        first = self.c.starts[self.c.months_of_civil[civil][0]]
         query = f"SEARCH {year_name} {number} {'L' if leap else '-'} ? {day_name} ? {first} {first + 383}"
         return [query], [at(0, "total", either("1", "0"))]
 
@@ -310,7 +324,7 @@ class Asked:
         return [f"MONTH {n}", f"CONJUNCTION {p} {k}"], [at(1, "day", plus(self.c.starts[n])), at(1, "parts")]
 
     def planet_count(self, p, years):
-        """The next year's solstice is the end; the first conjunction from its day on is after it; the last one before."""
+        """The next solstice year's solstice is the end; the first conjunction from its day on is after it; the last one before."""
         conjunctions = PLANETS[p][0]
         end, divisor = 1461 * conjunctions * years, 4 * conjunctions
         solstice = self.told(f"TERM {years + 1} 0", "day")
@@ -404,6 +418,8 @@ class Run:
         text = f"{row['id']} L{row['lines']} {kind} {inputs}: " + " ".join(f"{l}={p}" for l, p in zip(labels, printed))
         if word:
             text += f"; {word}: the rule gives " + " ".join(f"{l}={r}" for l, p, r in zip(labels, printed, ruled) if p != r)
+        if kind == "reading" and self.asked.civil_year(*numbers[:2]) != numbers[0]:
+            text += f"; civil year {self.asked.civil_year(*numbers[:2])}"
         if kind in BESIDE:
             text += "; asked by the program `beside`"
         self.note(text, row["quote"])

@@ -109,10 +109,12 @@ def sheets():
         "# A count and an item of each kind, just outside and just inside": [
             *(little(n, 2) for n in (1000, 1001)),
             *([1, 0, *little(y, 2), 0, 0, 0, 0] for y in (0, YEARS, YEARS + 1)),
+            *([2, 0, *little(y, 2), *little(z, 2), 0, 0, 0, 0] for y, z in ((0, YEARS), (0, YEARS + 1))),
             *([0, 0, 1, 0, *little(n, 4), 0, 0] for n in (MONTHS - 1, MONTHS)),
             *([0, 0, 0, 0, 1, 0, *little(d, 4)] for d in (DAYS - 1, DAYS))],
         "# Bytes left over, lists too short, and the order: byte order, then 11, then 12": [
-            [0] * 7, [2, 0, 11, 0, 12, 0, 0, 0, 0, 0], three, [*three, 0], [3, 0, 11, 0, 0, 0, 13, 0, 0, 0, 0, 0, 0], [0, 0, 0, 0, 233, 3, 0]],
+            [0] * 7, [2, 0, 11, 0, 12, 0, 0, 0, 0, 0], three, [*three, 0],
+            [3, 0, 11, 0, *little(YEARS + 1, 2), 13, 0, 0, 0, 0, 0, 0], [0, 0, 0, 0, 233, 3, 0]],
     }
     for note, sheets_of in asked.items():
         yield note
@@ -120,8 +122,8 @@ def sheets():
             yield from read(data)
     yield "# Lists written into a buffer of twenty sevens"
     last = ([YEARS], [MONTHS - 1], [DAYS - 1])
-    for lists in (([11], [134], [3957]), ([0], [], []), ([YEARS + 1], [MONTHS], []), ([YEARS], [MONTHS], [DAYS]), (*last[:2], [DAYS]), last,
-                  (range(11, 18), [], []), (range(11, 19), [], [])):
+    for lists in (([11], [134], [3957]), ([0], [], []), ([0, YEARS], [], []), ([YEARS + 1], [MONTHS], []), ([0, YEARS + 1], [], []),
+                  ([YEARS], [MONTHS], [DAYS]), (*last[:2], [DAYS]), last, (range(11, 18), [], []), (range(11, 19), [], [])):
         yield from write(*lists)
     yield from ["# A full sheet, read back, and a year too many", "WRITE 1000 OF EACH", f"BYTES {len(full)}"]
     yield from ["SHEET READ BACK", "COUNTS" + spaced(map(len, back)), "LAST" + lists_text(items[999:] for items in back)]
@@ -132,18 +134,18 @@ def sheets():
 
 
 def printed_text(desk, word, n):
-    lines, most, reason = {
+    lines, end, reason = {
         "YEAR": (lambda: year_block(desk, n), YEARS + 1, 1),
         "LINE": (lambda: [month_fields(desk, n)], MONTHS, 7),
         "MONTH": (lambda: ["MONTH " + month_fields(desk, n)], MONTHS, 7),
         "DAY": (lambda: [listed_day(desk, n)], DAYS, 6),
     }[word]
-    return "".join(line + "\n" for line in lines()).encode() if (word == "YEAR") <= n < most else reason
+    return "".join(line + "\n" for line in lines()).encode() if n < end else reason
 
 
 def printed_lines(desk):
     asked = {
-        "YEAR": ((0, 0), (YEARS + 1, 30), (70000, 30), (11, 30)),
+        "YEAR": ((YEARS + 1, 0), (70000, 30), (0, 30), (11, 30)),
         "LINE": ((MONTHS, 0), (MONTHS - 1, 0), (134, 15), (134, 16), (134, 30)),
         "MONTH": ((MONTHS, 0), (134, 21), (134, 22), (4294967295, 30)),
         "DAY": ((DAYS, 0), (DAYS - 1, 29), (DAYS - 1, 30), (0, 30)),
@@ -161,7 +163,8 @@ def printed_lines(desk):
 
 def large_numbers(desk):
     least, most, greatest = -(2**63), 2**63 - 1, 2**64 - 1
-    out = [f"MOVE 1 13 - 1 {most}", f"MOVE 11 8 L 1 {least}", f"MOVE 1 11 - 1 {most}", f"MOVE 41040 10 L 30 {least}"]
+    out = [f"MOVE 1 13 - 1 {most}", f"MOVE 0 10 L 1 {least}", f"MOVE 41040 11 - 1 {most}", f"MOVE 11 8 L 1 {least}"]
+    out += [f"MOVE 0 11 - 1 {most}", f"MOVE 41040 10 L 30 {least}"]
     out += [f"CONJUNCTION {p} {greatest}" for p in (0, 6, 261, 2**32 - 1, *PLANETS)]
     first_of_65_bits = -(-(2**64) // (PLANETS[3][1] * 1461))
     out += [f"CONJUNCTION {p} {k}" for p, k in ((1, 2**32), (3, first_of_65_bits - 1), (3, first_of_65_bits), (5, 2**63))]
@@ -199,7 +202,7 @@ class Figures:
         return lines
 
     def eclipses(self):
-        first, end = (self.c.by_name[year, 1, False] for year in (9368, 9461))
+        first, end = (self.c.months_of_civil[year][0] for year in (9368, 9461))
         count, *lines = self.counted("ECLIPSE-COUNT 9368 9460", lambda n: first <= n < end and is_eclipse(n), range(MONTHS))
         return [self.note("H35", "eclipse-count first-civil=9368 last-civil=9460", [("eclipse-months", count)]), *lines]
 
@@ -217,7 +220,7 @@ class Figures:
 
     def first_days(self):
         def holds(y):
-            n = self.c.months_of[y][0]
+            n = self.c.months_of_solstice[y][0]
             return 343335 * (y - 1) - 1461 * (235 * (y - 1) % 19) == 940 * self.c.starts[n] + self.c.small_remainder(n)
 
         note = self.note("N06", "first-day-identity years=41040", [("holds", "yes")])
@@ -293,11 +296,11 @@ def uses_printed(desk, word, n):
 
 
 def uses(desk):
-    out = echoed(desk, """DAY 3420558,DAY 14989860,DATE 9366 11 - 1,DATE 11 8 L 1,MOVE 1 11 - 1 27759,MOVE 1 11 - 1 -1,PLACE 9366,PLACE 0,YEAR 11,YEAR 12,YEAR 41041,MONTH 134,MONTH 507600,QUARTER 115830 2,QUARTER 115830 4,TERM 9366 0,TERM 9366 24""".split(","))
+    out = echoed(desk, """DAY 3420558,DAY 14989860,DATE 9365 11 - 1,DATE 11 8 L 1,DATE 0 10 - 1,MOVE 0 11 - 1 27759,MOVE 0 11 - 1 -1,PLACE 9366,PLACE 0,YEAR 11,YEAR 12,YEAR 41041,MONTH 134,MONTH 507600,QUARTER 115830 2,QUARTER 115830 4,TERM 9366 0,TERM 9366 24""".split(","))
     out += uses_search(desk, "27 9 ? 1 ? ? 3600 4000") + uses_search(desk, "27 9 ? 1 ? ? 4000 3600")
     out += uses_read([0, 0, 1, 0, 134, 0, 0, 0, 0, 0]) + uses_read([1, 0, 11])
-    out += uses_write([11], [134], [3957]) + uses_write([0], [134], [3957])
-    for word, n, outside in (("YEAR", 11, 0), ("LINE", 134, MONTHS), ("MONTH", 134, MONTHS), ("DAY", 0, DAYS)):
+    out += uses_write([11], [134], [3957]) + uses_write([YEARS + 1], [134], [3957])
+    for word, n, outside in (("YEAR", 11, YEARS + 1), ("LINE", 134, MONTHS), ("MONTH", 134, MONTHS), ("DAY", 0, DAYS)):
         out += uses_printed(desk, word, n) + uses_printed(desk, word, outside)
     out += echoed(desk, ("CONJUNCTION 4 11826", "CONJUNCTION 6 1", "NEXT 4 3453043", "NEXT 1 14989826", "PAIR 5", "PAIR 0"))
     return out + ["DIVISOR 27612900 25286988", f"DIVISOR {common_divisor(27612900, 25286988)}"]
@@ -325,7 +328,7 @@ def printed():
 
 
 def example(desk):
-    out = echoed(desk, """DAY 14989859,DAY 14989860,DATE 1 12 - 1,DATE 11 8 L 1,DATE 11 9 L 30,MOVE 1 11 - 1 27759,MOVE 1 11 - 1 -1,PLACE 9366,MONTH 115830,QUARTER 115830 2,TERM 9366 0,YEAR 11,CONJUNCTION 4 11826,NEXT 4 3453334""".split(","))
+    out = echoed(desk, """DAY 14989859,DAY 14989860,DATE 0 12 - 1,DATE 11 8 L 1,DATE 11 9 L 30,MOVE 0 11 - 1 27759,MOVE 0 11 - 1 -1,PLACE 9366,MONTH 115830,QUARTER 115830 2,TERM 9366 0,YEAR 11,CONJUNCTION 4 11826,NEXT 4 3453334""".split(","))
     row, sheet = "27 9 ? 1 ? ? 3600 4000", write_sheet(([11], [], []), 8)
     for room in (1, 2):
         answer, days = found(desk, row, room)

@@ -1,9 +1,10 @@
 #!/usr/bin/env python3
 """The page of the program `known`: the paper's known dates and the planets' proved table, as queries, and what must be answered.
 
-PAGE has each case in the paper's own sentence, and after it the queries that show it, each with the figures that the sentence
-gives; `|` parts them, and parts the figures of one line of an answer from those of the next. These figures stand in the expected
-answers in their places (tools/pages.py); what the paper does not give is computed by tools/walked.py.
+PAGE has each case in the paper's own sentence, worked by request W4 where it names a year, which is then told to be a civil or a
+solstice one; after the cases, W4's own figures. After each sentence come the queries that show it, each with the figures that the
+sentence gives; `|` parts them, and parts the figures of one line of an answer from those of the next. These figures stand in the
+expected answers in their places (tools/pages.py); what the paper does not give is computed by tools/walked.py.
 
 After it comes every row of the proved table of the planets (crates/planets/specs/Table.antt), in its order. The table's own answers
 stand in the expected answers, and each is held against what is computed.
@@ -20,38 +21,41 @@ from pages import Page, fields
 from walked import ROOT, hold
 
 PAGE = """
-# THE PAPER'S KNOWN DATES
-# 1. Day 0: year 1, month 11, day 1, name 1. Day −1 does not exist: moving there is reason 8.
-DAY 0 | day=0 year=1 number=11 mark=- day-of-month=1 day-name=1
-MOVE 1 11 - 1 -1 | reason=8
-# 2. Day 29: year 1, month 12, day 1. Day 28 is day 29 of month 11.
-DAY 29 | day=29 year=1 number=12 mark=- day-of-month=1
-DAY 28 | day=28 year=1 number=11 mark=- day-of-month=29
-# 3. Day 14,989,859: year 41,040, leap 10, day 30, name 60. The next day is reason 6.
+# THE PAPER'S KNOWN DATES: a date's year is the civil year, a year's place and its terms are of the solstice year
+# 1. Day 0: civil year 0, month 11, day 1, name 1. Day −1 does not exist: moving there is reason 8.
+DAY 0 | day=0 year=0 number=11 mark=- day-of-month=1 day-name=1
+MOVE 0 11 - 1 -1 | reason=8
+# 2. Day 29: civil year 0, month 12, day 1. Day 28 is day 29 of its month 11.
+DAY 29 | day=29 year=0 number=12 mark=- day-of-month=1
+DAY 28 | day=28 year=0 number=11 mark=- day-of-month=29
+# 3. Day 14,989,859: civil year 41,040, leap 10, day 30, name 60. The next day is reason 6.
 DAY 14989859 | day=14989859 year=41040 number=10 mark=L day-of-month=30 day-name=60
 DAY 14989860 | reason=6
-# 4. Year 76 is year 76 of bu 1; year 77 is year 1 of bu 2, whose head name is 40.
+# 4. Solstice year 76 is year 76 of bu 1; solstice year 77 is year 1 of bu 2, whose head name is 40.
 PLACE 76 | bu=1 year-in-bu=76
 PLACE 77 | bu=2 year-in-bu=1 head-name=40
-# 5. Year 9,366 (85 CE in 004): ji 1, bu 4, year in bu 18, year name 22, leap remainder 5;
+# 5. Solstice year 9,366 (85 CE in 004): ji 1, bu 4, year in bu 18, leap remainder 5;
 PLACE 9366 | ji=1 bu=4 year-in-bu=18 first-month=115830 leap-remainder=5
-YEAR 9366 | year=9366 name=22 first-month=115830
 # first month 115,830 starts on day 3,420,558, name 19, full on day 3,420,573, name 34.
 MONTH 115830 | count=115830 first-name=19 first-day=3420558
 QUARTER 115830 2 | day=3420573
 DAY 3420573 | day=3420573 day-name=34
-# 6. Its solstice: day 3,420,566, name 27.
+# Day 3,420,558: civil year 9,365, year name 21, month 11, day 1. The year name 22 is that of civil year 9,366.
+DAY 3420558 | day=3420558 year=9365 number=11 mark=- day-of-month=1 day-name=19 year-name=21
+YEAR 9365 | year=9365 name=21
+YEAR 9366 | year=9366 name=22
+# 6. The solstice of solstice year 9,366: day 3,420,566, name 27; it is civil year 9,365, month 11, day 9.
 TERM 9366 0 | day=3420566
-DAY 3420566 | day=3420566 day-name=27
-# 7. Year 9,457 (176 CE): month 1 is 116,957, first name 60; leap month 5 is 116,962.
+DAY 3420566 | day=3420566 year=9365 number=11 mark=- day-of-month=9 day-name=27 year-name=21
+# 7. Civil year 9,457 (176 CE): month 1 is 116,957, first name 60; leap month 5 is 116,962.
 DATE 9457 1 - 1 | year=9457 number=1 mark=- day-of-month=1 day-name=60
 MONTH 116957 | count=116957 number=1 mark=- first-name=60
 DATE 9457 5 L 1 | year=9457 number=5 mark=L day-of-month=1
 MONTH 116962 | count=116962 number=5 mark=L
 YEAR 9457 | year=9457 leap-number=5 leap-month=116962
-# 8. Year 11: leap 9, month 134. The shortcut would give leap 8.
+# 8. Civil year 11: leap 9, month 134. The shortcut would give leap 8.
 YEAR 11 | year=11 leap-number=9 leap-month=134
-# 9. Year 11, leap 8, day 1: reason 4. Leap 9, day 30: reason 5.
+# 9. Civil year 11, leap 8, day 1: reason 4. Leap 9, day 30: reason 5.
 DATE 11 8 L 1 | reason=4
 DATE 11 9 L 30 | reason=5
 # 10. Month 134 is an eclipse month, 135 is not; 5 is the first, 0 is not one.
@@ -63,15 +67,46 @@ MONTH 2 | count=2 eclipse=-
 MONTH 3 | count=3 eclipse=-
 MONTH 4 | count=4 eclipse=-
 MONTH 5 | count=5 eclipse=E
-# 11. Day 0 moved by 27,759: year 77, month 11, day 1, name 40.
-MOVE 1 11 - 1 27759 | day=27759 year=77 number=11 mark=- day-of-month=1 day-name=40
+# 11. Day 0 moved by 27,759: civil year 76, month 11, day 1, name 40, year name 32.
+MOVE 0 11 - 1 27759 | day=27759 year=76 number=11 mark=- day-of-month=1 day-name=40 year-name=32
 # 12. Empty sheet of six zero bytes: three zero counts, nothing printed.
-# No query has a sheet: the program `beside` reads this one, and the paper's sheet of the year 11 alone.
+# No query has a sheet: the program `beside` reads this one, and the paper's sheet of the civil year 11 alone.
 # READINGS OF 1, 3, 5 AND 11, each in the month that the paper puts it in: the day is found
-SEARCH 17 11 - 1 1 1 0 28 | total=1 | day=0 year=1 number=11 mark=- day-of-month=1 day-name=1
+SEARCH 16 11 - 1 1 1 0 28 | total=1 | day=0 year=0 number=11 mark=- day-of-month=1 day-name=1
 SEARCH ? 10 L 30 60 ? 14989830 14989859 | total=1 | day=14989859 year=41040 number=10 mark=L day-of-month=30 day-name=60
-SEARCH 22 11 - 1 19 19 3420558 3420586 | total=1 | day=3420558 year=9366 number=11 mark=- day-of-month=1 day-name=19 year-name=22
-SEARCH ? 11 - 1 40 40 27759 27787 | total=1 | day=27759 year=77 number=11 mark=- day-of-month=1 day-name=40
+SEARCH 21 11 - 1 19 19 3420558 3420586 | total=1 | day=3420558 year=9365 number=11 mark=- day-of-month=1 day-name=19 year-name=21
+SEARCH 32 11 - 1 40 40 27759 27787 | total=1 | day=27759 year=76 number=11 mark=- day-of-month=1 day-name=40 year-name=32
+# THE CIVIL YEAR, by request W4: months 11 and 12, with any leap month of those numbers, close the year
+# Civil year 0 holds months 11 and 12 only, month counts 0 and 1, name 16.
+YEAR 0 | year=0 name=16 months=2 first-month=0 leap-number=- leap-month=-
+MONTH 0 | count=0 number=11 mark=-
+MONTH 1 | count=1 number=12 mark=-
+# The new one opens with month 1.
+DATE 1 1 - 1 | year=1 number=1 mark=- day-of-month=1 year-name=17
+YEAR 1 | year=1 name=17 first-month=2
+# Civil year 8 has 13 months, 88 to 100, though its remainder is 11; solstice year 8, whose remainder it is, has 12.
+YEAR 8 | year=8 months=13 first-month=88
+YEAR 9 | year=9 first-month=101
+PLACE 8 | leap-remainder=11 months=12
+# Civil year 11 has months 125 to 137.
+YEAR 11 | year=11 months=13 first-month=125
+YEAR 12 | year=12 first-month=138
+# Civil year 27 has a leap 11, month 334.
+YEAR 27 | year=27 leap-number=11 leap-month=334
+MONTH 334 | count=334 number=11 mark=L
+# Civil year 41,040 ends with its leap month 10: month counts 507,589 to 507,599.
+YEAR 41040 | year=41040 months=11 first-month=507589 leap-number=10 leap-month=507599
+MONTH 507599 | count=507599 number=10 mark=L
+# Reason 1 is a civil year outside 0 to 41,040; of a place and of a term, a solstice year outside 1 to 41,040.
+YEAR 41041 | reason=1
+PLACE 0 | reason=1
+TERM 0 0 | reason=1
+# Reason 16, after 3 and before 4: a month number from 1 to 10 in civil year 0, or 11 or 12 in civil year 41,040.
+DATE 0 5 - 31 | reason=3
+DATE 0 5 L 1 | reason=16
+DATE 0 11 L 1 | reason=4
+DATE 41040 11 L 1 | reason=16
+DATE 41040 9 L 1 | reason=4
 """
 
 # Case 7: a date and the month that it starts.

@@ -5,6 +5,7 @@ A person writes that file, with the reason why each question stands there. Its a
 the calendar and shares nothing with the library. The file is held to what must be in it:
 
 - every reason that a query can come back with is met;
+- the edges of reason 16 are asked, ordinary and leap: in the two civil years that are not whole the numbers just outside and inside;
 - nothing of the second part, what must not be rejected, comes back with a reason, is no query, or is a search that finds nothing;
 - all second months of two big months in a row of a bu stand there, and no other month is called one; of each the month before it and
   it are asked, and its first, fifteenth and thirtieth day and their dates, and of the first one every date.
@@ -16,17 +17,23 @@ import sys
 
 sys.dont_write_bytecode = True
 
-from walked import ROOT, Desk, hold, is_note, lines_in, mark, pair_starts
+from walked import ROOT, YEARS, Desk, hold, is_note, lines_in, mark, pair_starts
 
 HOME = ROOT / "crates" / "tray"
 TRAY, KEPT = "# THE REJECT TRAY", "# WHAT MUST NOT BE REJECTED"
 SECOND, SECONDS = "# second of two big: month ", "# seconds of two big in a bu: "
-REASONS = {1, 2, 3, 4, 5, 6, 7, 8, 13, 14, 15, 19, 20}
+REASONS = {1, 2, 3, 4, 5, 6, 7, 8, 13, 14, 15, 16, 19, 20}
+NOT_WHOLE = {0: (1, 10, 11, 12), YEARS: (10, 11, 12)}
 
 
 def hold_reasons(desk, lines):
     met = {int(told[0].split()[1]) for told in map(desk.told, lines) if told[0].startswith("REFUSED")}
     assert met == REASONS, REASONS ^ met
+
+
+def hold_not_whole(texts):
+    for year, numbers in NOT_WHOLE.items():
+        assert {f"DATE {year} {number} {leap} 1" for number in numbers for leap in "-L"} <= set(texts), year
 
 
 def hold_kept(desk, lines):
@@ -41,7 +48,7 @@ def second_lines(desk, n):
     assert c.length(n - 1) == c.length(n) == 30
     lines = [f"MONTH {n - 1}", f"MONTH {n}"]
     for m in (1, 15, 30):
-        lines += [f"DAY {c.starts[n] + m - 1}", f"DATE {c.year[n]} {c.number[n]} {mark(c.leap[n])} {m}"]
+        lines += [f"DAY {c.starts[n] + m - 1}", f"DATE {c.civil_year[n]} {c.number[n]} {mark(c.leap[n])} {m}"]
     return lines
 
 
@@ -52,7 +59,7 @@ def hold_seconds(desk, lines):
     assert lines[start:] == asked
     assert not any("second of two big: month" in line for line in lines[:start])
     n = seconds[0]
-    dates = [f"DATE {desk.c.year[n]} {desk.c.number[n]} {mark(desk.c.leap[n])} {m}" for m in range(1, 31)]
+    dates = [f"DATE {desk.c.civil_year[n]} {desk.c.number[n]} {mark(desk.c.leap[n])} {m}" for m in range(1, 31)]
     assert lines[start - 31:start - 1] == dates
 
 
@@ -61,6 +68,7 @@ def main():
     texts = [line.decode() for line in lines]
     assert texts[0] == TRAY and texts.count(KEPT) == 1
     hold_reasons(desk, lines)
+    hold_not_whole(texts)
     hold_kept(desk, lines[texts.index(KEPT):])
     hold_seconds(desk, texts)
     return hold({HOME / "stdout": b"".join(map(desk.echo, lines))})

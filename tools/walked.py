@@ -2,11 +2,16 @@
 
 It shares nothing with the library. The calendar is walked from the origin, mid-terms are looked for among all even terms on each
 month's days, numbers are given out by the paper's two sentences, and every date is found by looking it up. A term is walked to from
-its year's solstice. A planet's next conjunction is searched for among its counts. A query line is read by regular expressions. In
-order:
+its year's solstice. A planet's next conjunction is searched for among its counts. A query line is read by regular expressions.
+
+Years are of two kinds. A solstice year, 1 to 41,040, opens with the month of a winter solstice: a year's place and its terms are of
+it. A civil year, 0 to 41,040, opens with its own month 1, year 0 with the origin: dates, a year's own facts, a reading's year name,
+the listing and the sheet have it. Each is walked by itself.
+
+In order:
 
 - the ranges and the words of the reasons,
-- the walked calendar, the big pairs, the terms, names and marks,
+- the walked calendar and what request W4 says of its years, the big pairs, the terms, names and marks,
 - the planets,
 - the sheet, read and written byte by byte,
 - the desk: a line's answer, its echo, and the listing's lines,
@@ -21,10 +26,11 @@ import sys
 sys.dont_write_bytecode = True
 
 ROOT = pathlib.Path(__file__).resolve().parent.parent
+# The last year of either kind, how many months, how many days.
 YEARS, MONTHS, DAYS = 41040, 507600, 14989860
 
 WORDS = {
-    1: "year outside 1 to 41,040",
+    1: "year outside its range",
     2: "month number outside 1 to 12",
     3: "day of month outside 1 to 30",
     4: "leap month asked and that year has none of that number",
@@ -33,12 +39,13 @@ WORDS = {
     7: "month count outside the range",
     8: "a move ends outside the range",
     9: "sheet ends before a count or an item is whole",
-    10: "a count above 1,000",
+    10: "a count above its most",
     11: "bytes after the last section",
     12: "a lent list or buffer too short for the whole answer",
-    13: "window's last day before its first, or more than 27,759 days",
+    13: "last before first, or a window of more than 27,759 days",
     14: "a known field of a reading outside its range",
-    15: "term above 23 or quarter above 3",
+    15: "term, mid-term or quarter above its last",
+    16: "no such month number in that year",
     19: "planet outside 1 to 5",
     20: "no conjunction falls from the given day to the end of the range",
 }
@@ -52,32 +59,40 @@ def refused(k):
 
 
 class Calendar:
-    """Every month of the range: first day, number, leap mark, year; by walking, not by formula."""
+    """Every month of the range: first day, number, leap mark, solstice year and civil year; by walking, not by formula.
+
+    The solstice year goes on by one at the month of a winter solstice, the civil year at an ordinary month 1; before the first of
+    them it is 0. A date's year is the civil one, so that months are looked up by it."""
 
     def __init__(self):
         self.starts = [27759 * n // 940 for n in range(MONTHS + 1)]
         mid_days = {}
         for t in range(0, 24 * YEARS + 48, 2):
             mid_days[487 * t // 32] = t % 24
-        self.number, self.leap, self.year = [], [], []
-        year, previous = 0, None
+        self.number, self.leap, self.solstice_year, self.civil_year = [], [], [], []
+        solstice_year, civil_year, previous = 0, 0, None
         for n in range(MONTHS):
             held = [mid_days[d] for d in range(self.starts[n], self.starts[n + 1]) if d in mid_days]
             assert len(held) <= 1
             if held and held[0] == 0:
-                year += 1
+                solstice_year += 1
             if held:
                 previous = [11, 12, 1, 2, 3, 4, 5, 6, 7, 8, 9, 10][held[0] // 2]
+            if held and previous == 1:
+                civil_year += 1
             self.number.append(previous)
             self.leap.append(not held)
-            self.year.append(year)
+            self.solstice_year.append(solstice_year)
+            self.civil_year.append(civil_year)
         self.by_name = {}
-        self.months_of = {}
+        self.months_of_solstice, self.months_of_civil = {}, {}
         for n in range(MONTHS):
-            key = (self.year[n], self.number[n], self.leap[n])
+            key = (self.civil_year[n], self.number[n], self.leap[n])
             assert key not in self.by_name
             self.by_name[key] = n
-            self.months_of.setdefault(self.year[n], []).append(n)
+            self.months_of_solstice.setdefault(self.solstice_year[n], []).append(n)
+            self.months_of_civil.setdefault(self.civil_year[n], []).append(n)
+        hold_years(self)
 
     def length(self, n):
         return self.starts[n + 1] - self.starts[n]
@@ -88,6 +103,32 @@ class Calendar:
     def month_of(self, day):
         """The month that a day of the range is in."""
         return bisect.bisect_right(self.starts, day) - 1
+
+
+def hold_years(c):
+    """It stops where a sentence of request W4 does not hold of the walked years."""
+
+    def borne(months):
+        """Ordinary months by their numbers, leap months after L."""
+        return [f"{mark(c.leap[n])}{c.number[n]}".lstrip("-") for n in months]
+
+    twelve = [str(number) for number in range(1, 13)]
+    assert list(c.months_of_solstice) == list(range(1, YEARS + 1)) and list(c.months_of_civil) == list(range(YEARS + 1))
+    # one less than the solstice year where the number is 11 or 12, leap or not
+    assert c.civil_year == [year - (number in (11, 12)) for year, number in zip(c.solstice_year, c.number)]
+    assert sum(c.length(n) for n in range(MONTHS) if c.civil_year[n] != c.solstice_year[n]) == 2487240
+    # 1 to 12 in order, a leap month after its namesake; the first month and how many by the leap remainder of the solstice year
+    for year in range(1, YEARS):
+        months, (whole, rest) = c.months_of_civil[year], divmod(235 * (year - 1), 19)
+        leap = [n for n in months if c.leap[n]]
+        assert borne(n for n in months if n not in leap) == twelve and all(c.number[n] == c.number[n - 1] for n in leap)
+        assert months[0] == whole + (3 if rest == 18 else 2) and len(months) == (13 if 11 <= rest <= 17 else 12)
+    # the two years that are not whole
+    assert c.months_of_civil[0] == [0, 1] and borne([0, 1]) == ["11", "12"] and year_name(0) == 16
+    assert c.months_of_civil[YEARS] == list(range(507589, 507600)) and borne(c.months_of_civil[YEARS]) == [*twelve[:10], "L10"]
+    # the years that the request names, and a leap month 11
+    assert c.months_of_civil[8] == list(range(88, 101)) and c.months_of_civil[11] == list(range(125, 138))
+    assert c.by_name[27, 11, True] == 334
 
 
 def pair_starts():
@@ -111,7 +152,7 @@ def pair_starts():
 
 
 def term(y, k):
-    """Day and parts of 32 of a year's term, as the clerk walks to it: four years are 1,461 days, a term 15 days and 7 parts."""
+    """Day and parts of 32 of a solstice year's term, as the clerk walks to it: four years are 1,461 days, a term 15 days, 7 parts."""
     quarters = 1461 * (y - 1)
     day, parts = quarters // 4, 8 * (quarters % 4)
     for _ in range(k):
@@ -122,8 +163,18 @@ def term(y, k):
 
 
 def name(count, first):
-    """The name of a count, day 0 having 1 and year 1 having 17: round sixty."""
+    """The name so many days or years after the first one's: round sixty."""
     return (first - 1 + count) % 60 + 1
+
+
+def day_name(day):
+    """Day 0 has name 1."""
+    return name(day, 1)
+
+
+def year_name(year):
+    """Year 1 has name 17; year 0 comes before it."""
+    return name(year - 1, 17)
 
 
 def mark(leap):
@@ -187,9 +238,9 @@ def common_divisor(a, b):
     return max(d for d in low + [b // d for d in low] if a % d == 0)
 
 
-# The sheet. Of each section: an item's bytes, its least and greatest, the reason of one outside.
+# The sheet: civil years, months, days. Of each section: an item's bytes, its least and greatest, the reason of one outside.
 
-SECTIONS = ((2, 1, YEARS, 1), (4, 0, MONTHS - 1, 7), (4, 0, DAYS - 1, 6))
+SECTIONS = ((2, 0, YEARS, 1), (4, 0, MONTHS - 1, 7), (4, 0, DAYS - 1, 6))
 
 
 def take_number(data, at, width):
@@ -289,26 +340,29 @@ class Desk:
     # What a day is, and what a date is.
 
     def date_fields(self, day):
-        """Year, number, whether leap, day of month, month length, day name, year name."""
+        """Civil year, number, whether leap, day of month, month length, day name, year name."""
         n = self.c.month_of(day)
-        y = self.c.year[n]
+        y = self.c.civil_year[n]
         day_of_month = day - self.c.starts[n] + 1
-        return (y, self.c.number[n], self.c.leap[n], day_of_month, self.c.length(n), name(day, 1), name(y - 1, 17))
+        return (y, self.c.number[n], self.c.leap[n], day_of_month, self.c.length(n), day_name(day), year_name(y))
 
     def six(self, day):
         """A day's six values, in the paper's order."""
         n = self.c.month_of(day)
         y, k, l, m, _, dn, yn = self.date_fields(day)
-        return (yn, k, 2 if l else 1, m, dn, name(self.c.starts[n], 1))
+        return (yn, k, 2 if l else 1, m, dn, day_name(self.c.starts[n]))
 
     def find(self, y, k, l, m):
-        """The day, or the reason's number as a negative."""
-        if not 1 <= y <= YEARS:
+        """The day of a date of a civil year, or the reason's number as a negative."""
+        if not 0 <= y <= YEARS:
             return -1
         if not 1 <= k <= 12:
             return -2
         if not 1 <= m <= 30:
             return -3
+        if all(self.c.number[n] != k for n in self.c.months_of_civil[y]):
+            assert y == 0 and k <= 10 or y == YEARS and k >= 11
+            return -16
         if (y, k, l) not in self.c.by_name:
             assert l
             return -4
@@ -324,6 +378,7 @@ class Desk:
     # The queries.
 
     def place(self, y):
+        """A solstice year's place."""
         if not 1 <= y <= YEARS:
             return [refused(1)]
         elapsed = y - 1
@@ -331,16 +386,17 @@ class Desk:
         ji, rest = in_yuan // 1520 + 1, in_yuan % 1520
         bu, year_in_bu = rest // 76 + 1, rest % 76 + 1
         head_year = y - (year_in_bu - 1)
-        head = name(self.c.starts[self.c.months_of[head_year][0]], 1)
-        months = self.c.months_of[y]
+        head = day_name(self.c.starts[self.c.months_of_solstice[head_year][0]])
+        months = self.c.months_of_solstice[y]
         return [f"PLACE {ji} {bu} {year_in_bu} {head} {months[0]} {235 * elapsed % 19} {len(months)}"]
 
     def year(self, y):
-        if not 1 <= y <= YEARS:
+        """A civil year's own facts."""
+        if not 0 <= y <= YEARS:
             return [refused(1)]
-        months = self.c.months_of[y]
+        months = self.c.months_of_civil[y]
         leap = ([f"{self.c.number[n]} {n}" for n in months if self.c.leap[n]] + ["- -"])[0]
-        return [f"YEAR {y} NAME {name(y - 1, 17)} MONTHS {len(months)} FIRST {months[0]} LEAP {leap}"]
+        return [f"YEAR {y} NAME {year_name(y)} MONTHS {len(months)} FIRST {months[0]} LEAP {leap}"]
 
     def month(self, n):
         if not 0 <= n < MONTHS:
@@ -353,6 +409,7 @@ class Desk:
         return [refused(15) if q > 3 else "QUARTER %d %d" % divmod(27759 * (4 * n + q), 3760)]
 
     def term(self, y, k):
+        """A solstice year's term."""
         if not 1 <= y <= YEARS:
             return [refused(1)]
         return [refused(15) if k > 23 else "TERM %d %d" % term(y, k)]
@@ -424,17 +481,17 @@ def month_fields(desk, n):
     """The six fields of a month's line."""
     c = desk.c
     eclipse = "E" if is_eclipse(n) else "-"
-    return f"{n} {c.number[n]} {mark(c.leap[n])} {name(c.starts[n], 1)} {c.length(n)} {eclipse}"
+    return f"{n} {c.number[n]} {mark(c.leap[n])} {day_name(c.starts[n])} {c.length(n)} {eclipse}"
 
 
 def year_block(desk, y):
-    """A year's header and its months' lines."""
-    months = desk.c.months_of[y]
-    return [f"YEAR {y} NAME {name(y - 1, 17)} MONTHS {len(months)}"] + [month_fields(desk, n) for n in months]
+    """A civil year's header and its months' lines."""
+    months = desk.c.months_of_civil[y]
+    return [f"YEAR {y} NAME {year_name(y)} MONTHS {len(months)}"] + [month_fields(desk, n) for n in months]
 
 
 def listed_day(desk, day):
-    """A day's line in a listing."""
+    """A day's line in a listing, with its civil year."""
     y, k, l, m, _, dn, _ = desk.date_fields(day)
     return f"DAY {day} {y} {k} {mark(l)} {m} {dn}"
 

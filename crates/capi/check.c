@@ -130,29 +130,74 @@ static void day_is(oes_day d, uint32_t reason, uint32_t day)
     SAME(d.day, day);
 }
 
-/* Day 28 and 29 (case 2), the last day (3), a day of the leap month of year 11 (8), reasons of a date (9), moves (1, 11). */
+/* By civil years: day 0 (case 1), 28 and 29 (2), the last day (3), the first day of solstice year 9,366 and its solstice (5, 6), a
+ * day of the leap month of year 11 (8), reasons of a date (9), moves (1, 11). By hand, the first days of leap 12 of year 8 and of
+ * the month after it, of leap 11 of year 27, of month 1 of year 1 and of its month 12. */
 static void dates(void)
 {
-    date_is(oes_date_of_day(28), (const uint32_t[8]){0, 1, 11, 0, 29, 29, 29, 17});
-    date_is(oes_date_of_day(29), (const uint32_t[8]){0, 1, 12, 0, 1, 30, 30, 17});
+    date_is(oes_date_of_day(0), (const uint32_t[8]){0, 0, 11, 0, 1, 29, 1, 16});
+    date_is(oes_date_of_day(28), (const uint32_t[8]){0, 0, 11, 0, 29, 29, 29, 16});
+    date_is(oes_date_of_day(29), (const uint32_t[8]){0, 0, 12, 0, 1, 30, 30, 16});
+    date_is(oes_date_of_day(59), (const uint32_t[8]){0, 1, 1, 0, 1, 29, 60, 17});
+    date_is(oes_date_of_day(2953), (const uint32_t[8]){0, 8, 12, 1, 1, 29, 14, 24});
+    date_is(oes_date_of_day(2982), (const uint32_t[8]){0, 9, 1, 0, 1, 30, 43, 25});
     date_is(oes_date_of_day(3961), (const uint32_t[8]){0, 11, 9, 1, 5, 29, 2, 27});
+    date_is(oes_date_of_day(9863), (const uint32_t[8]){0, 27, 11, 1, 1, 29, 24, 43});
+    date_is(oes_date_of_day(3420558), (const uint32_t[8]){0, 9365, 11, 0, 1, 30, 19, 21});
+    date_is(oes_date_of_day(3420566), (const uint32_t[8]){0, 9365, 11, 0, 9, 30, 27, 21});
     date_is(oes_date_of_day(14989859), (const uint32_t[8]){0, 41040, 10, 1, 30, 30, 60, 16});
     date_refused(oes_date_of_day(14989860), 6);
     date_refused(oes_date_of_day(wide(0)), 6);
     date_refused(oes_date_of_day((uint64_t)-1), 6);
-    day_is(oes_day_of_date(1, 12, false, 1), 0, 29);
+    day_is(oes_day_of_date(0, 11, false, 1), 0, 0);
+    day_is(oes_day_of_date(0, 12, false, 1), 0, 29);
+    day_is(oes_day_of_date(1, 12, false, 1), 0, 383);
+    day_is(oes_day_of_date(8, 12, true, 1), 0, 2953);
+    day_is(oes_day_of_date(27, 11, true, 1), 0, 9863);
+    day_is(oes_day_of_date(9365, 11, false, 9), 0, 3420566);
+    day_is(oes_day_of_date(41040, 10, true, 30), 0, 14989859);
     day_is(oes_day_of_date(11, 9, true, 5), 0, 3961);
     day_is(oes_day_of_date(11, 8, true, 1), 4, 0);
     day_is(oes_day_of_date(11, 9, true, 30), 5, 0);
-    day_is(oes_day_of_date(wide(1), wide(11), false, wide(1)), 1, 0);
-    day_is(oes_day_of_date(1, wide(11), false, wide(1)), 2, 0);
-    day_is(oes_day_of_date(1, 11, false, wide(1)), 3, 0);
-    date_is(oes_move_date(1, 11, false, 1, 27759), (const uint32_t[8]){0, 77, 11, 0, 1, 29, 40, 33});
-    date_is(oes_move_date(77, 11, false, 1, -27759), (const uint32_t[8]){0, 1, 11, 0, 1, 29, 1, 17});
-    date_refused(oes_move_date(1, 11, false, 1, -1), 8);
-    date_refused(oes_move_date(1, 11, false, 1, INT64_MIN), 8);
-    date_refused(oes_move_date(1, 11, false, 1, INT64_MAX), 8);
-    date_refused(oes_move_date(wide(1), 11, false, 1, 0), 1);
+    day_is(oes_day_of_date(wide(0), wide(11), false, wide(1)), 1, 0);
+    day_is(oes_day_of_date(0, wide(11), false, wide(1)), 2, 0);
+    day_is(oes_day_of_date(0, 11, false, wide(1)), 3, 0);
+    date_is(oes_move_date(0, 11, false, 1, 27759), (const uint32_t[8]){0, 76, 11, 0, 1, 29, 40, 32});
+    date_is(oes_move_date(76, 11, false, 1, -27759), (const uint32_t[8]){0, 0, 11, 0, 1, 29, 1, 16});
+    date_refused(oes_move_date(0, 11, false, 1, -1), 8);
+    date_refused(oes_move_date(0, 11, false, 1, INT64_MIN), 8);
+    date_refused(oes_move_date(0, 11, false, 1, INT64_MAX), 8);
+    date_refused(oes_move_date(wide(0), 11, false, 1, 0), 1);
+}
+
+static void date_asked_refused(uint64_t year, uint64_t number, bool leap, uint64_t day_of_month, uint32_t reason)
+{
+    day_is(oes_day_of_date(year, number, leap, day_of_month), reason, 0);
+    date_refused(oes_move_date(year, number, leap, day_of_month, 0), reason);
+    date_refused(oes_move_date(year, number, leap, day_of_month, INT64_MIN), reason);
+}
+
+/* A month number that the civil year has not, 16: after 1, 2 and 3, before 4 and 5, and before a move's 8. */
+static void numbers_of_a_year(void)
+{
+    for (uint64_t number = 1; number <= 10; number++) {
+        date_asked_refused(0, number, false, 1, 16);
+        date_asked_refused(0, number, true, 30, 16);
+    }
+    for (uint64_t number = 11; number <= 12; number++) {
+        date_asked_refused(41040, number, false, 1, 16);
+        date_asked_refused(41040, number, true, 30, 16);
+        date_asked_refused(0, number, true, 1, 4);
+    }
+    date_asked_refused(41040, 9, true, 1, 4);
+    date_asked_refused(0, 11, false, 30, 5);
+    date_asked_refused(0, 5, true, 31, 3);
+    date_asked_refused(41040, 11, true, 0, 3);
+    date_asked_refused(0, 13, false, 31, 2);
+    date_asked_refused(0, wide(5), false, 1, 2);
+    date_asked_refused(41040, 0, true, 0, 2);
+    date_asked_refused(41041, 11, false, 1, 1);
+    date_asked_refused(wide(41040), 11, false, 1, 1);
 }
 
 static void solstice_is(oes_solstice s, const uint32_t want[8])
@@ -195,16 +240,25 @@ static void term_is(oes_term_told t, uint32_t reason, uint32_t day, uint32_t par
     SAME(t.parts, parts);
 }
 
-/* Cases 4, 5, 6, 8 and 10. Of the terms, the remainder 8 is 004's; the other two are by hand, one of them at a day's start. */
+/* Cases 4, 5, 6, 8 and 10. Of the terms, the remainder 8 is 004's; the other two are by hand, one of them at a day's start. Place
+ * and terms are of solstice years, from 1 on; the facts of a year are of civil years, from 0 on: year 8 has months 88 to 100, year
+ * 11 has 125 to 137, year 27 a leap 11, month 334, and the last year months 507,589 to 507,599. */
 static void facts(void)
 {
     solstice_is(oes_solstice_year(9366), (const uint32_t[8]){0, 1, 4, 18, 58, 115830, 5, 12});
     solstice_is(oes_solstice_year(77), (const uint32_t[8]){0, 1, 2, 1, 40, 940, 0, 12});
     solstice_is(oes_solstice_year(0), (const uint32_t[8]){1});
+    solstice_is(oes_solstice_year(41041), (const uint32_t[8]){1});
     solstice_is(oes_solstice_year(wide(1)), (const uint32_t[8]){1});
-    year_is(oes_year_facts(11), (const uint32_t[7]){0, 27, 123, 13, 1, 9, 134});
-    year_is(oes_year_facts(12), (const uint32_t[7]){0, 28, 136, 12, 0, 0, 0});
+    year_is(oes_year_facts(0), (const uint32_t[7]){0, 16, 0, 2, 0, 0, 0});
+    year_is(oes_year_facts(1), (const uint32_t[7]){0, 17, 2, 12, 0, 0, 0});
+    year_is(oes_year_facts(8), (const uint32_t[7]){0, 24, 88, 13, 1, 12, 100});
+    year_is(oes_year_facts(11), (const uint32_t[7]){0, 27, 125, 13, 1, 9, 134});
+    year_is(oes_year_facts(12), (const uint32_t[7]){0, 28, 138, 12, 0, 0, 0});
+    year_is(oes_year_facts(27), (const uint32_t[7]){0, 43, 323, 13, 1, 11, 334});
+    year_is(oes_year_facts(41040), (const uint32_t[7]){0, 16, 507589, 11, 1, 10, 507599});
     year_is(oes_year_facts(41041), (const uint32_t[7]){1});
+    year_is(oes_year_facts(wide(0)), (const uint32_t[7]){1});
     year_is(oes_year_facts(wide(11)), (const uint32_t[7]){1});
     month_is(oes_month_facts(134), (const uint32_t[8]){0, 9, 1, 3957, 126, 29, 58, 1});
     month_is(oes_month_facts(0), (const uint32_t[8]){0, 11, 0, 0, 0, 29, 1, 0});
@@ -216,6 +270,8 @@ static void facts(void)
     term_is(oes_term(9366, 0), 0, 3420566, 8);
     term_is(oes_term(44, 10), 0, 15857, 30);
     term_is(oes_term(3, 16), 0, 974, 0);
+    term_is(oes_term(0, 0), 1, 0, 0);
+    term_is(oes_term(41041, 24), 1, 0, 0);
     term_is(oes_term(wide(1), wide(0)), 1, 0, 0);
     term_is(oes_term(1, wide(0)), 15, 0, 0);
 }
@@ -293,27 +349,30 @@ static void found_is(oes_reading r, uint64_t first, uint64_t last, size_t places
     }
 }
 
-/* In the days of year 11, 3632 to 4015: its leap month, 3957 to 3985; and the day 3961 by all of its six values, one at a time. */
+/* In the days of civil year 11, 3691 to 4074: its leap month, 3957 to 3985; and the day 3961 by all of its six values, one at a
+ * time. From day 3632 on, where a month 11 of civil year 10 starts: month 11 of the year of name 27, 4016 to 4044. */
 static void search(void)
 {
     oes_reading r = {0};
     r.leap_mark = 2;
     r.leap_mark_known = true;
-    found_is(r, 3632, 4015, 40, 0, 29, 3957);
-    found_is(r, 3632, 4015, 29, 0, 29, 3957);
-    found_is(r, 3632, 4015, 28, 12, 29, 0);
-    found_is(r, wide(3632), 4015, 40, 6, 0, 0);
-    found_is(r, 3632, wide(4015), 40, 6, 0, 0);
-    found_is(r, 4015, 3632, 40, 13, 0, 0);
+    found_is(r, 3691, 4074, 40, 0, 29, 3957);
+    found_is(r, 3691, 4074, 29, 0, 29, 3957);
+    found_is(r, 3691, 4074, 28, 12, 29, 0);
+    found_is(r, wide(3691), 4074, 40, 6, 0, 0);
+    found_is(r, 3691, wide(4074), 40, 6, 0, 0);
+    found_is(r, 4074, 3691, 40, 13, 0, 0);
+    const oes_reading eleven = {.year_name = 27, .month_number = 11, .year_name_known = true, .month_number_known = true};
+    found_is(eleven, 3632, 4074, 40, 0, 29, 4016);
     const oes_reading six = {27, 9, 2, 5, 2, 58, true, true, true, true, true, true};
-    found_is(six, 3632, 4015, 40, 0, 1, 3961);
+    found_is(six, 3691, 4074, 40, 0, 1, 3961);
     uint64_t values[6] = {27, 9, 2, 5, 2, 58};
     for (int i = 0; i < 6; i++) {
         uint64_t v[6];
         memcpy(v, values, sizeof v);
         v[i] = wide(v[i]);
         oes_reading s = {v[0], v[1], v[2], v[3], v[4], v[5], true, true, true, true, true, true};
-        found_is(s, 3632, 4015, 40, 14, 0, 0);
+        found_is(s, 3691, 4074, 40, 14, 0, 0);
         oes_reading t = {v[0], v[1], v[2], v[3], v[4], v[5], i != 0, i != 1, i != 2, i != 3, i != 4, i != 5};
         found_is(t, 3961, 3961, 40, 0, 1, 3961);
     }
@@ -372,6 +431,33 @@ static void counts(void)
     SAME(d[0], 29);
 }
 
+/* The first and the last civil year on a sheet, there and back; the year after them, 41,041, reading and writing. */
+static void years_of_a_sheet(void)
+{
+    const uint8_t bytes[10] = {2, 0, 0, 0, 0x50, 0xA0, 0, 0, 0, 0};
+    const uint8_t beyond[8] = {1, 0, 0x51, 0xA0, 0, 0, 0, 0};
+    const uint16_t year[1] = {41041};
+    uint16_t y[2] = {60000, 60000};
+    uint32_t none[1] = {0};
+    uint8_t out[10] = {0};
+    oes_sheet_counts c = oes_read_sheet(beyond, 8, y, 2, none, 0, none, 0);
+    SAME(c.reason, 1);
+    SAME(c.years + c.months + c.days, 0);
+    SAME(y[0], 60000);
+    c = oes_read_sheet(bytes, 10, y, 2, none, 0, none, 0);
+    SAME(c.reason, 0);
+    SAME(c.years, 2);
+    SAME(y[0], 0);
+    SAME(y[1], 41040);
+    oes_length n = oes_write_sheet(year, 1, none, 0, none, 0, out, 10);
+    SAME(n.reason, 1);
+    SAME(n.length, 0);
+    n = oes_write_sheet(y, 2, none, 0, none, 0, out, 10);
+    SAME(n.reason, 0);
+    SAME(n.length, 10);
+    bytes_same(__LINE__, out, bytes, 10);
+}
+
 typedef oes_length print(uint64_t, uint8_t *, size_t);
 
 static void prints(print *p, uint64_t x, const char *text, uint32_t reason)
@@ -396,23 +482,27 @@ static void prints(print *p, uint64_t x, const char *text, uint32_t reason)
 static void lines(void)
 {
     prints(oes_print_year, 11,
-           "YEAR 11 NAME 27 MONTHS 13\n123 11 - 33 29 E\n124 12 - 2 30 -\n125 1 - 32 29 -\n126 2 - 1 30 -\n"
-           "127 3 - 31 29 -\n128 4 - 60 30 -\n129 5 - 30 30 E\n130 6 - 60 29 -\n131 7 - 29 30 -\n"
-           "132 8 - 59 29 -\n133 9 - 28 30 -\n134 9 L 58 29 E\n135 10 - 27 30 -\n",
+           "YEAR 11 NAME 27 MONTHS 13\n125 1 - 32 29 -\n126 2 - 1 30 -\n127 3 - 31 29 -\n128 4 - 60 30 -\n"
+           "129 5 - 30 30 E\n130 6 - 60 29 -\n131 7 - 29 30 -\n132 8 - 59 29 -\n133 9 - 28 30 -\n"
+           "134 9 L 58 29 E\n135 10 - 27 30 -\n136 11 - 57 29 -\n137 12 - 26 30 -\n",
            1);
+    prints(oes_print_year, 0, "YEAR 0 NAME 16 MONTHS 2\n0 11 - 1 29 -\n1 12 - 30 30 -\n", 1);
     prints(oes_print_month_line, 134, "134 9 L 58 29 E\n", 7);
     prints(oes_print_month, 134, "MONTH 134 9 L 58 29 E\n", 7);
     prints(oes_print_day, 3961, "DAY 3961 11 9 L 5 2\n", 6);
+    prints(oes_print_day, 29, "DAY 29 0 12 - 1 30\n", 6);
 }
 
 int main(void)
 {
     dates();
+    numbers_of_a_year();
     facts();
     planets();
     search();
     sheet();
     counts();
+    years_of_a_sheet();
     lines();
     printf("%d checks, %d wrong\n", checked, wrong);
     return wrong == 0 ? 0 : 1;

@@ -4,7 +4,7 @@
 
 #include "oesterwrok.h"
 
-/* A date, with the day of its own year, month, mark and day of month. */
+/* A date, with the day of its own civil year, month, mark and day of month. */
 static void date_line(oes_date d)
 {
     if (d.reason != 0) {
@@ -36,13 +36,14 @@ static void dates(void)
 {
     show_date("DAY 14989859", oes_date_of_day(14989859));
     show_date("DAY 14989860", oes_date_of_day(14989860));
-    show_day("DATE 1 12 - 1", oes_day_of_date(1, 12, false, 1));
+    show_day("DATE 0 12 - 1", oes_day_of_date(0, 12, false, 1));
     show_day("DATE 11 8 L 1", oes_day_of_date(11, 8, true, 1));
     show_day("DATE 11 9 L 30", oes_day_of_date(11, 9, true, 30));
-    show_date("MOVE 1 11 - 1 27759", oes_move_date(1, 11, false, 1, 27759));
-    show_date("MOVE 1 11 - 1 -1", oes_move_date(1, 11, false, 1, -1));
+    show_date("MOVE 0 11 - 1 27759", oes_move_date(0, 11, false, 1, 27759));
+    show_date("MOVE 0 11 - 1 -1", oes_move_date(0, 11, false, 1, -1));
 }
 
+/* Place and terms are of the solstice year, a year's own facts of the civil year. */
 static void facts(void)
 {
     oes_solstice s = oes_solstice_year(9366);
@@ -62,7 +63,7 @@ static void facts(void)
     }
 }
 
-/* Venus by the end of year 9,455: 11,826 conjunctions, the last of them an evening one. */
+/* Venus by the end of solstice year 9,455: 11,826 conjunctions, the last of them an evening one. */
 static void planets(void)
 {
     oes_conjunction_told c = oes_conjunction(4, 11826);
@@ -71,7 +72,7 @@ static void planets(void)
     printf("NEXT 4 3453334\nNEXT %u %u %u %u %c\n", n.k, n.day, n.parts, n.divisor, "-ME"[n.phase]);
 }
 
-/* A slip of the first day of a month 9, in a year of the name 27, its leap mark not read: into a list of one place, and of two. */
+/* A slip of the first day of a month 9, in a civil year of name 27, its leap mark not read: into a list of one place, and of two. */
 static void search(void)
 {
     oes_reading slip = {.year_name = 27, .month_number = 9, .day_of_month = 1};
@@ -86,7 +87,7 @@ static void search(void)
     }
 }
 
-/* The sheet with year 11 alone, written, read back and printed. */
+/* The sheet with civil year 11 alone, written, read back and printed. */
 static void sheet(void)
 {
     const uint16_t years[1] = {11};

@@ -4,7 +4,13 @@
  * Every call ends for every input. `reason` is 0 where there is an answer; else it is the paper's number, every other field
  * is 0 (but the total of a search that is refused with 12, which is the true one), and nothing lent was changed.
  * Numbers are wide enough that no wrong one is taken for another: a negative one is refused like any that is too large.
- * A name is 1 to 60. Lent memory: docs/C.md. */
+ * A name is 1 to 60. Lent memory: docs/C.md.
+ *
+ * A year is the civil year, 0 to 41,040, which opens with its month 1, but in oes_solstice_year and oes_term, which take the
+ * solstice year, 1 to 41,040, which begins with its month 11. Outside these a year is refused with 1. The civil year of a month
+ * is its solstice year, one less where its number is 11 or 12, leap or not. Civil year 0 has months 11 and 12 alone, and civil
+ * year 41,040 ends with its leap month 10: a date by a month number that the year has not is refused with 16, after 3 and
+ * before 4. */
 #ifndef OESTERWROK_H
 #define OESTERWROK_H
 
@@ -16,7 +22,8 @@
 extern "C" {
 #endif
 
-/* A date. `number` is the month's, `leap` whether it is the leap month of that number. */
+/* A date by its civil year, whose name `year_name` is. `number` is the month's, `leap` whether it is the leap month of that
+ * number. */
 typedef struct oes_date {
     uint32_t reason;
     uint32_t year;
@@ -46,7 +53,8 @@ typedef struct oes_solstice {
     uint32_t months;
 } oes_solstice;
 
-/* A year's own. Where it has no leap month, `has_leap` is false and the two numbers after it are 0. */
+/* A civil year's own. `first_month` is its month 1 (in year 0 its month 11). `months` is 12 or 13, but 2 in year 0 and 11 in year
+ * 41,040. Where it has no leap month, `has_leap` is false and the two numbers after it are 0. */
 typedef struct oes_year {
     uint32_t reason;
     uint32_t name;
@@ -76,7 +84,7 @@ typedef struct oes_quarter_told {
     uint32_t parts;
 } oes_quarter_told;
 
-/* A term of a year: its day and the rest in parts of 32. */
+/* A term of a solstice year: its day and the rest in parts of 32. */
 typedef struct oes_term_told {
     uint32_t reason;
     uint32_t day;
@@ -110,7 +118,8 @@ typedef struct oes_pair_told {
     uint64_t conjunctions;
 } oes_pair_told;
 
-/* A reading of a slip: six values, and whether each was read. A leap mark is 1 for ordinary and 2 for leap. */
+/* A reading of a slip: six values, and whether each was read. The year's name is that of the civil year. A leap mark is 1 for
+ * ordinary and 2 for leap. */
 typedef struct oes_reading {
     uint64_t year_name;
     uint64_t month_number;
@@ -132,7 +141,7 @@ typedef struct oes_found {
     uint32_t total;
 } oes_found;
 
-/* How many items each of a sheet's lists has. */
+/* How many items each of a sheet's lists has; its years are civil years. */
 typedef struct oes_sheet_counts {
     uint32_t reason;
     size_t years;
@@ -146,15 +155,20 @@ typedef struct oes_length {
     size_t length;
 } oes_length;
 
+/* By the civil year. */
 oes_date oes_date_of_day(uint64_t day);
 oes_day oes_day_of_date(uint64_t year, uint64_t number, bool leap, uint64_t day_of_month);
 oes_date oes_move_date(uint64_t year, uint64_t number, bool leap, uint64_t day_of_month, int64_t days);
 
+/* By the solstice year. */
 oes_solstice oes_solstice_year(uint64_t year);
+oes_term_told oes_term(uint64_t year, uint64_t term);
+
+/* By the civil year. */
 oes_year oes_year_facts(uint64_t year);
+
 oes_month oes_month_facts(uint64_t month);
 oes_quarter_told oes_quarter(uint64_t month, uint64_t quarter);
-oes_term_told oes_term(uint64_t year, uint64_t term);
 
 /* Planets: 1 Jupiter, 2 Mars, 3 Saturn, 4 Venus, 5 Mercury. */
 oes_conjunction_told oes_conjunction(uint64_t planet, uint64_t k);
@@ -163,11 +177,13 @@ oes_pair_told oes_reduced_pair(uint64_t planet);
 
 oes_found oes_search(oes_reading reading, uint64_t first, uint64_t last, uint32_t *out, size_t out_places);
 
+/* Years are civil years. */
 oes_sheet_counts oes_read_sheet(const uint8_t *bytes, size_t bytes_length, uint16_t *years, size_t years_places,
                                 uint32_t *months, size_t months_places, uint32_t *days, size_t days_places);
 oes_length oes_write_sheet(const uint16_t *years, size_t years_count, const uint32_t *months, size_t months_count,
                            const uint32_t *days, size_t days_count, uint8_t *out, size_t out_bytes);
 
+/* A year's block and a day's line are by the civil year. */
 oes_length oes_print_year(uint64_t year, uint8_t *out, size_t out_bytes);
 oes_length oes_print_month_line(uint64_t month, uint8_t *out, size_t out_bytes);
 oes_length oes_print_month(uint64_t month, uint8_t *out, size_t out_bytes);

@@ -179,7 +179,8 @@ pub struct CReading {
     pub first_name_known: bool,
 }
 
-// A call that takes no pointer asks nothing of its caller, so it is declared safe.
+// A call that takes no pointer asks nothing of its caller, so it is declared safe. A year is the civil year, but in
+// `oes_solstice_year` and `oes_term`, which take the solstice year.
 unsafe extern "C" {
     pub safe fn oes_date_of_day(day: u64) -> CDate;
     pub safe fn oes_day_of_date(year: u64, number: u64, leap: bool, day_of_month: u64) -> CDay;

@@ -1,9 +1,12 @@
 //! An independent implementation of the same calls, written from the paper alone and not from the proved code: the cross-check's
 //! other side and the benchmark's. It is plain Rust with floor divisions; it calls nothing of capi.
+//!
+//! A date's year is the civil year; place, leap remainder and terms are of the solstice year, from which the civil year comes.
 
 use crate::types::*;
+use std::ops::Range;
 
-/// Years in range, one origin-and-eclipse cycle.
+/// Solstice years in range, one origin-and-eclipse cycle: 1 to 41,040. Civil years are 0 to 41,040.
 const YEARS: u64 = 41_040;
 
 /// Months in range.
@@ -25,9 +28,9 @@ fn day_name(day: u64) -> u32 {
     (day % 60 + 1) as u32
 }
 
-/// The name of a year, 1 to 60; year 1 has name 17.
+/// The name of a civil year, 1 to 60; year 1 has name 17, so year 0 has 16.
 fn year_name(year: u64) -> u32 {
-    ((year - 1 + 16) % 60 + 1) as u32
+    ((year + 15) % 60 + 1) as u32
 }
 
 /// The day on which month n starts.
@@ -55,18 +58,18 @@ fn term_parts(term: u64) -> u64 {
     487 * term % 32
 }
 
-/// The month count that a year begins with.
-fn first_month(year: u64) -> u64 {
+/// The month count that a solstice year begins with.
+fn solstice_first(year: u64) -> u64 {
     235 * (year - 1) / 19
 }
 
-/// The leap remainder of a year.
+/// The leap remainder of a solstice year.
 fn leap_remainder(year: u64) -> u64 {
     235 * (year - 1) % 19
 }
 
-/// How many months a year has.
-fn months_of_year(year: u64) -> u64 {
+/// How many months a solstice year has.
+fn solstice_months(year: u64) -> u64 {
     if leap_remainder(year) >= 12 {
         13
     } else {
@@ -74,9 +77,14 @@ fn months_of_year(year: u64) -> u64 {
     }
 }
 
-/// The year that a month lies in: the last with 235 × (year − 1) / 19 below n + 1.
-fn year_of_month(n: u64) -> u64 {
+/// The solstice year that a month lies in: the last with 235 × (year − 1) / 19 below n + 1.
+fn solstice_year_of(n: u64) -> u64 {
     (19 * (n + 1) - 1) / 235 + 1
+}
+
+/// The civil year of a month, by its solstice year and its number: one less where that is 11 or 12, leap or not.
+fn civil_year(solstice_year: u64, number: u32) -> u64 {
+    solstice_year - u64::from(number >= 11)
 }
 
 /// The mid-term that falls on a day of month n, if any, counted from the origin in mid-terms. Mid-term m is term 2m, and the
@@ -91,7 +99,7 @@ fn number_of_mid_term(m: u64) -> u32 {
     ((m + 10) % 12 + 1) as u32
 }
 
-/// The place of a month number in its year, month 11 having place 0: the inverse of the above.
+/// The place of a month number in its solstice year, month 11 having place 0: the inverse of the above.
 fn place_of_number(number: u64) -> u64 {
     (number + 1) % 12
 }
@@ -130,9 +138,14 @@ fn ensure(holds: bool, reason: Reason) -> Result<(), Reason> {
     }
 }
 
-/// Reason 1.
-fn check_year(year: u64) -> Result<(), Reason> {
+/// Reason 1 of a solstice year: a place's or a term's.
+fn check_solstice_year(year: u64) -> Result<(), Reason> {
     ensure((1..=YEARS).contains(&year), Reason::Year)
+}
+
+/// Reason 1 of a civil year, which is every other year: it starts at 0.
+fn check_civil_year(year: u64) -> Result<(), Reason> {
+    ensure(year <= YEARS, Reason::Year)
 }
 
 /// Reason 7.
@@ -150,10 +163,11 @@ fn check_day(day: u64) -> Result<(), Reason> {
 /// The date of a day that is in range.
 fn date_at(day: u64) -> Date {
     let n = month_of_day(day);
-    let year = year_of_month(n);
+    let month = month_held(n);
+    let year = civil_year(solstice_year_of(n), month.number());
     Date {
         year: year as u32,
-        month: month_held(n),
+        month,
         day_of_month: (day - month_start(n) + 1) as u32,
         month_length: month_length(n) as u32,
         day_name: day_name(day),
@@ -167,10 +181,27 @@ pub fn date_of_day(day: u64) -> Result<Date, Reason> {
     Ok(date_at(day))
 }
 
-/// The month of a year by number: the one that holds the number's mid-term, or the leap month after it.
+/// The ordinary month of a number in a civil year: the one that holds the number's mid-term. Its months 11 and 12 are those of
+/// the solstice year after it.
+fn ordinary_month(year: u64, number: u64) -> u64 {
+    let solstice_year = year + u64::from(number >= 11);
+    let m = 12 * (solstice_year - 1) + place_of_number(number);
+    month_of_day(term_day(2 * m))
+}
+
+/// Reason 16: a month number from 1 to 10 in year 0, or 11 or 12 in year 41,040, leap or not.
+fn check_number_in_year(year: u64, number: u64) -> Result<(), Reason> {
+    let missing = match year {
+        0 => (1..=10).contains(&number),
+        YEARS => (11..=12).contains(&number),
+        _ => false,
+    };
+    ensure(!missing, Reason::NoSuchNumber)
+}
+
+/// The month of a civil year by a number that it has: the ordinary one, or the leap month after it. Reason 4.
 fn month_of_number(year: u64, number: u64, leap: bool) -> Result<u64, Reason> {
-    let m = 12 * (year - 1) + place_of_number(number);
-    let ordinary = month_of_day(term_day(2 * m));
+    let ordinary = ordinary_month(year, number);
     if !leap {
         return Ok(ordinary);
     }
@@ -180,9 +211,10 @@ fn month_of_number(year: u64, number: u64, leap: bool) -> Result<u64, Reason> {
 
 /// As [`crate::day_of_date`].
 pub fn day_of_date(asked: Asked) -> Result<u32, Reason> {
-    check_year(asked.year)?;
+    check_civil_year(asked.year)?;
     ensure((1..=12).contains(&asked.number), Reason::MonthNumber)?;
     ensure((1..=30).contains(&asked.day_of_month), Reason::DayOfMonth)?;
+    check_number_in_year(asked.year, asked.number)?;
     let n = month_of_number(asked.year, asked.number, asked.leap)?;
     ensure(asked.day_of_month <= month_length(n), Reason::NoDayThirty)?;
     Ok((month_start(n) + asked.day_of_month - 1) as u32)
@@ -202,30 +234,44 @@ pub fn move_date(asked: Asked, days: i64) -> Result<Date, Reason> {
 
 /// As [`crate::solstice_year`].
 pub fn solstice_year(year: u64) -> Result<SolsticeYear, Reason> {
-    check_year(year)?;
+    check_solstice_year(year)?;
     let elapsed = year - 1;
     let head_year = elapsed - elapsed % 76 + 1;
     Ok(SolsticeYear {
         ji: (elapsed % 4_560 / 1_520 + 1) as u32,
         bu: (elapsed % 1_520 / 76 + 1) as u32,
         year_in_bu: (elapsed % 76 + 1) as u32,
-        head_name: day_name(month_start(first_month(head_year))),
-        first_month: first_month(year) as u32,
+        head_name: day_name(month_start(solstice_first(head_year))),
+        first_month: solstice_first(year) as u32,
         leap_remainder: leap_remainder(year) as u32,
-        months: months_of_year(year) as u32,
+        months: solstice_months(year) as u32,
     })
+}
+
+/// The month count that a civil year opens with: its own month 1; year 0 opens with month 11, the range's first. The year after
+/// the last would open where the range ends.
+fn civil_first(year: u64) -> u64 {
+    match year {
+        0 => 0,
+        1..=YEARS => ordinary_month(year, 1),
+        _ => MONTHS,
+    }
+}
+
+/// The months of a civil year: up to where the next opens.
+fn civil_months(year: u64) -> Range<u64> {
+    civil_first(year)..civil_first(year + 1)
 }
 
 /// As [`crate::year_facts`].
 pub fn year_facts(year: u64) -> Result<YearFacts, Reason> {
-    check_year(year)?;
-    let first = first_month(year);
-    let months = months_of_year(year);
-    let leap = (first..first + months).find(|&n| is_leap(n));
+    check_civil_year(year)?;
+    let months = civil_months(year);
+    let leap = months.clone().find(|&n| is_leap(n));
     Ok(YearFacts {
         name: year_name(year),
-        first_month: first as u32,
-        months: months as u32,
+        first_month: months.start as u32,
+        months: (months.end - months.start) as u32,
         leap: leap.map(|n| LeapMonth {
             number: month_number(n),
             month: n as u32,
@@ -259,7 +305,7 @@ pub fn quarter(month: u64, quarter: u64) -> Result<Quarter, Reason> {
 
 /// As [`crate::term`].
 pub fn term(year: u64, term: u64) -> Result<Term, Reason> {
-    check_year(year)?;
+    check_solstice_year(year)?;
     ensure(term <= 23, Reason::TermOrQuarter)?;
     let from_origin = 24 * (year - 1) + term;
     Ok(Term {
@@ -400,13 +446,14 @@ fn mark_fits(mark: Option<u64>, month: Month) -> bool {
     mark.is_none_or(|known| (known == LEAP) == month.is_leap())
 }
 
-/// Whether a day fits a reading whose known fields are in their ranges.
+/// Whether a day fits a reading whose known fields are in their ranges. The number is looked at before the civil year's name, which
+/// hangs on it.
 fn day_fits(reading: &Reading, day: u64) -> bool {
     let date = date_at(day);
     let first_day = day - u64::from(date.day_of_month - 1);
-    fits(reading.year_name, date.year_name)
-        && fits(reading.month_number, date.month.number())
+    fits(reading.month_number, date.month.number())
         && mark_fits(reading.leap_mark, date.month)
+        && fits(reading.year_name, date.year_name)
         && fits(reading.day_of_month, date.day_of_month)
         && fits(reading.day_name, date.day_name)
         && fits(reading.first_name, day_name(first_day))
@@ -501,9 +548,10 @@ pub fn search_by_months(
 /// Whether month n fits those fields of a reading that are its own.
 fn month_fits(reading: &Reading, n: u64) -> bool {
     let month = month_held(n);
-    fits(reading.year_name, year_name(year_of_month(n)))
-        && fits(reading.month_number, month.number())
+    let year = civil_year(solstice_year_of(n), month.number());
+    fits(reading.month_number, month.number())
         && mark_fits(reading.leap_mark, month)
+        && fits(reading.year_name, year_name(year))
         && fits(reading.first_name, day_name(month_start(n)))
 }
 
@@ -544,7 +592,7 @@ pub fn read_sheet(
     days: &mut [u32],
 ) -> Result<SheetCounts, Reason> {
     let mut rest = bytes;
-    let year_items = take_section(&mut rest, 2, check_year)?;
+    let year_items = take_section(&mut rest, 2, check_civil_year)?;
     let month_items = take_section(&mut rest, 4, check_month)?;
     let day_items = take_section(&mut rest, 4, check_day)?;
     ensure(rest.is_empty(), Reason::BytesAfter)?;
@@ -583,7 +631,7 @@ pub fn write_sheet(
     days: &[u32],
     out: &mut [u8],
 ) -> Result<usize, Reason> {
-    check_section(years.iter().map(|&year| year.into()), check_year)?;
+    check_section(years.iter().map(|&year| year.into()), check_civil_year)?;
     check_section(months.iter().map(|&month| month.into()), check_month)?;
     check_section(days.iter().map(|&day| day.into()), check_day)?;
     let mut sheet = Vec::with_capacity(6 + 2 * years.len() + 4 * (months.len() + days.len()));
@@ -629,10 +677,14 @@ fn month_line(n: u64) -> String {
 
 /// As [`crate::print_year`].
 pub fn print_year(year: u64, out: &mut [u8]) -> Result<usize, Reason> {
-    check_year(year)?;
-    let (first, months) = (first_month(year), months_of_year(year));
-    let mut text = format!("YEAR {year} NAME {} MONTHS {months}\n", year_name(year));
-    for n in first..first + months {
+    check_civil_year(year)?;
+    let months = civil_months(year);
+    let mut text = format!(
+        "YEAR {year} NAME {} MONTHS {}\n",
+        year_name(year),
+        months.end - months.start
+    );
+    for n in months {
         text.push_str(&month_line(n));
     }
     hand_bytes(text.as_bytes(), out)

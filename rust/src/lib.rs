@@ -3,12 +3,19 @@
 //! Every call ends for every input. A refused call gives the paper's [`Reason`] and changes nothing in the memory lent to it.
 //! Counts start at the upper origin; names are numbers 1 to 60.
 //!
+//! A year is a civil year, 0 to 41,040. It opens with its month 1 and ends with its month 12 or the leap month after it; year 0
+//! has months 11 and 12 alone, and year 41,040 ends with its leap month 10. Only [`solstice_year`] and [`term`] take the solstice
+//! year, 1 to 41,040, which begins with its month 11. The civil year of a month is its solstice year, one less where its number
+//! is 11 or 12, leap or not.
+//!
 //! ```
 //! use oesterwrok::{day_of_date, date_of_day, Asked, Month, Reason};
 //! let date = date_of_day(29).unwrap();
-//! assert_eq!((date.year, date.month, date.day_of_month), (1, Month::Ordinary(12), 1));
+//! assert_eq!((date.year, date.month, date.day_of_month), (0, Month::Ordinary(12), 1));
 //! let leap_nine = Asked { year: 11, number: 9, leap: true, day_of_month: 30 };
 //! assert_eq!(day_of_date(leap_nine), Err(Reason::NoDayThirty));
+//! let leap_five = Asked { year: 0, number: 5, leap: true, day_of_month: 1 };
+//! assert_eq!(day_of_date(leap_five), Err(Reason::NoSuchNumber));
 //! ```
 #![deny(unsafe_code)]
 #![warn(missing_docs)]
@@ -20,13 +27,13 @@ mod types;
 use ffi::Told;
 pub use types::*;
 
-/// The date of a day. Reason 6.
+/// The date of a day, by the civil year. Reason 6.
 #[inline]
 pub fn date_of_day(day: u64) -> Result<Date, Reason> {
     ffi::oes_date_of_day(day).told().map(date)
 }
 
-/// The day of a date. Reasons 1, 2, 3, 4, 5.
+/// The day of a date, asked by the civil year. Reasons 1, 2, 3, 16, 4, 5.
 #[inline]
 pub fn day_of_date(asked: Asked) -> Result<u32, Reason> {
     let Asked {
@@ -39,7 +46,7 @@ pub fn day_of_date(asked: Asked) -> Result<u32, Reason> {
     Ok(answer.told()?.day)
 }
 
-/// The date so many days later, or earlier where `days` is negative. Reasons 1, 2, 3, 4, 5, 8.
+/// The date so many days later, or earlier where `days` is negative; both by the civil year. Reasons 1, 2, 3, 16, 4, 5, 8.
 #[inline]
 pub fn move_date(asked: Asked, days: i64) -> Result<Date, Reason> {
     let Asked {
@@ -52,7 +59,8 @@ pub fn move_date(asked: Asked, days: i64) -> Result<Date, Reason> {
     answer.told().map(date)
 }
 
-/// A year's place in ji and bu, its first month, its leap remainder and how many months it has. Reason 1.
+/// A solstice year's place in ji and bu, its first month, its leap remainder and how many months it has. Reason 1, outside 1 to
+/// 41,040.
 #[inline]
 pub fn solstice_year(year: u64) -> Result<SolsticeYear, Reason> {
     let c = ffi::oes_solstice_year(year).told()?;
@@ -67,7 +75,7 @@ pub fn solstice_year(year: u64) -> Result<SolsticeYear, Reason> {
     })
 }
 
-/// A year's name, its months and its leap month. Reason 1.
+/// A civil year's name, its months and its leap month. Reason 1, outside 0 to 41,040.
 #[inline]
 pub fn year_facts(year: u64) -> Result<YearFacts, Reason> {
     let c = ffi::oes_year_facts(year).told()?;
@@ -116,7 +124,7 @@ pub fn quarter(month: u64, quarter: u64) -> Result<Quarter, Reason> {
     })
 }
 
-/// A term of a year: 0 (the solstice) to 23. Reasons 1, 15.
+/// A term of a solstice year, 1 to 41,040: 0 (the solstice) to 23. Reasons 1, 15.
 #[inline]
 pub fn term(year: u64, term: u64) -> Result<Term, Reason> {
     let c = ffi::oes_term(year, term).told()?;
@@ -165,7 +173,7 @@ pub fn reduced_pair(planet: u64) -> Result<Pair, Reason> {
 }
 
 /// Every day from `first` to `last` that fits the reading, in rising order at the front of `out`, and how many there are; the
-/// rest of `out` is untouched. Reasons 6, 13, 14, 12; with 12 comes the true total.
+/// rest of `out` is untouched. A year's name is that of the civil year. Reasons 6, 13, 14, 12; with 12 comes the true total.
 #[inline]
 pub fn search(
     reading: &Reading,
@@ -187,7 +195,8 @@ pub fn search(
     Ok(told?.total)
 }
 
-/// Reads a sheet into three lent lists; places beyond what it fills are untouched. Reasons 9, 10, 1, 7, 6, 11, 12.
+/// Reads a sheet of civil years, months and days into three lent lists; places beyond what it fills are untouched. Reasons 9, 10,
+/// 1, 7, 6, 11, 12.
 #[inline]
 pub fn read_sheet(
     bytes: &[u8],
@@ -203,7 +212,8 @@ pub fn read_sheet(
     })
 }
 
-/// Writes the sheet of three whole lists to the front of `out` and gives its number of bytes. Reasons 10, 1, 7, 6, 12.
+/// Writes the sheet of three whole lists, civil years, months and days, to the front of `out` and gives its number of bytes.
+/// Reasons 10, 1, 7, 6, 12.
 #[inline]
 pub fn write_sheet(
     years: &[u16],
@@ -214,7 +224,7 @@ pub fn write_sheet(
     Ok(ffi::write_sheet(years, months, days, out).told()?.length)
 }
 
-/// Prints a year's header and its months' lines to the front of `out` and gives the number of bytes. Reasons 1, 12.
+/// Prints a civil year's header and its months' lines to the front of `out` and gives the number of bytes. Reasons 1, 12.
 #[inline]
 pub fn print_year(year: u64, out: &mut [u8]) -> Result<usize, Reason> {
     Ok(ffi::print_year(year, out).told()?.length)
@@ -232,7 +242,7 @@ pub fn print_month(month: u64, out: &mut [u8]) -> Result<usize, Reason> {
     Ok(ffi::print_month(month, out).told()?.length)
 }
 
-/// Prints a day's `DAY` line. Reasons 6, 12.
+/// Prints a day's `DAY` line, with its civil year. Reasons 6, 12.
 #[inline]
 pub fn print_day(day: u64, out: &mut [u8]) -> Result<usize, Reason> {
     Ok(ffi::print_day(day, out).told()?.length)

@@ -2,11 +2,12 @@
 
 use std::fmt;
 
-/// Why a query comes back: the paper's fifteen reasons and the two of the planets, under their numbers.
+/// Why a query comes back: the paper's fifteen reasons, that of the civil year and the two of the planets, under their numbers.
 #[derive(Clone, Copy, Debug, PartialEq, Eq, Hash)]
 #[repr(u32)]
 pub enum Reason {
-    /// 1: year outside 1 to 41,040.
+    /// 1: year outside its range. That of a solstice year, asked for its place or a term, is 1 to 41,040; that of a civil year,
+    /// everywhere else, 0 to 41,040.
     Year = 1,
     /// 2: month number outside 1 to 12.
     MonthNumber = 2,
@@ -24,26 +25,29 @@ pub enum Reason {
     MoveEnds = 8,
     /// 9: sheet ends before a count or an item is whole.
     SheetEnds = 9,
-    /// 10: a count above 1,000.
+    /// 10: a count above its most, which is 1,000 in a sheet.
     CountAbove = 10,
     /// 11: bytes after the last section.
     BytesAfter = 11,
     /// 12: a lent list or buffer too short for the whole answer.
     LentTooShort = 12,
-    /// 13: window's last day before its first, or more than 27,759 days.
+    /// 13: last before first, or a window of more than 27,759 days.
     Window = 13,
     /// 14: a known field of a reading outside its range.
     Field = 14,
-    /// 15: term above 23 or quarter above 3.
+    /// 15: term or quarter above its last, 23 or 3.
     TermOrQuarter = 15,
+    /// 16: no such month number in that year: 1 to 10 in civil year 0, or 11 or 12 in civil year 41,040, leap or not. It comes
+    /// after 3 and before 4.
+    NoSuchNumber = 16,
     /// 19: planet outside 1 to 5.
     Planet = 19,
     /// 20: no conjunction falls from the given day to the end of the range.
     NoConjunctionLeft = 20,
 }
 
-/// The reasons in the order of their numbers; 16, 17 and 18 belong to requests that are not built.
-pub const REASONS: [Reason; 17] = [
+/// The reasons in the order of their numbers; 17 and 18 belong to requests that are not built.
+pub const REASONS: [Reason; 18] = [
     Reason::Year,
     Reason::MonthNumber,
     Reason::DayOfMonth,
@@ -59,12 +63,13 @@ pub const REASONS: [Reason; 17] = [
     Reason::Window,
     Reason::Field,
     Reason::TermOrQuarter,
+    Reason::NoSuchNumber,
     Reason::Planet,
     Reason::NoConjunctionLeft,
 ];
 
 impl Reason {
-    /// The paper's number, 1 to 15, or 19 or 20.
+    /// The paper's number, 1 to 16, or 19 or 20.
     pub fn number(self) -> u32 {
         self as u32
     }
@@ -86,7 +91,7 @@ impl std::error::Error for Reason {}
 /// A date as it is asked for, by the paper's four things. Any numbers may be asked.
 #[derive(Clone, Copy, Debug, PartialEq, Eq)]
 pub struct Asked {
-    /// The year, counted from 1.
+    /// The civil year, 0 to 41,040.
     pub year: u64,
     /// The month's number, 1 to 12.
     pub number: u64,
@@ -131,7 +136,7 @@ impl Month {
 /// A date of the calendar.
 #[derive(Clone, Copy, Debug, PartialEq, Eq)]
 pub struct Date {
-    /// The year, 1 to 41,040.
+    /// The civil year, 0 to 41,040: the solstice year, one less where the month's number is 11 or 12, leap or not.
     pub year: u32,
     /// The month, ordinary or leap.
     pub month: Month,
@@ -141,7 +146,7 @@ pub struct Date {
     pub month_length: u32,
     /// The day's name, 1 to 60.
     pub day_name: u32,
-    /// The year's name, 1 to 60.
+    /// The civil year's name, 1 to 60.
     pub year_name: u32,
 }
 
@@ -157,7 +162,7 @@ impl Date {
     }
 }
 
-/// A solstice year: its place, its bu's head name and its months.
+/// A solstice year, which begins with the month of its winter solstice: its place, its bu's head name and its months.
 #[derive(Clone, Copy, Debug, PartialEq, Eq)]
 pub struct SolsticeYear {
     /// The ji of its yuan, 1 to 3.
@@ -176,20 +181,20 @@ pub struct SolsticeYear {
     pub months: u32,
 }
 
-/// A year's own facts.
+/// A civil year's own facts.
 #[derive(Clone, Copy, Debug, PartialEq, Eq)]
 pub struct YearFacts {
-    /// The year's name, 1 to 60.
+    /// The civil year's name, 1 to 60.
     pub name: u32,
-    /// The month count that it begins with.
+    /// The month count that it opens with: its month 1, or month 11 in year 0.
     pub first_month: u32,
-    /// How many months it has, 12 or 13.
+    /// How many months it has: 12 or 13, but 2 in year 0 and 11 in year 41,040.
     pub months: u32,
     /// Its leap month, where it has one.
     pub leap: Option<LeapMonth>,
 }
 
-/// The leap month of a year.
+/// The leap month of a civil year.
 #[derive(Clone, Copy, Debug, PartialEq, Eq)]
 pub struct LeapMonth {
     /// The number that it bears.
@@ -224,7 +229,7 @@ pub struct Quarter {
     pub parts: u32,
 }
 
-/// A term of a year.
+/// A term of a solstice year.
 #[derive(Clone, Copy, Debug, PartialEq, Eq)]
 pub struct Term {
     /// The day on which it falls.
@@ -284,7 +289,7 @@ pub const LEAP: u64 = 2;
 /// A reading of a slip: each field is a number, or unread (`None`).
 #[derive(Clone, Copy, Debug, Default, PartialEq, Eq)]
 pub struct Reading {
-    /// The year's name, 1 to 60.
+    /// The civil year's name, 1 to 60.
     pub year_name: Option<u64>,
     /// The month's number, 1 to 12.
     pub month_number: Option<u64>,
@@ -321,7 +326,7 @@ impl std::error::Error for SearchRefused {}
 /// How many items each of a sheet's lists has.
 #[derive(Clone, Copy, Debug, PartialEq, Eq)]
 pub struct SheetCounts {
-    /// Years.
+    /// Civil years.
     pub years: usize,
     /// Months.
     pub months: usize,

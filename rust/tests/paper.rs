@@ -1,5 +1,5 @@
-//! The paper's known dates, its printed year and its figures of the planets, asked of both sides: of capi through the wrapper, and
-//! of the independent one.
+//! The paper's known dates, its printed year, its figures of civil years and of the planets, asked of both sides: of capi through
+//! the wrapper, and of the independent one.
 
 /// The paper's figures, as tests over the calls of one side.
 macro_rules! paper_of {
@@ -7,12 +7,13 @@ macro_rules! paper_of {
         mod $side {
             use oesterwrok::{
                 Asked, Conjunction, Date, LeapMonth, Month, Pair, Phase, Reading, Reason,
-                SearchRefused, SheetCounts, Term,
+                SearchRefused, SheetCounts, Term, YearFacts,
             };
             use $calls as calls;
 
             const LAST_DAY: u64 = 14_989_859;
 
+            /// A date asked by its civil year.
             fn asked(year: u64, month: Month, day_of_month: u64) -> Asked {
                 Asked {
                     year,
@@ -30,17 +31,19 @@ macro_rules! paper_of {
             fn first_days() {
                 assert_eq!(
                     place(calls::date_of_day(0).unwrap()),
-                    (1, Month::Ordinary(11), 1, 1)
+                    (0, Month::Ordinary(11), 1, 1)
                 );
-                let origin = asked(1, Month::Ordinary(11), 1);
+                assert_eq!(calls::date_of_day(0).unwrap().year_name, 16);
+                let origin = asked(0, Month::Ordinary(11), 1);
+                assert_eq!(calls::day_of_date(origin), Ok(0));
                 assert_eq!(calls::move_date(origin, -1), Err(Reason::MoveEnds));
                 assert_eq!(
                     place(calls::date_of_day(29).unwrap()),
-                    (1, Month::Ordinary(12), 1, 30)
+                    (0, Month::Ordinary(12), 1, 30)
                 );
                 assert_eq!(
                     place(calls::date_of_day(28).unwrap()),
-                    (1, Month::Ordinary(11), 29, 29)
+                    (0, Month::Ordinary(11), 29, 29)
                 );
             }
 
@@ -53,7 +56,7 @@ macro_rules! paper_of {
             }
 
             #[test]
-            fn places_of_years() {
+            fn places_of_solstice_years() {
                 let place = |year| {
                     let facts = calls::solstice_year(year).unwrap();
                     (facts.ji, facts.bu, facts.year_in_bu)
@@ -62,16 +65,141 @@ macro_rules! paper_of {
                 assert_eq!(place(77), (1, 2, 1));
                 assert_eq!(calls::solstice_year(77).unwrap().head_name, 40);
                 assert_eq!(place(9_366), (1, 4, 18));
-                assert_eq!(calls::year_facts(1).unwrap().name, 17);
+                assert_eq!(place(1), (1, 1, 1));
+                assert_eq!(calls::solstice_year(0), Err(Reason::Year));
+                assert_eq!(calls::solstice_year(41_041), Err(Reason::Year));
+            }
+
+            /// The request's figures: name, months and leap month of civil years, and the range's ends.
+            #[test]
+            fn civil_years() {
+                let facts = |name, first_month, months, leap: Option<(u32, u32)>| {
+                    Ok(YearFacts {
+                        name,
+                        first_month,
+                        months,
+                        leap: leap.map(|(number, month)| LeapMonth { number, month }),
+                    })
+                };
+                // Year 0 has month counts 0 and 1; year 1, the first with a month 1, opens with the next.
+                assert_eq!(calls::year_facts(0), facts(16, 0, 2, None));
+                assert_eq!(calls::year_facts(1), facts(17, 2, 12, None));
+                // Year 8 has months 88 to 100, the last of them, days 2,953 to 2,981, between the mid-terms of 2,952 and 2,982.
+                assert_eq!(calls::year_facts(8), facts(24, 88, 13, Some((12, 100))));
+                // Year 11 has months 125 to 137.
+                assert_eq!(calls::year_facts(11), facts(27, 125, 13, Some((9, 134))));
+                // Solstice year 27 has months 321 to 332, so its month 1 is 323; leap 11 is month 334, the next month 1 is 336.
+                assert_eq!(calls::year_facts(27), facts(43, 323, 13, Some((11, 334))));
+                // Year 41,040 has months 507,589 to 507,599.
+                let last = facts(16, 507_589, 11, Some((10, 507_599)));
+                assert_eq!(calls::year_facts(41_040), last);
+                assert_eq!(calls::year_facts(41_041), Err(Reason::Year));
+            }
+
+            /// A leap month of number 11 or 12 closes the civil year.
+            #[test]
+            fn leap_months_that_close_a_year() {
+                let leap_eleven = calls::date_of_day(9_863).unwrap();
+                assert_eq!(place(leap_eleven), (27, Month::Leap(11), 1, 24));
+                assert_eq!(leap_eleven.year_name, 43);
+                let leap_twelve = calls::date_of_day(2_953).unwrap();
+                assert_eq!(place(leap_twelve), (8, Month::Leap(12), 1, 14));
+                assert_eq!(calls::day_of_date(leap_twelve.asked()), Ok(2_953));
+                let next = calls::date_of_day(2_982).unwrap();
+                assert_eq!(place(next), (9, Month::Ordinary(1), 1, 43));
+            }
+
+            /// The months of civil years 1 to 41,039 bear 1 to 12 in order, a leap month after its namesake; each month lies in one
+            /// year.
+            #[test]
+            fn months_of_civil_years() {
+                let mut months = 0;
+                for year in 0..=41_040_u64 {
+                    let facts = calls::year_facts(year).unwrap();
+                    assert_eq!(facts.first_month, months);
+                    months += facts.months;
+                    let held = (facts.first_month..months)
+                        .map(|n| calls::month_facts(n.into()).unwrap().month)
+                        .collect::<Vec<_>>();
+                    let numbers = match year {
+                        0 => 11..=12,
+                        41_040 => 1..=10,
+                        _ => 1..=12,
+                    };
+                    let leap = facts.leap.map(|leap| leap.number);
+                    let in_order = numbers.flat_map(|number| {
+                        let after = (leap == Some(number)).then_some(Month::Leap(number));
+                        [Some(Month::Ordinary(number)), after]
+                    });
+                    assert_eq!(held, in_order.flatten().collect::<Vec<_>>());
+                }
+                assert_eq!(months, 507_600);
+            }
+
+            /// The civil year is one less than the solstice year on 2,487,240 days, and else the same.
+            #[test]
+            fn days_of_both_years() {
+                let (mut day, mut less) = (0, 0);
+                for year in 1..=41_040_u32 {
+                    let facts = calls::solstice_year(year.into()).unwrap();
+                    let after = u64::from(facts.first_month + facts.months);
+                    let end =
+                        calls::month_facts(after).map_or(LAST_DAY + 1, |m| m.first_day.into());
+                    while day < end {
+                        let date = calls::date_of_day(day).unwrap();
+                        if date.month.number() >= 11 {
+                            assert_eq!(date.year, year - 1);
+                            less += 1;
+                        } else {
+                            assert_eq!(date.year, year);
+                        }
+                        day += 1;
+                    }
+                }
+                assert_eq!((day, less), (14_989_860, 2_487_240));
+            }
+
+            /// 16 looks at the number alone; it comes after 3 and before 4, and before a move's 8.
+            #[test]
+            fn numbers_that_a_year_has_not() {
+                let refused = |year, month, day, reason| {
+                    let date = asked(year, month, day);
+                    assert_eq!(calls::day_of_date(date), Err(reason), "{date:?}");
+                    assert_eq!(calls::move_date(date, i64::MIN), Err(reason), "{date:?}");
+                };
+                for number in 1..=10 {
+                    refused(0, Month::Ordinary(number), 1, Reason::NoSuchNumber);
+                    refused(0, Month::Leap(number), 30, Reason::NoSuchNumber);
+                    refused(0, Month::Leap(number), 31, Reason::DayOfMonth);
+                    refused(41_041, Month::Ordinary(number), 0, Reason::Year);
+                }
+                for number in [11, 12] {
+                    refused(0, Month::Leap(number), 1, Reason::NoSuchLeap);
+                    refused(41_040, Month::Ordinary(number), 1, Reason::NoSuchNumber);
+                    refused(41_040, Month::Leap(number), 30, Reason::NoSuchNumber);
+                    refused(41_040, Month::Leap(number), 0, Reason::DayOfMonth);
+                }
+                for number in [0, 13] {
+                    refused(0, Month::Ordinary(number), 31, Reason::MonthNumber);
+                    refused(41_040, Month::Leap(number), 0, Reason::MonthNumber);
+                }
+                refused(0, Month::Ordinary(11), 30, Reason::NoDayThirty);
+                refused(41_040, Month::Leap(9), 1, Reason::NoSuchLeap);
+                let last = asked(41_040, Month::Leap(10), 30);
+                assert_eq!(calls::day_of_date(last), Ok(LAST_DAY as u32));
+                assert_eq!(calls::move_date(last, 1), Err(Reason::MoveEnds));
             }
 
             #[test]
             fn year_85() {
                 let facts = calls::solstice_year(9_366).unwrap();
                 assert_eq!((facts.leap_remainder, facts.first_month), (5, 115_830));
-                assert_eq!(calls::year_facts(9_366).unwrap().name, 22);
                 let month = calls::month_facts(115_830).unwrap();
                 assert_eq!((month.first_day, month.first_name), (3_420_558, 19));
+                let first = calls::date_of_day(3_420_558).unwrap();
+                assert_eq!(place(first), (9_365, Month::Ordinary(11), 1, 19));
+                assert_eq!(first.year_name, 21);
+                assert_eq!(calls::year_facts(9_365).unwrap().name, 21);
                 let full = u64::from(calls::quarter(115_830, 2).unwrap().day);
                 assert_eq!(
                     (full, calls::date_of_day(full).unwrap().day_name),
@@ -79,13 +207,13 @@ macro_rules! paper_of {
                 );
                 let solstice = u64::from(calls::term(9_366, 0).unwrap().day);
                 assert_eq!(
-                    (solstice, calls::date_of_day(solstice).unwrap().day_name),
-                    (3_420_566, 27)
+                    (solstice, place(calls::date_of_day(solstice).unwrap())),
+                    (3_420_566, (9_365, Month::Ordinary(11), 9, 27))
                 );
             }
 
-            /// Terms with the rest in parts of 32. The 8 of year 9,366's solstice is 004's; the others are worked out by hand: one
-            /// at a day's start, the last in range, and those just outside it.
+            /// Terms of solstice years with the rest in parts of 32. The 8 of year 9,366's solstice is 004's; the others are by
+            /// hand: one at a day's start, the last in range, and those just outside it.
             #[test]
             fn terms_with_their_rest() {
                 let falls = |day, parts| Ok(Term { day, parts });
@@ -95,6 +223,7 @@ macro_rules! paper_of {
                 assert_eq!(calls::term(41_040, 23), falls(14_989_844, 25));
                 assert_eq!(calls::term(41_040, 24), Err(Reason::TermOrQuarter));
                 assert_eq!(calls::term(41_041, 24), Err(Reason::Year));
+                assert_eq!(calls::term(0, 24), Err(Reason::Year));
             }
 
             #[test]
@@ -139,16 +268,20 @@ macro_rules! paper_of {
 
             #[test]
             fn a_bu_later() {
-                let date = calls::move_date(asked(1, Month::Ordinary(11), 1), 27_759).unwrap();
-                assert_eq!(place(date), (77, Month::Ordinary(11), 1, 40));
+                let date = calls::move_date(asked(0, Month::Ordinary(11), 1), 27_759).unwrap();
+                assert_eq!(place(date), (76, Month::Ordinary(11), 1, 40));
+                assert_eq!(date.year_name, 32);
             }
 
+            /// Any nineteen civil years in a row within 1 to 41,039.
             #[test]
             fn nineteen_years_hold_235_months() {
-                for year in 1..=57 {
-                    let of = |year| calls::year_facts(year).unwrap();
-                    let months: u32 = (year..year + 19).map(|y| of(y).months).sum();
-                    let leaps = (year..year + 19).filter(|&y| of(y).leap.is_some()).count();
+                let years: Vec<YearFacts> = (1..=41_039)
+                    .map(|year| calls::year_facts(year).unwrap())
+                    .collect();
+                for nineteen in years.windows(19) {
+                    let months: u32 = nineteen.iter().map(|year| year.months).sum();
+                    let leaps = nineteen.iter().filter(|year| year.leap.is_some()).count();
                     assert_eq!((months, leaps), (235, 7));
                 }
             }
@@ -210,7 +343,7 @@ macro_rules! paper_of {
                 }
             }
 
-            /// 004 counts 11,826 conjunctions of Venus by the end of year 9,455, the last one an evening one.
+            /// 004 counts 11,826 conjunctions of Venus by the end of solstice year 9,455, the last one an evening one.
             #[test]
             fn venus_in_9455() {
                 let found = calls::next_conjunction(4, 3_453_334).unwrap();
@@ -269,6 +402,19 @@ macro_rules! paper_of {
                 assert_eq!(calls::search(&reading, 0, 100, &mut []), Err(refused));
             }
 
+            /// Month 136, days 4,016 to 4,044, is month 11 of civil year 11, name 27; month 123, day 3,632 on, is that of year 10.
+            #[test]
+            fn a_name_is_of_the_civil_year() {
+                let mut out = [7; 60];
+                let reading = Reading {
+                    year_name: Some(27),
+                    month_number: Some(11),
+                    ..Reading::default()
+                };
+                assert_eq!(calls::search(&reading, 3_600, 4_100, &mut out), Ok(29));
+                assert_eq!((out[0], out[28], out[29]), (4_016, 4_044, 7));
+            }
+
             #[test]
             fn sheet_of_year_11() {
                 let bytes = [1, 0, 11, 0, 0, 0, 0, 0];
@@ -286,6 +432,29 @@ macro_rules! paper_of {
                 let mut out = [9; 10];
                 assert_eq!(calls::write_sheet(&[11], &[], &[], &mut out), Ok(8));
                 assert_eq!(out, [1, 0, 11, 0, 0, 0, 0, 0, 9, 9]);
+            }
+
+            /// A sheet takes civil years, 0 to 41,040 (50 A0 in its two bytes), reading and writing.
+            #[test]
+            fn sheet_of_the_first_and_the_last_year() {
+                let bytes = [2, 0, 0, 0, 0x50, 0xA0, 0, 0, 0, 0];
+                let mut years = [5; 3];
+                let counts = calls::read_sheet(&bytes, &mut years, &mut [], &mut []);
+                assert_eq!(counts.map(|counts| counts.years), Ok(2));
+                assert_eq!(years, [0, 41_040, 5]);
+                let mut out = [9; 10];
+                assert_eq!(calls::write_sheet(&years[..2], &[], &[], &mut out), Ok(10));
+                assert_eq!(out, bytes);
+                let beyond = [1, 0, 0x51, 0xA0, 0, 0, 0, 0];
+                assert_eq!(
+                    calls::read_sheet(&beyond, &mut years, &mut [], &mut []),
+                    Err(Reason::Year)
+                );
+                assert_eq!(
+                    calls::write_sheet(&[41_041], &[], &[], &mut out),
+                    Err(Reason::Year)
+                );
+                assert_eq!((years, out), ([0, 41_040, 5], bytes));
             }
 
             #[test]
@@ -314,6 +483,11 @@ macro_rules! paper_of {
                 let mut out = [0; 700];
                 let length = calls::print_year(11, &mut out).unwrap();
                 assert_eq!(std::str::from_utf8(&out[..length]), Ok(super::YEAR_11));
+                let length = calls::print_year(0, &mut out).unwrap();
+                assert_eq!(std::str::from_utf8(&out[..length]), Ok(super::YEAR_0));
+                assert_eq!(calls::print_year(41_041, &mut out), Err(Reason::Year));
+                let length = calls::print_day(0, &mut out).unwrap();
+                assert_eq!(&out[..length], b"DAY 0 0 11 - 1 1\n");
                 let length = calls::print_month_line(134, &mut out).unwrap();
                 assert_eq!(&out[..length], b"134 9 L 58 29 E\n");
                 let length = calls::print_month(134, &mut out).unwrap();
@@ -325,11 +499,9 @@ macro_rules! paper_of {
     };
 }
 
-/// The paper's listing of year 11.
+/// The listing of civil year 11: months 125 to 135 as the paper prints them, 136 and 137 worked out by hand.
 const YEAR_11: &str = "\
 YEAR 11 NAME 27 MONTHS 13
-123 11 - 33 29 E
-124 12 - 2 30 -
 125 1 - 32 29 -
 126 2 - 1 30 -
 127 3 - 31 29 -
@@ -341,6 +513,15 @@ YEAR 11 NAME 27 MONTHS 13
 133 9 - 28 30 -
 134 9 L 58 29 E
 135 10 - 27 30 -
+136 11 - 57 29 -
+137 12 - 26 30 -
+";
+
+/// The listing of civil year 0, which has months 11 and 12 alone.
+const YEAR_0: &str = "\
+YEAR 0 NAME 16 MONTHS 2
+0 11 - 1 29 -
+1 12 - 30 30 -
 ";
 
 paper_of!(capi, oesterwrok);

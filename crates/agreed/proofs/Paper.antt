@@ -5,24 +5,24 @@ use mathlib.Core.Path.{_≡_, refl, ap, sym, _∙_, subst}
 use mathlib.Core.Logic.{_↔_}
 use lib.Dec.{leb}
 use mathlib.Core.Bool.{Bool, true, false, false≢true}
-use Rattle.rule.specs.Counts.{CivilYearInRange, DayInRange, MonthInRange}
-use Rattle.rule.specs.Rule.{InMonth, termDay, yearTerm, midTermDay, InCivilYear, leap, marked}
+use Rattle.rule.specs.Counts.{SolsticeYearInRange, DayInRange, MonthInRange}
+use Rattle.rule.specs.Rule.{InMonth, termDay, yearTerm, midTermDay, InSolsticeYear, leap, monthNumber, marked, numberOf, solsticeYearOf, InCivilYear}
 use Rattle.rule.specs.Reasons.{is, within}
 use Rattle.rule.specs.Paper.{MidTerm, NoMidTerm, Numbered, IsMonth}
 use Rattle.rule.specs.declared.Month.{Month}
 use Rattle.rule.specs.declared.Month.the-variants.{Ordinary, Leap}
 use Rattle.rule.proofs.Answers.{within-true, at-most}
-use Rattle.rule.proofs.Months.{of-day, of-day-range, start-end}
+use Rattle.rule.proofs.Months.{start-end}
 use Rattle.rule.proofs.Terms.{year-mid-term}
 use Rattle.rule.proofs.Years.{of-month, of-month-range}
-use Rattle.rule.proofs.Leap.{holds-next, rises-ordinary, ordinary-year, leap-follows, after-namesake}
+use Rattle.rule.proofs.Leap.{holds-next, rises-ordinary, ordinary-year, leap-follows, after-namesake, number-at}
 use Rattle.rule.proofs.Paper as Rule
 use Rattle.dates.specs.declared.Date.{Date}
 use Rattle.dates.specs.declared.Dated.the-variants as Dated'
 use Rattle.dates.specs.declared.DayTold.the-variants as DayTold'
 use Rattle.dates.specs.Promises.{DateOfDay, DayOfDate}
 use Rattle.dates.specs.Paper.{IsDate, IsDayOf}
-use Rattle.dates.proofs.Named.{last-leap, month-in-range}
+use Rattle.dates.proofs.Named.{last-leap}
 use Rattle.dates.proofs.Paper as Dates
 use Rattle.facts.specs.Paper.{termBefore}
 use Rattle.facts.proofs.Given.{two-literally}
@@ -30,7 +30,7 @@ use Rattle.facts.proofs.Paper as Facts
 use Rattle.agreed.specs.Paper as Paper
 use Rattle.agreed.specs.Paper.{FallsIn, HoldsOne, MonthByTerms, DateByTerms, DayByTerms, DatesBy}
 
--- month n holds mid-term 2j of year y: it is ordinary, and of that year
+-- month n holds mid-term 2j of solstice year y: it is ordinary, and of that year
 module _ (y j n : ℕ) (l : 1 ≤ y) (b : j < 12) (h : InMonth n (termDay (yearTerm y (2 * j)))) where
   mid : InMonth n (midTermDay (12 * (y - 1) + j))
   mid = let e = year-mid-term y j (12 * (y - 1) + j) refl in (omega (arith, e, h), omega (arith, e, h))
@@ -38,21 +38,25 @@ module _ (y j n : ℕ) (l : 1 ≤ y) (b : j < 12) (h : InMonth n (termDay (yearT
   holding-ordinary : leap n ≡ false
   holding-ordinary = rises-ordinary n (omega (arith, holds-next n (12 * (y - 1) + j) mid))
 
-  holding-year : InCivilYear y n
+  holding-year : InSolsticeYear y n
   holding-year =
       let m = holds-next n (12 * (y - 1) + j) mid in
       ordinary-year y n l holding-ordinary (omega (arith, m)) (omega (arith, m))
 
--- a mid-term is one of a year's twelve
+-- and a solstice year in range has its months in range
+month-there : (y n : ℕ) → SolsticeYearInRange y → InSolsticeYear y n → MonthInRange n
+month-there y n r i = of-month-range n .1 (subst SolsticeYearInRange (sym (of-month y n .0 i)) r)
+
+-- a mid-term is one of a solstice year's twelve
 in-its-year : (t : ℕ) → MidTerm t → yearTerm (t / 24 + 1) (2 * (t % 24 / 2)) ≡ t
 in-its-year t e = omega arith
 
--- mid-term 2j of year y falls in month n: what was answered before W2 is its day, in range
+-- mid-term 2j of solstice year y falls in month n: what was answered before W2 is its day, in range
 module _ (y j n : ℕ) where
   abbrev There : Type 0
-  There = CivilYearInRange y × (j < 12) × InMonth n (termDay (yearTerm y (2 * j)))
+  There = SolsticeYearInRange y × (j < 12) × InMonth n (termDay (yearTerm y (2 * j)))
 
-  given : (d : ℕ) → (is d ≡ termBefore y (2 * j)) ↔ (CivilYearInRange y × (2 * j ≤ 23) × (termDay (yearTerm y (2 * j)) ≡ d))
+  given : (d : ℕ) → (is d ≡ termBefore y (2 * j)) ↔ (SolsticeYearInRange y × (2 * j ≤ 23) × (termDay (yearTerm y (2 * j)) ≡ d))
   unfolding termDay
   given d =
       two-literally (within 1 41040 y) (leb (2 * j) 23) 1 15 (omega arith) (termDay (yearTerm y (2 * j))) (within-true 1 41040 y) (at-most (2 * j) 23) _ d
@@ -71,10 +75,10 @@ module _ (y j n : ℕ) where
           record { day = termDay (yearTerm y (2 * j)); answered = sym (given _ .1 (r, omega (arith, b), refl)); on-its-days = on }
 
 -- an ordinary month
-ordinary-told : (y n k : ℕ) → (CivilYearInRange y × InCivilYear y n × Numbered n k) ↔ HoldsOne termBefore y n k
+ordinary-told : (y n k : ℕ) → (SolsticeYearInRange y × InSolsticeYear y n × Numbered n k) ↔ HoldsOne termBefore y n k
 ordinary-told y n k = (there, back)
   where
-    there : CivilYearInRange y × InCivilYear y n × Numbered n k → HoldsOne termBefore y n k
+    there : SolsticeYearInRange y × InSolsticeYear y n × Numbered n k → HoldsOne termBefore y n k
     there (r, i, a) =
         let own = holding-year (a .year) (a .j) n (a .year-from-1) (a .one-of-twelve) (a .holds) in
         let e : a .year ≡ y = sym (of-month (a .year) n .0 own) ∙ of-month y n .0 i in
@@ -84,7 +88,7 @@ ordinary-told y n k = (there, back)
           number = a .number;
         }
 
-    back : HoldsOne termBefore y n k → CivilYearInRange y × InCivilYear y n × Numbered n k
+    back : HoldsOne termBefore y n k → SolsticeYearInRange y × InSolsticeYear y n × Numbered n k
     back a =
         let f = falls y (a .j) n .0 (a .falls) in (
           f .0,
@@ -94,11 +98,11 @@ ordinary-told y n k = (there, back)
 
 -- a leap month: the month before it holds one, so that it is in the range, and so is every mid-term on its days
 module _ (y n k : ℕ) (p : 1 ≤ n) (a : HoldsOne termBefore y (n - 1) k) where
-  before : CivilYearInRange y × InCivilYear y (n - 1) × Numbered (n - 1) k
+  before : SolsticeYearInRange y × InSolsticeYear y (n - 1) × Numbered (n - 1) k
   before = ordinary-told y (n - 1) k .1 a
 
   not-last : n ≤ 507599
-  not-last = omega (arith, month-in-range y (n - 1) (before .0) (before .1), no)
+  not-last = omega (arith, month-there y (n - 1) (before .0) (before .1), no)
     where
       no : ¬ (n - 1 ≡ 507599)
       no e =
@@ -110,13 +114,13 @@ module _ (y n k : ℕ) (p : 1 ≤ n) (a : HoldsOne termBefore y (n - 1) k) where
   unfolding termDay
   none-falls none t d even on e =
       let day : termDay (yearTerm (t / 24 + 1) (2 * (t % 24 / 2))) ≡ d = ap termDay (in-its-year t even) ∙ e in
-      let range : CivilYearInRange (t / 24 + 1) = omega (arith, e, on, start-end (n + 1) (omega (arith, not-last))) in
+      let range : SolsticeYearInRange (t / 24 + 1) = omega (arith, e, on, start-end (n + 1) (omega (arith, not-last))) in
       none (t / 24 + 1) (t % 24 / 2) (falls (t / 24 + 1) (t % 24 / 2) n .1 (range, omega arith, (omega (arith, on, day), omega (arith, on, day))))
 
-leap-told : (y n k : ℕ) → (CivilYearInRange y × InCivilYear y n × IsMonth n (Leap k)) ↔ MonthByTerms termBefore y n (Leap k)
+leap-told : (y n k : ℕ) → (SolsticeYearInRange y × InSolsticeYear y n × IsMonth n (Leap k)) ↔ MonthByTerms termBefore y n (Leap k)
 leap-told y n k = (there, back)
   where
-    there : CivilYearInRange y × InCivilYear y n × IsMonth n (Leap k) → MonthByTerms termBefore y n (Leap k)
+    there : SolsticeYearInRange y × InSolsticeYear y n × IsMonth n (Leap k) → MonthByTerms termBefore y n (Leap k)
     there (r, i, m) =
         let same = after-namesake y n i (Rule.leap-without-mid-term n .1 (m .1)) in (
           m .0,
@@ -126,17 +130,41 @@ leap-told y n k = (there, back)
           ordinary-told y (n - 1) k .0 (r, same .same-year, m .2),
         )
 
-    back : MonthByTerms termBefore y n (Leap k) → CivilYearInRange y × InCivilYear y n × IsMonth n (Leap k)
+    back : MonthByTerms termBefore y n (Leap k) → SolsticeYearInRange y × InSolsticeYear y n × IsMonth n (Leap k)
     back (p, none, a) =
         let b = before y n k p a in
         let bare = none-falls y n k p a none in
         let e : n - 1 + 1 ≡ n = omega (arith, p) in
         let l : leap (n - 1 + 1) ≡ true = ap leap e ∙ Rule.leap-without-mid-term n .1 bare in
-        (b .0, subst (InCivilYear y) e (leap-follows y (n - 1) (b .1) l), (p, bare, b .2))
+        (b .0, subst (InSolsticeYear y) e (leap-follows y (n - 1) (b .1) l), (p, bare, b .2))
 
-month-told : (y : ℕ) (m : Month) (n : ℕ) → (CivilYearInRange y × InCivilYear y n × IsMonth n m) ↔ MonthByTerms termBefore y n m
+month-told : (y : ℕ) (m : Month) (n : ℕ) → (SolsticeYearInRange y × InSolsticeYear y n × IsMonth n m) ↔ MonthByTerms termBefore y n m
 month-told y (Ordinary k) n = ordinary-told y n k
 month-told y (Leap k) n = leap-told y n k
+
+-- a month of a civil year, by the terms of its solstice year
+civil-told : (y : ℕ) (m : Month) (n : ℕ) → (InCivilYear y n × IsMonth n m) ↔ MonthByTerms termBefore (solsticeYearOf y (numberOf m)) n m
+civil-told y m n = (there, back)
+  where
+    s : ℕ
+    s = solsticeYearOf y (numberOf m)
+
+    number : IsMonth n m → monthNumber n ≡ numberOf m
+    number a = sym (number-at n) ∙ ap numberOf (Rule.month-is n m a)
+
+    there : InCivilYear y n × IsMonth n m → MonthByTerms termBefore (solsticeYearOf y (numberOf m)) n m
+    there (i, a) =
+        let own : InSolsticeYear s n = subst (λ k. InSolsticeYear (solsticeYearOf y k) n) (number a) (i .1) in
+        month-told s m n .0 (subst SolsticeYearInRange (of-month s n .0 own) (of-month-range n .0 (i .0)), own, a)
+
+    back : MonthByTerms termBefore (solsticeYearOf y (numberOf m)) n m → InCivilYear y n × IsMonth n m
+    back b =
+        let (r, own, a) = month-told s m n .1 b in
+        ((month-there s n r own, subst (λ k. InSolsticeYear (solsticeYearOf y k) n) (sym (number a)) own), a)
+
+named-told : (y k : ℕ) (l : Bool) (n : ℕ) → (InCivilYear y n × IsMonth n (marked l k)) ↔ MonthByTerms termBefore (solsticeYearOf y k) n (marked l k)
+named-told y k true n = civil-told y (Leap k) n
+named-told y k false n = civil-told y (Ordinary k) n
 
 -- the date of a day
 date-told : (d : ℕ) (r : Date) → DateOfDay d (Dated'.Is r) ↔ DateByTerms termBefore d r
@@ -144,12 +172,10 @@ date-told d r = (λ p. there (Dates.date-of-day d r .0 p), λ a. Dates.date-of-d
   where
     there : DayInRange d × IsDate d r → DateByTerms termBefore d r
     there (h, i) =
-        let month : MonthInRange (i .n) = omega (arith, of-day (i .n) d .0 (i .on-its-days), of-day-range d .0 h) in
-        let year : CivilYearInRange (r .year) = subst CivilYearInRange (of-month (r .year) (i .n) .0 (i .of-its-year)) (of-month-range (i .n) .0 month) in
         record {
           n = i .n;
           on-its-days = i .on-its-days;
-          its-month = month-told (r .year) (r .month) (i .n) .0 (year, i .of-its-year, i .its-month);
+          its-month = civil-told (r .year) (r .month) (i .n) .0 (i .of-its-year, i .its-month);
           its-day = i .its-day;
           its-length = i .its-length;
           its-day-name = i .its-day-name;
@@ -158,8 +184,8 @@ date-told d r = (λ p. there (Dates.date-of-day d r .0 p), λ a. Dates.date-of-d
 
     back : DateByTerms termBefore d r → DayInRange d × IsDate d r
     back a =
-        let (year, in-year, month) = month-told (r .year) (r .month) (a .n) .1 (a .its-month) in
-        let end = start-end (a .n + 1) (omega (arith, month-in-range (r .year) (a .n) year in-year)) in (
+        let (in-year, month) = civil-told (r .year) (r .month) (a .n) .1 (a .its-month) in
+        let end = start-end (a .n + 1) (omega (arith, in-year .0)) in (
           omega (arith, end, a .on-its-days),
           record {
             n = a .n;
@@ -178,18 +204,12 @@ day-told : (y k : ℕ) (l : Bool) (m d : ℕ) → DayOfDate y k l m (DayTold'.Is
 day-told y k l m d = (λ p. there (Dates.day-of-date y k l m d .0 p), λ a. Dates.day-of-date y k l m d .1 (back a))
   where
     there : IsDayOf y k l m d → DayByTerms termBefore y k l m d
-    there i =
-        record {
-          n = i .n;
-          the-month = month-told y (marked l k) (i .n) .0 (i .year, i .of-the-year, i .the-month);
-          the-day = i .the-day;
-          counted = i .counted;
-        }
+    there i = record { n = i .n; the-month = named-told y k l (i .n) .0 (i .of-the-year, i .the-month); the-day = i .the-day; counted = i .counted }
 
     back : DayByTerms termBefore y k l m d → IsDayOf y k l m d
     back a =
-        let b = month-told y (marked l k) (a .n) .1 (a .the-month) in
-        record { year = b .0; n = a .n; of-the-year = b .1; the-month = b .2; the-day = a .the-day; counted = a .counted }
+        let b = named-told y k l (a .n) .1 (a .the-month) in
+        record { n = a .n; of-the-year = b .0; the-month = b .1; the-day = a .the-day; counted = a .counted }
 
 pub dates-as-before : Paper.Dates-as-before
 dates-as-before =
@@ -198,17 +218,17 @@ dates-as-before =
       days = day-told;
       four = λ y k l m.
           let r = Dates.reasons-of-a-date y k l m .four in
-          let by = month-told y (Leap k) in (
+          let by = named-told y k true in (
             λ p.
-                let (a, (b, (c, (e, none)))) = r .0 p in
-                (a, (b, (c, (e, λ w. none (w .0, by (w .0) .1 (w .1) .1, by (w .0) .1 (w .1) .2))))),
-            λ q. let (a, (b, (c, (e, none)))) = q in r .1 (a, (b, (c, (e, λ w. none (w .0, by (w .0) .0 (a, w .1, w .2)))))),
+                let (a, (b, (c, (t, (e, none))))) = r .0 p in
+                (a, (b, (c, (t, (e, λ w. none (w .0, by (w .0) .1 (w .1) .0, by (w .0) .1 (w .1) .1)))))),
+            λ q. let (a, (b, (c, (t, (e, none))))) = q in r .1 (a, (b, (c, (t, (e, λ w. none (w .0, by (w .0) .0 (w .1, w .2))))))),
           );
       five = λ y k l m.
           let r = Dates.reasons-of-a-date y k l m .five in
-          let by = month-told y (marked l k) in (
-            λ p. let (a, (b, w)) = r .0 p in (b, (w .0, by (w .0) .0 (a, w .1, w .2), w .3, w .4)),
-            λ q. let (b, w) = q in let g = by (w .0) .1 (w .1) in r .1 (g .0, (b, (w .0, g .1, g .2, w .2, w .3))),
+          let by = named-told y k l in (
+            λ p. let w = r .0 p in (w .0, by (w .0) .0 (w .1, w .2), w .3, w .4),
+            λ w. let g = by (w .0) .1 (w .1) in r .1 (w .0, g .0, g .1, w .2, w .3),
           );
     }
 

@@ -6,7 +6,7 @@ use mathlib.Core.Logic.{_↔_}
 use mathlib.Core.Bool.{Bool, true}
 use lib.ListN.{getD}
 use Rattle.rule.specs.Counts.{CivilYearInRange, dayName, yearName}
-use Rattle.rule.specs.Rule.{monthStart, monthLength, InMonth, marked}
+use Rattle.rule.specs.Rule.{monthStart, monthLength, InMonth, marked, numberOf, solsticeYearOf}
 use Rattle.rule.specs.Reasons.{Answer, is, andThen}
 use Rattle.rule.specs.Paper.{numbersInOrder}
 use Rattle.rule.specs.declared.Month.{Month}
@@ -17,6 +17,7 @@ use Rattle.dates.specs.declared.Dated.the-variants as Dated'
 use Rattle.dates.specs.declared.DayTold.the-variants as DayTold'
 use Rattle.dates.specs.Dates.{NumberInRange, DayOfMonthInRange}
 use Rattle.dates.specs.Promises.{DateOfDay, DayOfDate}
+use Rattle.dates.specs.Paper.{NotInYear}
 use Rattle.facts.specs.declared.TermTold.{TermTold}
 use Rattle.facts.specs.Paper.{termBefore}
 use Rattle.facts.specs.Promises.{saidTerm, TermOfYear}
@@ -24,29 +25,29 @@ use Rattle.facts.specs.Promises.{saidTerm, TermOfYear}
 -- W2: "Everything that asks for a term now receives both and must be shown unchanged in what it answers." Of a term's own day, and of its
 -- refusals, facts says it (Term-as-before). Here it is said of dates. `term` is what is answered as the day of a year's term.
 
--- mid-term 2j of year y is answered with one of the days of month n
+-- mid-term 2j of solstice year y is answered with one of the days of month n
 pub record FallsIn (term : ℕ → ℕ → Answer ℕ) (y j n : ℕ) : Type 0 where
   pub day : ℕ
   pub answered : term y (2 * j) ≡ is day
   pub on-its-days : InMonth n day
 
--- "A month holding mid-term k has number 11 for k = 0, 12 for k = 2 ..": month n holds one of year y, and k is the number that goes with it
+-- "A month holding mid-term k has number 11 for k = 0, 12 for k = 2 ..": month n holds one of solstice year y, and k is the number that goes with it
 pub record HoldsOne (term : ℕ → ℕ → Answer ℕ) (y n k : ℕ) : Type 0 where
   pub j : ℕ
   pub falls : FallsIn term y j n
   pub number : k ≡ getD numbersInOrder j 0
 
--- month n, of year y, by its mid-terms: ordinary, holding one; or leap, "when no mid-term falls on any of its days", with the number of the
+-- month n, of solstice year y, by its mid-terms: ordinary, holding one; or leap, "when no mid-term falls on any of its days", with the number of the
 -- month before it
 abbrev pub MonthByTerms : (ℕ → ℕ → Answer ℕ) → ℕ → ℕ → Month → Type 0
 MonthByTerms term y n (Ordinary k) = HoldsOne term y n k
 MonthByTerms term y n (Leap k) = (1 ≤ n) × ((z j : ℕ) → FallsIn term z j n → ⊥) × HoldsOne term y (n - 1) k
 
--- the date of a day, by the mid-terms
+-- the date of a day, by the mid-terms; its year is the civil one, and the terms are those of its month's solstice year (W4)
 pub record DateByTerms (term : ℕ → ℕ → Answer ℕ) (d : ℕ) (r : Date) : Type 0 where
   pub n : ℕ
   pub on-its-days : InMonth n d
-  pub its-month : MonthByTerms term (r .year) n (r .month)
+  pub its-month : MonthByTerms term (solsticeYearOf (r .year) (numberOf (r .month))) n (r .month)
   pub its-day : monthStart n + r .«day_of_month» ≡ d + 1
   pub its-length : monthStart n + r .«month_length» ≡ monthStart (n + 1)
   pub its-day-name : r .«day_name» ≡ dayName d
@@ -55,11 +56,11 @@ pub record DateByTerms (term : ℕ → ℕ → Answer ℕ) (d : ℕ) (r : Date) 
 -- the day of a date, by the mid-terms: of the month of that year, number and mark there is a day m
 pub record DayByTerms (term : ℕ → ℕ → Answer ℕ) (y k : ℕ) (l : Bool) (m d : ℕ) : Type 0 where
   pub n : ℕ
-  pub the-month : MonthByTerms term y n (marked l k)
+  pub the-month : MonthByTerms term (solsticeYearOf y k) n (marked l k)
   pub the-day : (1 ≤ m) × (m ≤ monthLength n)
   pub counted : monthStart n + m ≡ d + 1
 
--- dates both ways are those, and so are the two refusals that a month decides, 4 and 5 (in 1, 2, 3 and 6 no term is named: dates,
+-- dates both ways are those, and so are the two refusals that a month decides, 4 and 5 (in 1, 2, 3, 16 and 6 no term is named: dates,
 -- Reasons-of-a-date and Reasons-of-a-day)
 pub record DatesBy (term : ℕ → ℕ → Answer ℕ) : Type 0 where
   pub dates : (d : ℕ) (r : Date) → DateOfDay d (Dated'.Is r) ↔ DateByTerms term d r
@@ -67,11 +68,13 @@ pub record DatesBy (term : ℕ → ℕ → Answer ℕ) : Type 0 where
   pub four :
       (y k : ℕ) (l : Bool) (m : ℕ) →
       DayOfDate y k l m (DayTold'.Refused NoSuchLeapMonth)
-      ↔ (CivilYearInRange y × (NumberInRange k × (DayOfMonthInRange m × ((l ≡ true) × (((n : ℕ) × MonthByTerms term y n (Leap k)) → ⊥)))))
+      ↔ (CivilYearInRange y
+      × (NumberInRange k
+      × (DayOfMonthInRange m × ((NotInYear y k → ⊥) × ((l ≡ true) × (((n : ℕ) × MonthByTerms term (solsticeYearOf y k) n (Leap k)) → ⊥))))))
   pub five :
       (y k : ℕ) (l : Bool) (m : ℕ) →
       DayOfDate y k l m (DayTold'.Refused NoThirtiethDay)
-      ↔ (NumberInRange k × ((n : ℕ) × MonthByTerms term y n (marked l k) × (monthLength n ≡ 29) × (m ≡ 30)))
+      ↔ ((n : ℕ) × MonthByTerms term (solsticeYearOf y k) n (marked l k) × (monthLength n ≡ 29) × (m ≡ 30))
 
 -- dates are as before in all that a term decides: by what was answered as a term's day before W2 (starts, lengths and names are rule's own
 -- definitions, which ask for no term)

@@ -14,7 +14,7 @@ enum Test {
     Morning(u32),
 }
 
-// The first day of month 1 of a year, nought where there is none.
+// The first day of a civil year, which is that of its month 1; nought where there is none.
 fn new_year(year: u32) -> u32 {
     match dates::day_of_date(year, 1, false, 1) {
         DayTold::Is(day) => day,
@@ -47,7 +47,8 @@ fn is_big_pair(before: u32, n: u32) -> bool {
     pair == between
 }
 
-// 004's second way to a first day: 343,335 for each elapsed year less 1,461 for each part of the leap remainder, in parts of 940.
+// 004's second way to a solstice year's first day: 343,335 for each elapsed year less 1,461 for each part of the leap remainder, in
+// parts of 940.
 fn is_first_day(year: u32) -> bool {
     let SolsticeYearTold::Is(p) = facts::solstice_year(year) else {
         return false;

@@ -11,7 +11,7 @@ use dates::Dated;
 use dates::DayTold;
 use planets::ConjunctionTold;
 
-// The line of a date, with the day of its own year, month, mark and day of month.
+// The line of a date, with the day of its own civil year, month, mark and day of month.
 fn day_line(d: Date) {
     let m = d.month;
     let number = rule::number_of(m) as u32;
@@ -50,15 +50,17 @@ fn conjunction(p: u32, k: u64) {
     }
 }
 
-// A planet that there is not is told before a count outside; with 1,341,063,005,370 Saturn's product has more than 64 bits for the
-// first time.
+// A date's own reasons, 16 in the two civil years that are not whole among them, come before a move's end. A planet that there is not
+// is told before a count outside; with 1,341,063,005,370 Saturn's product has more than 64 bits for the first time.
 fn large_numbers() {
     show::text(
         b"# The largest and least numbers of 64 bits, which the desk cuts down before it asks\n",
     );
     moved(1, 13, false, 1, 9223372036854775807);
+    moved(0, 10, true, 1, -9223372036854775807 - 1);
+    moved(41040, 11, false, 1, 9223372036854775807);
     moved(11, 8, true, 1, -9223372036854775807 - 1);
-    moved(1, 11, false, 1, 9223372036854775807);
+    moved(0, 11, false, 1, 9223372036854775807);
     moved(41040, 10, true, 30, -9223372036854775807 - 1);
     conjunction(0, 18446744073709551615);
     conjunction(6, 18446744073709551615);

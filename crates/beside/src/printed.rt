@@ -46,9 +46,9 @@ pub fn all() {
     show::text(
         b"# Printed lines into a part of thirty sevens: what does not exist, then a buffer too short, just enough, and more\n",
     );
-    print(Line::Year, 0, 0);
-    print(Line::Year, 41041, 30);
+    print(Line::Year, 41041, 0);
     print(Line::Year, 70000, 30);
+    print(Line::Year, 0, 30);
     print(Line::Year, 11, 30);
     print(Line::Listed, 507600, 0);
     print(Line::Listed, 507599, 0);

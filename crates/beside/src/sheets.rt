@@ -60,6 +60,7 @@ fn cut_and_known() {
     read(b"\x00\x00\x00\x00\x01\x00\x00\x00\x00");
 }
 
+// A year of a sheet is a civil year: 0 and 41,040 are the first and the last.
 fn edges() {
     show::text(b"# A count and an item of each kind, just outside and just inside\n");
     read(b"\xe8\x03");
@@ -67,6 +68,8 @@ fn edges() {
     read(b"\x01\x00\x00\x00\x00\x00\x00\x00");
     read(b"\x01\x00\x50\xa0\x00\x00\x00\x00");
     read(b"\x01\x00\x51\xa0\x00\x00\x00\x00");
+    read(b"\x02\x00\x00\x00\x50\xa0\x00\x00\x00\x00");
+    read(b"\x02\x00\x00\x00\x51\xa0\x00\x00\x00\x00");
     read(b"\x00\x00\x01\x00\xcf\xbe\x07\x00\x00\x00");
     read(b"\x00\x00\x01\x00\xd0\xbe\x07\x00\x00\x00");
     read(b"\x00\x00\x00\x00\x01\x00\x23\xba\xe4\x00");
@@ -83,7 +86,7 @@ pub fn read_ones() {
     read(b"\x02\x00\x0b\x00\x0c\x00\x00\x00\x00\x00");
     read(b"\x03\x00\x0b\x00\x0c\x00\x0d\x00\x00\x00\x00\x00");
     read(b"\x03\x00\x0b\x00\x0c\x00\x0d\x00\x00\x00\x00\x00\x00");
-    read(b"\x03\x00\x0b\x00\x00\x00\x0d\x00\x00\x00\x00\x00\x00");
+    read(b"\x03\x00\x0b\x00\x51\xa0\x0d\x00\x00\x00\x00\x00\x00");
     read(b"\x00\x00\x00\x00\xe9\x03\x00");
 }
 
@@ -91,7 +94,9 @@ pub fn written_ones() {
     show::text(b"# Lists written into a buffer of twenty sevens\n");
     write(&[11u16], &[134u32], &[3957u32]);
     write(&[0u16], &[0u32; 0], &[0u32; 0]);
+    write(&[0u16, 41040], &[0u32; 0], &[0u32; 0]);
     write(&[41041u16], &[507600u32], &[0u32; 0]);
+    write(&[0u16, 41041], &[0u32; 0], &[0u32; 0]);
     write(&[41040u16], &[507600u32], &[14989860u32]);
     write(&[41040u16], &[507599u32], &[14989860u32]);
     write(&[41040u16], &[507599u32], &[14989859u32]);

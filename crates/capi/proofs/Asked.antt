@@ -20,7 +20,7 @@ use Rattle.penned.specs.Lines.{yearBlock, monthLined, monthItem, dayItem}
 use Rattle.penned.specs.Promises.{yearBlockAt, monthLineAt, monthItemAt, dayItemAt, Printed}
 use Rattle.capped.specs.Capped.{capped, cappedReading}
 use Rattle.capped.specs.Paper.{AlikeSearch, whole, both}
-use Rattle.capped.proofs.Paper.{behind-a-test, at-most, from-one, capped-alike, capped-search}
+use Rattle.capped.proofs.Paper.{behind-a-test, at-most, capped-alike, capped-search}
 use Rattle.offered.specs.declared.CFound.{CFound}
 use Rattle.offered.specs.declared.CLength.{CLength}
 use Rattle.offered.specs.Flat.{flatFound, flatLength}
@@ -85,7 +85,7 @@ printed-asked f alike {x = x} {o} e p t =
 -- what is printed of a capped number
 pub year-printed : (n : ℕ) (y : ℕ) → yearBlockAt (capped y) n ≡ yearBlockAt y n
 unfolding yearBlockAt
-year-printed n y = behind-a-test (List ℕ) _ (from-one 41040 (omega arith)) 1 (λ i. intoRoom n (yearBlock i)) y
+year-printed n y = behind-a-test (List ℕ) _ (at-most 41040 (omega arith)) 1 (λ i. intoRoom n (yearBlock i)) y
 
 pub line-printed : (n : ℕ) (m : ℕ) → monthLineAt (capped m) n ≡ monthLineAt m n
 unfolding monthLineAt

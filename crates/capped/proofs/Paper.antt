@@ -10,7 +10,7 @@ use borrow.Author.Tests.{lt-leb}
 use Rattle.rule.specs.Reasons.{Answer, is, refused, refused-with, guard, within, andThen}
 use Rattle.rule.proofs.Answers.{within-true}
 use Rattle.dates.specs.declared.Date.{Date}
-use Rattle.dates.specs.Dates.{dateAt, dateOf, dayOfDate, dayOfNamed}
+use Rattle.dates.specs.Dates.{dateAt, dateOf, dayOfDate, dayOfNamed, numberThere, midTermOf}
 use Rattle.moves.specs.Moves.{landed, moved, stepped}
 use Rattle.rule.specs.declared.Quarter.{Quarter}
 use Rattle.rule.specs.declared.Term.{Term}
@@ -69,7 +69,7 @@ and-false false b e = refl
 pub at-most : (m : ℕ) → m < 4294967295 → Settled (λ n. leb n m)
 at-most m s = none-behind (λ n. leb n m) (λ n h. lt-leb n m (omega arith))
 
-pub from-one : (m : ℕ) → m < 4294967295 → Settled (within 1 m)
+from-one : (m : ℕ) → m < 4294967295 → Settled (within 1 m)
 from-one m s = none-behind (within 1 m) (λ n h. and-false (leb 1 n) (leb n m) (lt-leb n m (omega arith)))
 
 -- two tests, one behind the other
@@ -83,16 +83,19 @@ two A b d s t k j f n m =
 month-settled : Settled (λ n. leb n 507599)
 month-settled = at-most 507599 (omega arith)
 
-year-settled : Settled (within 1 41040)
-year-settled = from-one 41040 (omega arith)
+year-settled : Settled (λ n. leb n 41040)
+year-settled = at-most 41040 (omega arith)
+
+solstice-year-settled : Settled (within 1 41040)
+solstice-year-settled = from-one 41040 (omega arith)
 
 day-capped : (y k : ℕ) (l : Bool) (m : ℕ) → dayOfDate (capped y) (capped k) l (capped m) ≡ dayOfDate y k l m
 unfolding dayOfDate
 day-capped y k l m =
-    two ℕ (within 1 41040) (within 1 12) year-settled (from-one 12 (omega arith)) 1 2
-    (λ i j. guard (within 1 30 (capped m)) 3 (dayOfNamed i j l (capped m))) y k
-    ∙ ap (λ (a : Answer ℕ). guard (within 1 41040 y) 1 (guard (within 1 12 k) 2 a))
-    (behind-a-test ℕ (within 1 30) (from-one 30 (omega arith)) 3 (dayOfNamed y k l) m)
+    two ℕ (λ n. leb n 41040) (within 1 12) year-settled (from-one 12 (omega arith)) 1 2
+    (λ i j. guard (within 1 30 (capped m)) 3 (guard (numberThere i j) 16 (dayOfNamed (midTermOf i j) l (capped m)))) y k
+    ∙ ap (λ (a : Answer ℕ). guard (leb y 41040) 1 (guard (within 1 12 k) 2 a))
+    (behind-a-test ℕ (within 1 30) (from-one 30 (omega arith)) 3 (λ n. guard (numberThere y k) 16 (dayOfNamed (midTermOf y k) l n)) m)
 
 -- a move so far lands nowhere, from any day in range
 far-lands : (d : ℕ) (n : ℤ) → d ≤ 14989859 → landed (pos d +ℤ cappedMove n) ≡ landed (pos d +ℤ n)
@@ -174,11 +177,11 @@ capped-alike =
       day = day-capped;
       move = move-capped;
       far = far-capped;
-      solstice = λ y. behind-a-test SolsticeYear (within 1 41040) year-settled 1 (λ n. is (solsticeYear n)) y;
-      year = λ y. behind-a-test YearFacts (within 1 41040) year-settled 1 (λ n. is (yearFacts n)) y;
+      solstice = λ y. behind-a-test SolsticeYear (within 1 41040) solstice-year-settled 1 (λ n. is (solsticeYear n)) y;
+      year = λ y. behind-a-test YearFacts (λ i. leb i 41040) year-settled 1 (λ n. is (yearFacts n)) y;
       month = λ n. behind-a-test MonthFacts (λ i. leb i 507599) month-settled 7 (λ i. is (monthFacts i)) n;
       quarter = λ n q. two Quarter (λ i. leb i 507599) (λ i. leb i 3) month-settled (at-most 3 (omega arith)) 7 15 (λ i j. is (quarterOf i j)) n q;
-      term = λ y k. two Term (within 1 41040) (λ i. leb i 23) year-settled (at-most 23 (omega arith)) 1 15 (λ i j. is (termOf i j)) y k;
+      term = λ y k. two Term (within 1 41040) (λ i. leb i 23) solstice-year-settled (at-most 23 (omega arith)) 1 15 (λ i j. is (termOf i j)) y k;
       planet = planet-capped;
       conjunction = λ p k. planet-capped p (capped k) ∙ count-capped p k;
       next = next-capped;

@@ -6,7 +6,7 @@ use mathlib.Core.Logic.{_↔_, _⊎_, inl, inr}
 use mathlib.Core.Bool.{Bool, true, false, _&&_}
 use lib.Dec.{leb, ltb}
 use borrow.Author.Tests.{le-leb, lt-leb, ltb-true, lt-ltb}
-use Rattle.rule.specs.Counts.{CivilYearInRange, DayInRange, MonthInRange, dayName, yearName}
+use Rattle.rule.specs.Counts.{DayInRange, MonthInRange, dayName, yearName}
 use Rattle.rule.specs.Rule.{monthStart, smallRemainder, monthLength, InMonth, monthOfDay, midTermDay, civilYearOfMonth, midTermNumber, marked, monthAt}
 use Rattle.rule.specs.Reasons.{is, refused, within}
 use Rattle.rule.specs.declared.Month.{Month}
@@ -14,8 +14,8 @@ use Rattle.rule.proofs.Months.{of-day, of-day-low, of-day-high, of-day-range, l
 use Rattle.rule.proofs.Last.{year-by-last, number-by-last, leap-by-last, ordinary-after, leap-after}
 use Rattle.rule.proofs.Pairs.{lt-or-le}
 use Rattle.rule.proofs.Answers.{stops, passes, both-true, fails}
-use Rattle.dates.specs.Dates.{dateIn, dateOf, dateAt, dayInMonth, dayOfNamed, dayOfDate}
-use Rattle.dates.proofs.Named.{midOf, named-of, named-in-range}
+use Rattle.dates.specs.Dates.{dateIn, dateOf, dateAt, numberThere, midTermOf, namedMonth, dayInMonth, dayOfNamed, dayOfDate}
+use Rattle.dates.proofs.Named.{named-range}
 
 -- a day that stands in month n: p of the month's l days are before it
 module _ (d n p l : ℕ) (i : n ≡ monthOfDay d) (a : monthStart n + p ≡ d) (b : l ≡ monthLength n) where
@@ -43,7 +43,7 @@ module _ (d n p l : ℕ) (i : n ≡ monthOfDay d) (a : monthStart n + p ≡ d) (
     start : d - p ≡ monthStart n
     start = omega arith
 
-    its-year : {y : ℕ} → y ≡ m / 12 + 1 → y ≡ civilYearOfMonth n
+    its-year : {y : ℕ} → y ≡ (m + 10) / 12 → y ≡ civilYearOfMonth n
     its-year h = h ∙ year-by-last n m low′ high′
 
     its-month : {t k : ℕ} → t ≡ midTermDay m → k ≡ midTermNumber m → marked (ltb t (d - p)) k ≡ monthAt n
@@ -54,7 +54,7 @@ module _ (d n p l : ℕ) (i : n ≡ monthOfDay d) (a : monthStart n + p ≡ d) (
     day-of-month = omega arith
 
     pub made : {y t k dn yn : ℕ} {mo : Month} →
-        y ≡ m / 12 + 1 → t ≡ midTermDay m → k ≡ midTermNumber m → mo ≡ marked (ltb t (d - p)) k → dn ≡ dayName d → yn ≡ yearName y →
+        y ≡ (m + 10) / 12 → t ≡ midTermDay m → k ≡ midTermNumber m → mo ≡ marked (ltb t (d - p)) k → dn ≡ dayName d → yn ≡ yearName y →
         record { month = mo; year = y; «day_of_month» = p + 1; «month_length» = l; «day_name» = dn; «year_name» = yn } ≡ dateOf d
     unfolding dateOf dateIn
     made f g h j k o = cc (i, b, day-of-month, its-year f, j ∙ its-month g h, k, o)
@@ -95,43 +95,49 @@ unfolding dateAt
 a-day d h = passes (leb d 14989859) 6 (is (dateOf d)) (le-leb d 14989859 h)
 
 -- which month is asked for, and that there is none; m is the mid-term of the number
-module _ (y k m q : ℕ) (e : m ≡ midOf y k) where
+module _ (m q : ℕ) where
   abbrev n : ℕ
   n = monthOfDay (midTermDay m)
 
   holds : InMonth n (midTermDay m)
   holds = (of-day-low (midTermDay m), of-day-high (midTermDay m))
 
-  pub ordinary-asked : {l : Bool} → l ≡ false → dayInMonth n q ≡ dayOfNamed y k l q
-  unfolding dayOfNamed
-  ordinary-asked f = rw (f, named-of y k m e)
+  pub ordinary-asked : {l : Bool} → l ≡ false → dayInMonth n q ≡ dayOfNamed m l q
+  unfolding dayOfNamed namedMonth
+  ordinary-asked f = rw (f)
 
-  pub no-leap : {l : Bool} → l ≡ true → midTermDay (m + 1) < monthStart (n + 2) → refused 4 ≡ dayOfNamed y k l q
-  unfolding dayOfNamed
-  no-leap f h = rw (f, ← named-of y k m e, ordinary-after n m holds h)
+  pub no-leap : {l : Bool} → l ≡ true → midTermDay (m + 1) < monthStart (n + 2) → refused 4 ≡ dayOfNamed m l q
+  unfolding dayOfNamed namedMonth
+  no-leap f h = rw (f, ordinary-after n m holds h)
 
-  pub leap-asked : {l : Bool} → l ≡ true → monthStart (n + 2) ≤ midTermDay (m + 1) → dayInMonth (n + 1) q ≡ dayOfNamed y k l q
-  unfolding dayOfNamed
-  leap-asked f h = rw (f, ← named-of y k m e, leap-after n m holds h)
+  pub leap-asked : {l : Bool} → l ≡ true → monthStart (n + 2) ≤ midTermDay (m + 1) → dayInMonth (n + 1) q ≡ dayOfNamed m l q
+  unfolding dayOfNamed namedMonth
+  leap-asked f h = rw (f, leap-after n m holds h)
 
   -- the month after the ordinary one ends in the range
-  pub named-end : CivilYearInRange y → monthStart (n + 2) ≤ 14989860
-  named-end r = start-end (n + 2) (omega (arith, named-of y k m e, named-in-range y k r))
+  pub named-end : m < 492480 → monthStart (n + 2) ≤ 14989860
+  unfolding namedMonth
+  named-end h = start-end (n + 2) (omega (arith, named-range m h))
 
 -- the refusals of a date, in order, from the tests
-module _ (y k : ℕ) (l : Bool) (m : ℕ) where
-  pub no-year : within 1 41040 y ≡ false → dayOfDate y k l m ≡ refused 1
+module _ (y k : ℕ) (l : Bool) (q : ℕ) where
+  pub no-year : 41040 < y → dayOfDate y k l q ≡ refused 1
   unfolding dayOfDate
-  no-year h = rw (h)
+  no-year h = rw (lt-leb y 41040 h)
 
-  pub no-number : within 1 41040 y ≡ true → within 1 12 k ≡ false → dayOfDate y k l m ≡ refused 2
-  unfolding dayOfDate
-  no-number a h = rw (a, h)
+  module _ (a : y ≤ 41040) where
+    pub no-number : within 1 12 k ≡ false → dayOfDate y k l q ≡ refused 2
+    unfolding dayOfDate
+    no-number h = rw (le-leb y 41040 a, h)
 
-  pub no-day-of-month : within 1 41040 y ≡ true → within 1 12 k ≡ true → within 1 30 m ≡ false → dayOfDate y k l m ≡ refused 3
-  unfolding dayOfDate
-  no-day-of-month a b h = rw (a, b, h)
+    pub no-day-of-month : within 1 12 k ≡ true → within 1 30 q ≡ false → dayOfDate y k l q ≡ refused 3
+    unfolding dayOfDate
+    no-day-of-month b h = rw (le-leb y 41040 a, b, h)
 
-  pub in-ranges : within 1 41040 y ≡ true → within 1 12 k ≡ true → within 1 30 m ≡ true → dayOfDate y k l m ≡ dayOfNamed y k l m
-  unfolding dayOfDate
-  in-ranges a b h = rw (a, b, h)
+    pub not-there : within 1 12 k ≡ true → within 1 30 q ≡ true → numberThere y k ≡ false → dayOfDate y k l q ≡ refused 16
+    unfolding dayOfDate
+    not-there b c h = rw (le-leb y 41040 a, b, c, h)
+
+    pub in-ranges : within 1 12 k ≡ true → within 1 30 q ≡ true → numberThere y k ≡ true → dayOfDate y k l q ≡ dayOfNamed (midTermOf y k) l q
+    unfolding dayOfDate
+    in-ranges b c h = rw (le-leb y 41040 a, b, c, h)

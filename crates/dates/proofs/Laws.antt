@@ -1,45 +1,49 @@
 -- Laws of the two definitions, `dateOf` and `dayOfDate`, over which the statements are proved. Assumes nothing.
-use Prim.Native.Nat.{ℕ, _+_, _-_, _≤_, _<_}
+use Prim.Native.Nat.{ℕ, _+_, _-_, _*_, _≤_, _<_}
 use native.Mathlib.Omega.{arith}
 use mathlib.Core.Path.{_≡_, refl, ap, sym, _∙_, subst}
-use mathlib.Core.Logic.{_↔_, Iff·trans}
+use mathlib.Core.Logic.{_↔_, Iff·trans, _⊎_, inl, inr, ⊎-elim}
 use mathlib.Core.Bool.{Bool, true, false}
 use lib.Dec.{leb}
-use borrow.Author.Tests.{leb-true, leb-false, le-leb, lt-leb}
+use borrow.Author.Tests.{leb-false, lt-leb}
 use Rattle.rule.specs.Counts.{CivilYearInRange, DayInRange, MonthInRange, yearName}
 use Rattle.rule.specs.Rule.{
   monthStart,
   monthLength,
   InMonth,
   monthOfDay,
-  InCivilYear,
-  civilYearOfMonth,
   leap,
   monthNumber,
   marked,
   monthAt,
   numberOf,
   leapMark,
+  civilYearOfMonth,
+  InCivilYear,
 }
 use Rattle.rule.specs.Reasons.{Answer, is, refused, within, guard}
 use Rattle.rule.specs.Paper.{IsMonth}
 use Rattle.rule.specs.declared.Month.the-variants.{Leap}
 use Rattle.rule.proofs.Months
-use Rattle.rule.proofs.Years
+use Rattle.rule.proofs.CivilYears.{of-civil, civil-range}
 use Rattle.rule.proofs.Leap as Leaps
+use Rattle.rule.proofs.Pairs.{lt-or-le}
 use Rattle.rule.proofs.Paper.{is-month, month-is}
 use Rattle.rule.proofs.Answers.{
   within-true,
   fails,
-  Beyond,
-  beyond-is,
-  beyond-guard,
+  holds-where,
+  Never,
+  never-is,
+  never-guard,
   fails-here,
   fails-later,
   holds-all,
   then-iff,
+  inside,
   test-iff,
   at-most,
+  under,
 }
 use Rattle.dates.specs.declared.Date.{Date}
 use Rattle.dates.specs.Dates.{
@@ -48,6 +52,8 @@ use Rattle.dates.specs.Dates.{
   dateIn,
   dateOf,
   dateAt,
+  numberThere,
+  midTermOf,
   namedMonth,
   monthAsked,
   isThere,
@@ -55,19 +61,16 @@ use Rattle.dates.specs.Dates.{
   dayOfNamed,
   dayOfDate,
 }
-use Rattle.dates.specs.Paper.{IsDate, IsDayOf, AsksFor}
+use Rattle.dates.specs.Paper.{IsDate, IsDayOf, AsksFor, NotInYear}
 use Rattle.dates.proofs.Named
 
-year-of : (n : ℕ) → InCivilYear (civilYearOfMonth n) n
-year-of n = Years.of-month (civilYearOfMonth n) n .1 refl
-
-is-date : (d : ℕ) → IsDate d (dateOf d)
+is-date : (d : ℕ) → DayInRange d → IsDate d (dateOf d)
 unfolding dateOf dateIn
-is-date d =
+is-date d h =
     record {
       n = monthOfDay d;
       on-its-days = (Months.of-day-low d, Months.of-day-high d);
-      of-its-year = year-of (monthOfDay d);
+      of-its-year = of-civil (civilYearOfMonth (monthOfDay d)) (monthOfDay d) .1 (Months.of-day-range d .0 h, refl);
       its-month = is-month (monthOfDay d);
       its-day = omega (arith, Months.of-day-low d);
       its-length = sym (Months.start-next (monthOfDay d));
@@ -76,9 +79,9 @@ is-date d =
     }
 
 -- the date of a day is just what the paper says, and nothing else is
-pub date-is : (d : ℕ) (r : Date) → (dateOf d ≡ r) ↔ IsDate d r
+pub date-is : (d : ℕ) (r : Date) → DayInRange d → (dateOf d ≡ r) ↔ IsDate d r
 unfolding dateOf dateIn
-date-is d r = (λ e. subst (IsDate d) e (is-date d), back)
+date-is d r h = (λ e. subst (IsDate d) e (is-date d h), back)
   where
     back : IsDate d r → dateOf d ≡ r
     back a =
@@ -94,7 +97,7 @@ date-is d r = (λ e. subst (IsDate d) e (is-date d), back)
         })
       where
         same-year : civilYearOfMonth (a .n) ≡ r .year
-        same-year = Years.of-month (r .year) (a .n) .0 (a .of-its-year)
+        same-year = of-civil (r .year) (a .n) .0 (a .of-its-year) .1
 
         same-day : d - monthStart (a .n) + 1 ≡ r .«day_of_month»
         same-day = omega (arith, a .its-day, a .on-its-days .0)
@@ -109,78 +112,92 @@ dated d r =
     test-iff (then-iff (holds-all (leb d 14989859) 6 (is (dateOf d)) r) (λ e. let f : _≡_ {A = Answer Date} (is (dateOf d)) (is r) = e in cc, ap is))
     (at-most d 14989859)
 
--- the month of a year with a number and mark is the one asked for
-asked : (y k : ℕ) (l : Bool) → CivilYearInRange y → NumberInRange k → isThere y k l ≡ true →
-    InCivilYear y (monthAsked y k l) × (monthAt (monthAsked y k l) ≡ marked l k)
-asked y k false r s h = (
-  Named.named-year y k (r .0),
-  sym (Leaps.as-ordinary (namedMonth y k) k (Named.named-ordinary y k) (sym (Named.named-number y k s))),
-)
-asked y k true r s h = (
-  Named.leap-named-year y k (r .0) h,
-  sym (Leaps.as-leap (namedMonth y k + 1) k h (sym (Named.leap-named-number y k s h))),
-)
-
-pub asked-only : (y k n : ℕ) (l : Bool) → InCivilYear y n → (leap n ≡ l) × (monthNumber n ≡ k) → (isThere y k l ≡ true) × (monthAsked y k l ≡ n)
-asked-only y k n false i h = (refl, sym (Named.named-only y k n i (h .0) (h .1)))
-asked-only y k n true i h =
-    let e : n ≡ namedMonth y k + 1 = Named.leap-named y k n i (h .0) (h .1) in
-    (sym (ap leap e) ∙ h .0, sym e)
+-- the month of a civil year with a number and mark is the one asked for
+asked : (y k : ℕ) (l : Bool) → NumberInRange k → numberThere y k ≡ true → isThere (midTermOf y k) l ≡ true →
+    InCivilYear y (monthAsked (midTermOf y k) l) × IsMonth (monthAsked (midTermOf y k) l) (marked l k)
+asked y k l s r h =
+    let n = monthAsked (midTermOf y k) l in
+    let w = within-true 11 492490 (12 * y + k) .0 r in
+    (Named.asked-year y k s (w .0) l h (w .1), subst (IsMonth n) (Leaps.at-mark n k l (Named.asked-number y k s (w .0) l h)) (is-month n))
 
 -- the row of tests that a date to day goes through
-module _ (y k : ℕ) (l : Bool) (m : ℕ) where
+module _ (y k : ℕ) (l : Bool) (q : ℕ) where
+  m : ℕ
+  m = midTermOf y k
+
   n : ℕ
-  n = monthAsked y k l
+  n = monthAsked m l
 
   -- it is answered where each test holds
   answered : (d : ℕ) →
-      let found = _≡_ {A = Answer ℕ} (is (monthStart n + (m - 1))) (is d) in
-      (dayOfDate y k l m ≡ is d)
-      ↔ (CivilYearInRange y × (NumberInRange k × (DayOfMonthInRange m × ((isThere y k l ≡ true) × ((m ≤ monthLength n) × found)))))
-  unfolding dayOfDate dayOfNamed dayInMonth n
+      let found = _≡_ {A = Answer ℕ} (is (monthStart n + (q - 1))) (is d) in
+      (dayOfDate y k l q ≡ is d)
+      ↔ (CivilYearInRange y
+      × (NumberInRange k × (DayOfMonthInRange q × ((numberThere y k ≡ true) × ((isThere m l ≡ true) × ((q ≤ monthLength n) × found))))))
+  unfolding dayOfDate dayOfNamed dayInMonth n m
   answered d =
-      test-iff (then-iff (holds-all (within 1 41040 y) 1 _ d)
+      test-iff (then-iff (holds-all (leb y 41040) 1 _ d)
       (test-iff (then-iff (holds-all (within 1 12 k) 2 _ d)
-      (test-iff (then-iff (holds-all (within 1 30 m) 3 _ d)
-      (then-iff (holds-all (isThere y k l) 4 _ d)
-      (test-iff (holds-all (leb m (monthLength n)) 5 _ d) (leb-true m (monthLength n), le-leb m (monthLength n)))))
-      (within-true 1 30 m)))
+      (test-iff (then-iff (holds-all (within 1 30 q) 3 _ d)
+      (then-iff (holds-all (numberThere y k) 16 _ d)
+      (then-iff (holds-all (isThere m l) 4 _ d)
+      (test-iff (holds-all (leb q (monthLength n)) 5 _ d) (at-most q (monthLength n))))))
+      (within-true 1 30 q)))
       (within-true 1 12 k)))
-      (within-true 1 41040 y)
+      (at-most y 41040)
+
+-- a month of a civil year with a number and mark: its number is there, and it is the month asked for
+module _ (y k n : ℕ) (l : Bool) (i : InCivilYear y n) (a : IsMonth n (marked l k)) where
+  its-mark : (leap n ≡ l) × (monthNumber n ≡ k)
+  its-mark = Leaps.mark-of n k l (month-is n (marked l k) a)
+
+  its-number : NumberInRange k
+  its-number = (omega (arith, its-mark .1, Leaps.number-range n), omega (arith, its-mark .1, Leaps.number-range n))
+
+  its-year : CivilYearInRange y
+  its-year = omega (arith, of-civil y n .0 i .1, civil-range n (i .0))
+
+  its-number-there : numberThere y k ≡ true
+  its-number-there = within-true 11 492490 (12 * y + k) .1 (omega (arith, its-mark .1, Named.number-there y n i), omega (arith, its-mark .1, Named.number-there y n i))
+
+  pub it-is-asked : (isThere (midTermOf y k) l ≡ true) × (monthAsked (midTermOf y k) l ≡ n)
+  it-is-asked = Named.asked-only y k n l i its-mark
 
 -- the day of a date is just what the paper says
-pub day-is : (y k : ℕ) (l : Bool) (m d : ℕ) → (dayOfDate y k l m ≡ is d) ↔ IsDayOf y k l m d
-unfolding n
-day-is y k l m d = (there, back)
+pub day-is : (y k : ℕ) (l : Bool) (q d : ℕ) → (dayOfDate y k l q ≡ is d) ↔ IsDayOf y k l q d
+unfolding n m
+day-is y k l q d = (there, back)
   where
-    there : dayOfDate y k l m ≡ is d → IsDayOf y k l m d
+    there : dayOfDate y k l q ≡ is d → IsDayOf y k l q d
     there e =
-        let a = answered y k l m d .0 e in
-        let b = asked y k l (a .0) (a .1 .0) (a .1 .1 .1 .0) in
-        let s = monthStart (monthAsked y k l) in
-        let f : s + (m - 1) ≡ d = let g : _≡_ {A = Answer ℕ} (is (s + (m - 1))) (is d) = a .1 .1 .1 .1 .1 in cc in
+        let a = answered y k l q d .0 e in
+        let last = a .1 .1 .1 in
+        let b = asked y k l (a .1 .0) (last .0) (last .1 .0) in
+        let s = monthStart (monthAsked (midTermOf y k) l) in
+        let f : s + (q - 1) ≡ d = let g : _≡_ {A = Answer ℕ} (is (s + (q - 1))) (is d) = last .1 .1 .1 in cc in
         record {
-          year = a .0;
-          n = monthAsked y k l;
+          n = monthAsked (midTermOf y k) l;
           of-the-year = b .0;
-          the-month = subst (IsMonth (monthAsked y k l)) (b .1) (is-month (monthAsked y k l));
-          the-day = (a .1 .1 .0 .0, a .1 .1 .1 .1 .0);
+          the-month = b .1;
+          the-day = (a .1 .1 .0 .0, last .1 .1 .0);
           counted = omega (arith, a .1 .1 .0 .0);
         }
 
-    back : IsDayOf y k l m d → dayOfDate y k l m ≡ is d
+    back : IsDayOf y k l q d → dayOfDate y k l q ≡ is d
     back a =
-        let mark = Leaps.mark-of (a .n) k l (month-is (a .n) (marked l k) (a .the-month)) in
-        let only = asked-only y k (a .n) l (a .of-the-year) mark in
-        let long : monthLength (monthAsked y k l) ≡ monthLength (a .n) = ap monthLength (only .1) in
-        let start : monthStart (monthAsked y k l) ≡ monthStart (a .n) = ap monthStart (only .1) in
-        answered y k l m d .1 (
-          a .year,
+        let only = it-is-asked y k (a .n) l (a .of-the-year) (a .the-month) in
+        let long : monthLength (monthAsked (midTermOf y k) l) ≡ monthLength (a .n) = ap monthLength (only .1) in
+        let start : monthStart (monthAsked (midTermOf y k) l) ≡ monthStart (a .n) = ap monthStart (only .1) in
+        answered y k l q d .1 (
+          its-year y k (a .n) l (a .of-the-year) (a .the-month),
           (
-            (omega (arith, mark .1, Leaps.number-range (a .n)), omega (arith, mark .1, Leaps.number-range (a .n))),
+            its-number y k (a .n) l (a .of-the-year) (a .the-month),
             (
               (a .the-day .0, omega (arith, a .the-day .1, Months.length-range (a .n))),
-              (only .0, (omega (arith, a .the-day .1), ap is (omega (arith, a .counted, a .the-day .0)))),
+              (
+                its-number-there y k (a .n) l (a .of-the-year) (a .the-month),
+                (only .0, (omega (arith, a .the-day .1), ap is (omega (arith, a .counted, a .the-day .0)))),
+              ),
             ),
           ),
         )
@@ -192,13 +209,9 @@ ownDay r = dayOfDate (r .year) (numberOf (r .month)) (leapMark (r .month)) (r .�
 -- from a day to its date and back
 pub back-to-day : (d : ℕ) → DayInRange d → ownDay (dateOf d) ≡ is d
 back-to-day d h =
-    let a : IsDate d (dateOf d) = is-date d in
-    let e : monthOfDay d ≡ a .n = Months.of-day (a .n) d .0 (a .on-its-days) in
+    let a : IsDate d (dateOf d) = is-date d h in
     day-is (dateOf d .year) (numberOf (dateOf d .month)) (leapMark (dateOf d .month)) (dateOf d .«day_of_month») d .1
     record {
-      year =
-          subst CivilYearInRange (Years.of-month (dateOf d .year) (a .n) .0 (a .of-its-year))
-          (Years.of-month-range (a .n) .0 (subst MonthInRange e (Months.of-day-range d .0 h)));
       n = a .n;
       of-the-year = a .of-its-year;
       the-month = subst (IsMonth (a .n)) (sym (Leaps.month-again (dateOf d .month))) (a .its-month);
@@ -213,162 +226,193 @@ found-date y k l m d e =
     let a : IsDayOf y k l m d = day-is y k l m d .0 e in
     let i : InMonth (a .n) d = (omega (arith, a .counted, a .the-day .0), omega (arith, a .counted, a .the-day .1, Months.start-next (a .n))) in
     let f : monthOfDay d ≡ a .n = Months.of-day (a .n) d .0 i in
-    let g : civilYearOfMonth (a .n) ≡ y = Years.of-month y (a .n) .0 (a .of-the-year) in (
-      Months.of-day-range d .1 (subst MonthInRange (sym f) (Named.month-in-range y (a .n) (a .year) (a .of-the-year))),
+    let g = of-civil y (a .n) .0 (a .of-the-year) in (
+      Months.of-day-range d .1 (subst MonthInRange (sym f) (g .0)),
       record {
-        year = ap civilYearOfMonth f ∙ g;
+        year = ap civilYearOfMonth f ∙ g .1;
         month = ap monthAt f ∙ month-is (a .n) (marked l k) (a .the-month);
         day = ap (λ (n : ℕ). d - monthStart n + 1) f ∙ omega (arith, a .counted, a .the-day .0);
       },
     )
 
--- where each reason of a date comes from
-module _ (y k : ℕ) (l : Bool) (m : ℕ) where
-  years : (within 1 41040 y ≡ true) ↔ CivilYearInRange y
-  years = within-true 1 41040 y
+-- a number is not there exactly where the paper says so
+not-there : (y k : ℕ) → CivilYearInRange y → NumberInRange k → (numberThere y k ≡ false) ↔ NotInYear y k
+not-there y k r s = (λ e. there (out .0 e), λ h. out .1 (λ w. back w h))
+  where
+    out : (numberThere y k ≡ false) ↔ ((11 ≤ 12 * y + k) × (12 * y + k ≤ 492490) → ⊥)
+    out = fails (numberThere y k) (within-true 11 492490 (12 * y + k))
 
+    there : ((11 ≤ 12 * y + k) × (12 * y + k ≤ 492490) → ⊥) → NotInYear y k
+    there out-of-range =
+        ⊎-elim (λ first. ⊎-elim (λ high. absurd (out-of-range (omega arith, omega arith))) (λ low. inl (omega arith, omega arith)) (lt-or-le 10 k))
+        (λ later.
+        ⊎-elim (λ inner. absurd (out-of-range (omega arith, omega (arith, s .1))))
+        (λ last. ⊎-elim (λ low. absurd (out-of-range (omega arith, omega arith))) (λ high. inr (omega arith, high)) (lt-or-le k 11))
+        (lt-or-le y 41040))
+        (lt-or-le y 1)
+
+    back : (11 ≤ 12 * y + k) × (12 * y + k ≤ 492490) → NotInYear y k → ⊥
+    back w = ⊎-elim (λ h. omega (arith, w, h)) (λ h. omega (arith, w, h))
+
+-- where each reason of a date comes from
+module _ (y k : ℕ) (l : Bool) (q : ℕ) where
   numbers : (within 1 12 k ≡ true) ↔ NumberInRange k
   numbers = within-true 1 12 k
 
-  days : (within 1 30 m ≡ true) ↔ DayOfMonthInRange m
-  days = within-true 1 30 m
+  days : (within 1 30 q ≡ true) ↔ DayOfMonthInRange q
+  days = within-true 1 30 q
 
-  beyond-named : (i : ℕ) → i < 4 → Beyond i (dayOfNamed y k l m)
+  -- what a number that is there is answered with, and what one in its range is
+  abbrev named : Answer ℕ
+  named = dayOfNamed (midTermOf y k) l q
+
+  abbrev numbered : Answer ℕ
+  numbered = guard (numberThere y k) 16 named
+
+  never-named : (i : ℕ) → (4 ≡ i → ⊥) → (5 ≡ i → ⊥) → Never i named
   unfolding dayOfNamed dayInMonth
-  beyond-named i h =
-      beyond-guard (isThere y k l) i 4 _ h
-      (beyond-guard (leb m (monthLength (monthAsked y k l))) i 5 (is (monthStart (monthAsked y k l) + (m - 1))) (omega arith) (beyond-is i _))
+  never-named i a b = never-guard (isThere (midTermOf y k) l) i 4 _ a (never-guard (leb q (monthLength (monthAsked (midTermOf y k) l))) i 5 _ b (never-is i _))
 
-  beyond-day : (i : ℕ) → i < 3 → Beyond i (guard (within 1 30 m) 3 (dayOfNamed y k l m))
-  beyond-day i h = beyond-guard (within 1 30 m) i 3 (dayOfNamed y k l m) h (beyond-named i (omega arith))
+  never-numbered : (i : ℕ) → i < 4 → Never i numbered
+  never-numbered i h = never-guard (numberThere y k) i 16 named (omega arith) (never-named i (omega arith) (omega arith))
 
-  beyond-number : (i : ℕ) → i < 2 → Beyond i (guard (within 1 12 k) 2 (guard (within 1 30 m) 3 (dayOfNamed y k l m)))
-  beyond-number i h = beyond-guard (within 1 12 k) i 2 _ h (beyond-day i (omega arith))
+  never-day : (i : ℕ) → i < 3 → Never i (guard (within 1 30 q) 3 numbered)
+  never-day i h = never-guard (within 1 30 q) i 3 numbered (omega arith) (never-numbered i (omega arith))
 
   -- a reason after the third: the three ranges hold
-  after-three : (j : ℕ) → 3 < j →
-      (dayOfDate y k l m ≡ refused j) ↔ (CivilYearInRange y × (NumberInRange k × (DayOfMonthInRange m × (dayOfNamed y k l m ≡ refused j))))
+  after-three : (j : ℕ) → 3 < j → (dayOfDate y k l q ≡ refused j) ↔ (CivilYearInRange y × (NumberInRange k × (DayOfMonthInRange q × (numbered ≡ refused j))))
   unfolding dayOfDate
   after-three j h =
-      test-iff (then-iff (fails-later (within 1 41040 y) 1 j _ (omega arith))
+      test-iff (then-iff (fails-later (leb y 41040) 1 j _ (omega arith))
       (test-iff (then-iff (fails-later (within 1 12 k) 2 j _ (omega arith))
-      (test-iff (fails-later (within 1 30 m) 3 j _ (omega arith)) days))
+      (test-iff (fails-later (within 1 30 q) 3 j _ (omega arith)) days))
       numbers))
-      years
+      (at-most y 41040)
 
-  pub one : (dayOfDate y k l m ≡ refused 1) ↔ (CivilYearInRange y → ⊥)
+  pub one : (dayOfDate y k l q ≡ refused 1) ↔ (CivilYearInRange y → ⊥)
   unfolding dayOfDate
-  one = Iff·trans (fails-here (within 1 41040 y) 1 _ (beyond-number 1 (omega arith))) (fails (within 1 41040 y) years)
+  one =
+      Iff·trans (fails-here (leb y 41040) 1 _ (never-guard (within 1 12 k) 1 2 _ (omega arith) (never-day 1 (omega arith))))
+      (fails (leb y 41040) (at-most y 41040))
 
-  pub two : (dayOfDate y k l m ≡ refused 2) ↔ (CivilYearInRange y × (NumberInRange k → ⊥))
+  pub two : (dayOfDate y k l q ≡ refused 2) ↔ (CivilYearInRange y × (NumberInRange k → ⊥))
   unfolding dayOfDate
   two =
-      test-iff (then-iff (fails-later (within 1 41040 y) 1 2 _ (omega arith))
-      (Iff·trans (fails-here (within 1 12 k) 2 _ (beyond-day 2 (omega arith))) (fails (within 1 12 k) numbers)))
-      years
+      test-iff (then-iff (fails-later (leb y 41040) 1 2 _ (omega arith))
+      (Iff·trans (fails-here (within 1 12 k) 2 _ (never-day 2 (omega arith))) (fails (within 1 12 k) numbers)))
+      (at-most y 41040)
 
-  pub three : (dayOfDate y k l m ≡ refused 3) ↔ (CivilYearInRange y × (NumberInRange k × (DayOfMonthInRange m → ⊥)))
+  pub three : (dayOfDate y k l q ≡ refused 3) ↔ (CivilYearInRange y × (NumberInRange k × (DayOfMonthInRange q → ⊥)))
   unfolding dayOfDate
   three =
-      test-iff (then-iff (fails-later (within 1 41040 y) 1 3 _ (omega arith))
+      test-iff (then-iff (fails-later (leb y 41040) 1 3 _ (omega arith))
       (test-iff (then-iff (fails-later (within 1 12 k) 2 3 _ (omega arith))
-      (Iff·trans (fails-here (within 1 30 m) 3 _ (beyond-named 3 (omega arith))) (fails (within 1 30 m) days)))
+      (Iff·trans (fails-here (within 1 30 q) 3 _ (never-numbered 3 (omega arith))) (fails (within 1 30 q) days)))
       numbers))
-      years
+      (at-most y 41040)
+
+  pub sixteen : (dayOfDate y k l q ≡ refused 16) ↔ (CivilYearInRange y × (NumberInRange k × (DayOfMonthInRange q × NotInYear y k)))
+  sixteen =
+      Iff·trans (after-three 16 (omega arith))
+      (under (λ a. a, λ a. a) (λ r. under (λ a. a, λ a. a) (λ s.
+      inside (Iff·trans (fails-here (numberThere y k) 16 named (never-named 16 (omega arith) (omega arith))) (not-there y k r s)))))
+
+  -- a reason after 16: the number is there too
+  after-sixteen : (j : ℕ) → 3 < j → j < 16 →
+      (dayOfDate y k l q ≡ refused j)
+      ↔ (CivilYearInRange y × (NumberInRange k × (DayOfMonthInRange q × ((numberThere y k ≡ true) × (named ≡ refused j)))))
+  after-sixteen j h g = Iff·trans (after-three j h) (inside (inside (inside (fails-later (numberThere y k) 16 j named (omega arith)))))
 
 -- reason 4: a leap month is asked, and the year has none of that number
-none-there : (y k : ℕ) (l : Bool) → CivilYearInRange y → NumberInRange k →
-    (isThere y k l ≡ false) ↔ ((l ≡ true) × (((n : ℕ) × InCivilYear y n × IsMonth n (Leap k)) → ⊥))
-none-there y k false r s = (
+none-there : (y k : ℕ) (l : Bool) → NumberInRange k → numberThere y k ≡ true →
+    (isThere (midTermOf y k) l ≡ false) ↔ ((l ≡ true) × (((n : ℕ) × InCivilYear y n × IsMonth n (Leap k)) → ⊥))
+none-there y k false s r = (
   λ e. absurd (let o : _≡_ {A = ℕ} 0 1 = cc in omega arith),
   λ h. absurd (let e : false ≡ true = h .0 in let o : _≡_ {A = ℕ} 0 1 = cc in omega arith),
 )
-none-there y k true r s = (λ e. (refl, none e), λ h. back (h .1) (leap (namedMonth y k + 1)) refl)
-  where
-    none : leap (namedMonth y k + 1) ≡ false → ((n : ℕ) × InCivilYear y n × IsMonth n (Leap k)) → ⊥
-    none e w =
-        let mark = Leaps.mark-of (w .0) k true (month-is (w .0) (Leap k) (w .2)) in
-        let f : leap (namedMonth y k + 1) ≡ true = asked-only y k (w .0) true (w .1) mark .0 in
-        let o : _≡_ {A = ℕ} 0 1 = cc in
-        omega arith
-
-    back : (((n : ℕ) × InCivilYear y n × IsMonth n (Leap k)) → ⊥) → (b : Bool) → leap (namedMonth y k + 1) ≡ b → leap (namedMonth y k + 1) ≡ false
-    back w true e =
-        let a = asked y k true r s e in
-        absurd (w (namedMonth y k + 1, a .0, subst (IsMonth (namedMonth y k + 1)) (a .1) (is-month (namedMonth y k + 1))))
-    back w false e = e
-
-pub four : (y k : ℕ) (l : Bool) (m : ℕ) →
-    (dayOfDate y k l m ≡ refused 4)
-    ↔ (CivilYearInRange y × (NumberInRange k × (DayOfMonthInRange m × ((l ≡ true) × (((n : ℕ) × InCivilYear y n × IsMonth n (Leap k)) → ⊥)))))
-unfolding dayOfNamed dayInMonth
-four y k l m = (
-  λ e. let a = after-three y k l m 4 (omega arith) .0 e in (a .0, (a .1 .0, (a .1 .1 .0, none-there y k l (a .0) (a .1 .0) .0 (here .0 (a .1 .1 .1))))),
-  λ h. after-three y k l m 4 (omega arith) .1 (h .0, (h .1 .0, (h .1 .1 .0, here .1 (none-there y k l (h .0) (h .1 .0) .1 (h .1 .1 .1))))),
-)
-  where
-    here : (dayOfNamed y k l m ≡ refused 4) ↔ (isThere y k l ≡ false)
-    here =
-        fails-here (isThere y k l) 4 (dayInMonth (monthAsked y k l) m)
-        (beyond-guard (leb m (monthLength (monthAsked y k l))) 4 5 (is (monthStart (monthAsked y k l) + (m - 1))) (omega arith) (beyond-is 4 _))
-
--- reason 5: day 30 of a 29-day month
-pub five : (y k : ℕ) (l : Bool) (m : ℕ) →
-    (dayOfDate y k l m ≡ refused 5)
-    ↔ (CivilYearInRange y × (NumberInRange k × ((n : ℕ) × InCivilYear y n × IsMonth n (marked l k) × (monthLength n ≡ 29) × (m ≡ 30))))
-unfolding dayOfNamed dayInMonth
-five y k l m = (there, back)
+none-there y k true s r = (λ e. (refl, none e), λ h. back (h .1) (leap (N + 1)) refl)
   where
     N : ℕ
-    N = monthAsked y k l
+    N = namedMonth (midTermOf y k)
 
-    -- the month asked for has 29 days
-    Small : Type 0
-    Small = (n : ℕ) × InCivilYear y n × IsMonth n (marked l k) × (monthLength n ≡ 29) × (m ≡ 30)
+    none : leap (N + 1) ≡ false → ((n : ℕ) × InCivilYear y n × IsMonth n (Leap k)) → ⊥
+    none e w = let f : leap (N + 1) ≡ true = it-is-asked y k (w .0) true (w .1) (w .2) .0 in let o : _≡_ {A = ℕ} 0 1 = cc in omega arith
 
-    short : (dayOfNamed y k l m ≡ refused 5) ↔ ((isThere y k l ≡ true) × (leb m (monthLength N) ≡ false))
+    back : (((n : ℕ) × InCivilYear y n × IsMonth n (Leap k)) → ⊥) → (b : Bool) → leap (N + 1) ≡ b → leap (N + 1) ≡ false
+    back w true e = let a = asked y k true s r e in absurd (w (N + 1, a .0, a .1))
+    back w false e = e
+
+pub four : (y k : ℕ) (l : Bool) (q : ℕ) →
+    (dayOfDate y k l q ≡ refused 4)
+    ↔ (CivilYearInRange y
+    × (NumberInRange k
+    × (DayOfMonthInRange q × ((NotInYear y k → ⊥) × ((l ≡ true) × (((n : ℕ) × InCivilYear y n × IsMonth n (Leap k)) → ⊥))))))
+unfolding dayOfNamed dayInMonth
+four y k l q =
+    Iff·trans (after-sixteen y k l q 4 (omega arith) (omega arith))
+    (under (λ a. a, λ a. a) (λ r. under (λ a. a, λ a. a) (λ s.
+    inside (test-iff (under (λ a. a, λ a. a) (λ t. Iff·trans here (none-there y k l s t))) (holds-where (numberThere y k) (not-there y k r s))))))
+  where
+    here : (dayOfNamed (midTermOf y k) l q ≡ refused 4) ↔ (isThere (midTermOf y k) l ≡ false)
+    here =
+        fails-here (isThere (midTermOf y k) l) 4 (dayInMonth (monthAsked (midTermOf y k) l) q)
+        (never-guard (leb q (monthLength (monthAsked (midTermOf y k) l))) 4 5 _ (omega arith) (never-is 4 _))
+
+-- reason 5: day 30 of a 29-day month
+pub five : (y k : ℕ) (l : Bool) (q : ℕ) →
+    (dayOfDate y k l q ≡ refused 5) ↔ ((n : ℕ) × InCivilYear y n × IsMonth n (marked l k) × (monthLength n ≡ 29) × (q ≡ 30))
+unfolding dayOfNamed dayInMonth
+five y k l q = (there, back)
+  where
+    N : ℕ
+    N = monthAsked (midTermOf y k) l
+
+    short : (dayOfNamed (midTermOf y k) l q ≡ refused 5) ↔ ((isThere (midTermOf y k) l ≡ true) × (leb q (monthLength N) ≡ false))
     short =
-        then-iff (fails-later (isThere y k l) 4 5 (dayInMonth N m) (omega arith))
-        (fails-here (leb m (monthLength N)) 5 (is (monthStart N + (m - 1))) (beyond-is 5 (monthStart N + (m - 1))))
+        then-iff (fails-later (isThere (midTermOf y k) l) 4 5 (dayInMonth N q) (omega arith))
+        (fails-here (leb q (monthLength N)) 5 (is (monthStart N + (q - 1))) (never-is 5 (monthStart N + (q - 1))))
 
-    there : dayOfDate y k l m ≡ refused 5 → CivilYearInRange y × (NumberInRange k × Small)
+    there : dayOfDate y k l q ≡ refused 5 → (n : ℕ) × InCivilYear y n × IsMonth n (marked l k) × (monthLength n ≡ 29) × (q ≡ 30)
     there e =
-        let a = after-three y k l m 5 (omega arith) .0 e in
-        let b = short .0 (a .1 .1 .1) in
-        let c = asked y k l (a .0) (a .1 .0) (b .0) in
-        let f : monthLength N < m = leb-false m (monthLength N) (b .1) in (
-          a .0,
+        let a = after-sixteen y k l q 5 (omega arith) (omega arith) .0 e in
+        let b = short .0 (a .1 .1 .1 .1) in
+        let c = asked y k l (a .1 .0) (a .1 .1 .1 .0) (b .0) in
+        let f : monthLength N < q = leb-false q (monthLength N) (b .1) in
+        (N, c .0, c .1, omega (arith, Months.length-range N, a .1 .1 .0 .1), omega (arith, Months.length-range N, a .1 .1 .0 .1))
+
+    back : ((n : ℕ) × InCivilYear y n × IsMonth n (marked l k) × (monthLength n ≡ 29) × (q ≡ 30)) → dayOfDate y k l q ≡ refused 5
+    back w =
+        let only = it-is-asked y k (w .0) l (w .1) (w .2) in
+        let long : monthLength N ≡ monthLength (w .0) = ap monthLength (only .1) in
+        after-sixteen y k l q 5 (omega arith) (omega arith) .1 (
+          its-year y k (w .0) l (w .1) (w .2),
           (
-            a .1 .0,
+            its-number y k (w .0) l (w .1) (w .2),
             (
-              N,
-              c .0,
-              subst (IsMonth N) (c .1) (is-month N),
-              omega (arith, Months.length-range N, a .1 .1 .0 .1),
-              omega (arith, Months.length-range N, a .1 .1 .0 .1),
+              (omega (arith, w .4), omega (arith, w .4)),
+              (
+                its-number-there y k (w .0) l (w .1) (w .2),
+                short .1 (only .0, lt-leb q (monthLength N) (omega (arith, long, w .3, w .4))),
+              ),
             ),
           ),
         )
 
-    back : CivilYearInRange y × (NumberInRange k × Small) → dayOfDate y k l m ≡ refused 5
-    back h =
-        let w = h .1 .1 in
-        let only = asked-only y k (w .0) l (w .1) (Leaps.mark-of (w .0) k l (month-is (w .0) (marked l k) (w .2))) in
-        let long : monthLength N ≡ monthLength (w .0) = ap monthLength (only .1) in
-        after-three y k l m 5 (omega arith) .1
-        (h .0, (h .1 .0, ((omega (arith, w .4), omega (arith, w .4)), short .1 (only .0, lt-leb m (monthLength N) (omega (arith, long, w .3, w .4))))))
+-- no reason but these six
+abbrev OneOfSix : ℕ → Type 0
+OneOfSix j = (j ≤ 5) ⊎ (j ≡ 16)
 
--- no reason but these five
-no-later : {A : Type 0} (t : Bool) (i : ℕ) (a : Answer A) → i ≤ 5 → ((j : ℕ) → a ≡ refused j → j ≤ 5) → (j : ℕ) → guard t i a ≡ refused j → j ≤ 5
+no-later : {A : Type 0} (t : Bool) (i : ℕ) (a : Answer A) → OneOfSix i → ((j : ℕ) → a ≡ refused j → OneOfSix j) → (j : ℕ) → guard t i a ≡ refused j → OneOfSix j
 no-later true i a l h = h
-no-later false i a l h = λ j e. let f : i ≡ j = cc in omega arith
+no-later {A = A} false i a l h = λ j e. subst OneOfSix (let f : i ≡ j = let g : _≡_ {A = Answer A} (refused i) (refused j) = e in cc in f) l
 
-pub no-other : (y k : ℕ) (l : Bool) (m j : ℕ) → dayOfDate y k l m ≡ refused j → j ≤ 5
+pub no-other : (y k : ℕ) (l : Bool) (q j : ℕ) → dayOfDate y k l q ≡ refused j → OneOfSix j
 unfolding dayOfDate dayOfNamed dayInMonth
-no-other y k l m =
-    no-later (within 1 41040 y) 1 _ (omega arith)
-    (no-later (within 1 12 k) 2 _ (omega arith)
-    (no-later (within 1 30 m) 3 _ (omega arith)
-    (no-later (isThere y k l) 4 _ (omega arith)
-    (no-later (leb m (monthLength (monthAsked y k l))) 5 (is (monthStart (monthAsked y k l) + (m - 1))) (omega arith)
-    (λ j e. absurd (let o : _≡_ {A = ℕ} 0 1 = cc in omega arith))))))
+no-other y k l q =
+    no-later (leb y 41040) 1 _ (inl (omega arith))
+    (no-later (within 1 12 k) 2 _ (inl (omega arith))
+    (no-later (within 1 30 q) 3 _ (inl (omega arith))
+    (no-later (numberThere y k) 16 _ (inr refl)
+    (no-later (isThere (midTermOf y k) l) 4 _ (inl (omega arith))
+    (no-later (leb q (monthLength (monthAsked (midTermOf y k) l))) 5 (is (monthStart (monthAsked (midTermOf y k) l) + (q - 1))) (inl (omega arith))
+    (λ j e. absurd (let o : _≡_ {A = ℕ} 0 1 = cc in omega arith)))))))

@@ -1,14 +1,14 @@
-// Dates both ways: the date of a day, and the day of a date asked for by year, month number, ordinary or leap, day of month.
+// Dates both ways: the date of a day, and the day of a date asked for by civil year, month number, ordinary or leap, day of month.
 ghost use mathlib.Core.Path.{_≡_};
-ghost use Prim.Native.Nat.{ℕ, _+_, _-_, _*_, _%_, _≤_};
-ghost use Rattle.rule.specs.Counts.{CivilYearInRange, DayInRange};
+ghost use Prim.Native.Nat.{ℕ, _+_, _≤_, _<_};
+ghost use Rattle.rule.specs.Counts.{DayInRange};
 ghost use Rattle.rule.specs.Rule.{monthStart, smallRemainder};
-ghost use Rattle.dates.specs.Dates.{NumberInRange, DayOfMonthInRange, dateOf, dayInMonth, dayOfNamed};
+ghost use Rattle.dates.specs.Dates.{DayOfMonthInRange, dateOf, dayInMonth, dayOfNamed};
 ghost use Rattle.dates.specs.Promises.{saidDay, DateOfDay, DayOfDate};
 use rule::Month;
 use rule::Reason;
 
-// A date of the rule, in the paper's order.
+// A date of the rule; its year is the civil one.
 pub struct Date {
     pub month: Month,
     pub year: u16,
@@ -30,8 +30,8 @@ pub enum DayTold {
     Refused(Reason),
 }
 
-// The date of a day in range. Year, number and mark are those of the last mid-term before the month's end: leap where that is before the
-// month's start. Nothing else makes a date.
+// The date of a day in range. Civil year, number and mark are those of the last mid-term before the month's end: leap where that is before
+// the month's start. Nothing else makes a date.
 pub fn date_at(day: u32) -> Date
     requires { ⌜ DayInRange day ⌝ }
     ensures { λ r. ⌜ r ≡ dateOf day ⌝ }
@@ -79,22 +79,12 @@ fn day_in(start: u32, left: u32, day_of_month: u32) -> DayTold
     DayTold::Is(start + (day_of_month - 1))
 }
 
-// The mid-term of a month number in a year, counted from the origin: 11 has the first of the year's twelve, 12 the second, 1 the third ..
-fn mid_term_of(year: u16, number: u8) -> u32
-    requires { ⌜ CivilYearInRange year × NumberInRange number ⌝ }
-    ensures { λ r. ⌜ r ≡ 12 * (year - 1) + (number + 1) % 12 ⌝ }
+// The day of a date whose number is there, with mid-term m, and whose day of month is in its range: reason 4 or 5 can still be met. The
+// ordinary month of the number holds its mid-term, and the month after it is leap where it ends before the next mid-term.
+fn day_of_named(m: u32, leap: bool, day_of_month: u32) -> DayTold
+    requires { ⌜ (m < 492480) × DayOfMonthInRange «day_of_month» ⌝ }
+    ensures { λ r. ⌜ saidDay r ≡ dayOfNamed m leap «day_of_month» ⌝ }
 {
-    let count = 12 * (year as u32 - 1) + number as u32;
-    if number < 11 { count + 1 } else { count - 11 }
-}
-
-// The day of a date whose four things are each in their range: reason 4 or 5 can still be met. The ordinary month of the number holds
-// its mid-term, and the month after it is leap where it ends before the next mid-term.
-fn day_of_named(year: u16, number: u8, leap: bool, day_of_month: u32) -> DayTold
-    requires { ⌜ CivilYearInRange year × NumberInRange number × DayOfMonthInRange «day_of_month» ⌝ }
-    ensures { λ r. ⌜ saidDay r ≡ dayOfNamed year number leap «day_of_month» ⌝ }
-{
-    let m = mid_term_of(year, number);
     let term = rule::term_of(2 * m);
     let mid = term.day;
     let at = rule::stands(mid);
@@ -111,11 +101,11 @@ fn day_of_named(year: u16, number: u8, leap: bool, day_of_month: u32) -> DayTold
     day_in(start, left, day_of_month)
 }
 
-// Date to day.
+// Date to day: twelve numbers a civil year, of which 11 of year 0 is the first that is there, and 10 of year 41,040 the last.
 pub fn day_of_date(year: u32, number: u32, leap: bool, day_of_month: u32) -> DayTold
     ensures { λ r. ⌜ DayOfDate year number leap «day_of_month» r ⌝ }
 {
-    if !rule::in_range(1, 41040, year) {
+    if 41040 < year {
         return DayTold::Refused(Reason::NoSuchYear);
     }
     if !rule::in_range(1, 12, number) {
@@ -124,5 +114,9 @@ pub fn day_of_date(year: u32, number: u32, leap: bool, day_of_month: u32) -> Day
     if !rule::in_range(1, 30, day_of_month) {
         return DayTold::Refused(Reason::NoSuchDayOfMonth);
     }
-    day_of_named(year as u16, number as u8, leap, day_of_month)
+    let count = 12 * year + number;
+    if !rule::in_range(11, 492490, count) {
+        return DayTold::Refused(Reason::NoSuchNumberInYear);
+    }
+    day_of_named(count - 11, leap, day_of_month)
 }

@@ -2,9 +2,9 @@
 use Prim.Native.Nat.{ℕ, _+_, _-_, _*_, _/_, _≤_, _<_}
 use native.Mathlib.Omega.{arith}
 use mathlib.Core.Path.{_≡_, refl, ap, sym, _∙_, subst}
-use mathlib.Core.Logic.{_↔_, ⊎-elim}
+use mathlib.Core.Logic.{_↔_, Iff·trans, ⊎-elim}
 use mathlib.Core.Bool.{Bool, true, false}
-use Rattle.rule.specs.Counts.{elapsed, dayName, ji, bu, yearInBu, headName}
+use Rattle.rule.specs.Counts.{CivilYearInRange, elapsed, dayName, ji, bu, yearInBu, headName}
 use Rattle.rule.specs.Rule.{
   monthStart,
   smallRemainder,
@@ -14,12 +14,14 @@ use Rattle.rule.specs.Rule.{
   solsticeFirstMonth,
   leapRemainder,
   monthsInSolsticeYear,
-  InSolsticeYear,
   leap,
   monthNumber,
   monthAt,
   numberOf,
   leapMark,
+  InCivilYear,
+  civilFirstMonth,
+  monthsInCivilYear,
   eclipse,
 }
 use Rattle.rule.specs.Paper.{IsTerm, NoMidTerm, IsMonth}
@@ -28,6 +30,8 @@ use Rattle.rule.specs.declared.Quarter.{Quarter}
 use Rattle.rule.specs.declared.Term.{Term}
 use Rattle.rule.proofs.Months
 use Rattle.rule.proofs.Years
+use Rattle.rule.proofs.CivilYears.{civil-so-many, civil-end}
+use Rattle.rule.proofs.Civil.{civil-year-opens}
 use Rattle.rule.proofs.Leap.{as-leap, mark-at, number-at}
 use Rattle.rule.proofs.Pairs.{lt-or-le}
 use Rattle.rule.proofs.Paper as Rule
@@ -37,7 +41,7 @@ use Rattle.facts.specs.declared.LeapMonth.the-variants.{Without, With}
 use Rattle.facts.specs.declared.YearFacts.{YearFacts}
 use Rattle.facts.specs.declared.MonthFacts.{MonthFacts}
 use Rattle.facts.specs.Facts.{solsticeYear, leapMonth, yearFacts, monthFacts, quarterOf, termOf}
-use Rattle.facts.specs.Paper.{YearBegins, IsSolsticeYear, LeapMonthOf, IsYearFacts, IsMonthFacts, IsQuarter}
+use Rattle.facts.specs.Paper.{YearBegins, YearOpens, IsSolsticeYear, LeapMonthOf, IsYearFacts, IsMonthFacts, IsQuarter}
 use Rattle.facts.proofs.Leaps.{leap-found, leap-none, leap-is}
 use Rattle.facts.proofs.Made.{solstice-year-made, year-made, month-made, quarter-made, term-made}
 
@@ -117,7 +121,7 @@ month-only n f h =
 pub month-exactly : (n : ℕ) (f : MonthFacts) → (monthFacts n ≡ f) ↔ IsMonthFacts n f
 month-exactly n = exactly (IsMonthFacts n) (monthFacts n) (month-there n) (month-only n)
 
--- a year of 13 months or of 12
+-- a solstice year, of 13 months or of 12
 module _ (y : ℕ) (l : 1 ≤ y) where
   begins-there : YearBegins y (solsticeFirstMonth y) (leapRemainder y) (monthsInSolsticeYear y)
   begins-there =
@@ -176,24 +180,45 @@ module _ (y : ℕ) (l : 1 ≤ y) where
   pub solstice-exactly : (s : SolsticeYear) → (solsticeYear y ≡ s) ↔ IsSolsticeYear y s
   solstice-exactly = exactly (IsSolsticeYear y) (solsticeYear y) solstice-there solstice-only
 
+-- two runs of months that are the same, of which the second is not empty
+same-run : (a m b k : ℕ) → 1 ≤ k → ((n : ℕ) → ((a ≤ n) × (n < a + m)) ↔ ((b ≤ n) × (n < b + k))) → (a ≡ b) × (m ≡ k)
+same-run a m b k l h =
+    let first = h b .1 (omega arith, omega arith) in
+    let last = h (b + k - 1) .1 (omega arith, omega arith) in
+    let first′ = h a .0 (omega arith, omega (arith, first)) in
+    let last′ = h (a + m - 1) .0 (omega (arith, first), omega (arith, first)) in
+    (omega (arith, first, first′), omega (arith, first, last, first′, last′))
+
+-- a civil year, with the months from its first up to the next year's
+module _ (y : ℕ) (l : CivilYearInRange y) where
+  opens-there : YearOpens y (civilFirstMonth y) (monthsInCivilYear y)
+  opens-there =
+      let o = civil-year-opens y l in
+      record { month-1 = o .month-1; month-11 = o .month-11; the-months = o .so-many }
+
+  opens-only : (a m : ℕ) → YearOpens y a m → (a ≡ civilFirstMonth y) × (m ≡ monthsInCivilYear y)
+  opens-only a m h =
+      same-run a m (civilFirstMonth y) (monthsInCivilYear y) (civil-end y l .1)
+      (λ n. Iff·trans (λ i. h .the-months n .1 i, λ i. h .the-months n .0 i) (civil-so-many y n l))
+
   -- its leap month
   pub leap-there : LeapMonthOf y (leapMonth y)
   leap-there = record { with-one = λ k n. (there k n, back k n); without = (none, λ h. leap-none y l (λ n i. ordinary h n i (leap n) refl)) }
     where
-      there : (k n : ℕ) → leapMonth y ≡ With k n → InSolsticeYear y n × IsMonth n (Leap k)
+      there : (k n : ℕ) → leapMonth y ≡ With k n → InCivilYear y n × IsMonth n (Leap k)
       there k n f = let h = leap-is y k n l f in (h .0, Rule.month-literally n (Leap k) .0 (sym (as-leap n k (h .1) (sym (h .2)))))
 
-      back : (k n : ℕ) → InSolsticeYear y n × IsMonth n (Leap k) → leapMonth y ≡ With k n
+      back : (k n : ℕ) → InCivilYear y n × IsMonth n (Leap k) → leapMonth y ≡ With k n
       back k n h =
           let e : monthAt n ≡ Leap k = Rule.month-literally n (Leap k) .1 (h .1) in
           leap-found y n (h .0) (sym (mark-at n) ∙ ap leapMark e) ∙ ap (λ (j : ℕ). With j n) (sym (number-at n) ∙ ap numberOf e)
 
-      none : leapMonth y ≡ Without → (n : ℕ) → InSolsticeYear y n → NoMidTerm n → ⊥
+      none : leapMonth y ≡ Without → (n : ℕ) → InCivilYear y n → NoMidTerm n → ⊥
       none e n i h =
           let g : leapMonth y ≡ With (monthNumber n) n = leap-found y n i (Rule.leap-without-mid-term n .1 h) in
           let o : _≡_ {A = ℕ} 0 1 = cc in omega arith
 
-      ordinary : ((n : ℕ) → InSolsticeYear y n → NoMidTerm n → ⊥) → (n : ℕ) → InSolsticeYear y n → (b : Bool) → leap n ≡ b → leap n ≡ false
+      ordinary : ((n : ℕ) → InCivilYear y n → NoMidTerm n → ⊥) → (n : ℕ) → InCivilYear y n → (b : Bool) → leap n ≡ b → leap n ≡ false
       ordinary h n i true e = absurd (h n i (Rule.leap-without-mid-term n .0 e))
       ordinary h n i false e = e
 
@@ -204,15 +229,15 @@ module _ (y : ℕ) (l : 1 ≤ y) where
   -- its own facts
   year-there : IsYearFacts y (yearFacts y)
   unfolding yearFacts
-  year-there = record { its-name = refl; rest = leapRemainder y; its-months = begins-there; its-leap-month = leap-there }
+  year-there = record { its-name = refl; its-months = opens-there; its-leap-month = leap-there }
 
   year-only : (f : YearFacts) → IsYearFacts y f → f ≡ yearFacts y
   year-only f h =
-      year-made y (h .its-name) (months .0) (months .2)
+      year-made y (h .its-name) (months .0) (months .1)
       (leap-only (f .«leap_month») (h .its-leap-month))
     where
-      months : (f .«first_month» ≡ solsticeFirstMonth y) × (h .rest ≡ leapRemainder y) × (f .months ≡ monthsInSolsticeYear y)
-      months = begins-only (f .«first_month») (h .rest) (f .months) (h .its-months)
+      months : (f .«first_month» ≡ civilFirstMonth y) × (f .months ≡ monthsInCivilYear y)
+      months = opens-only (f .«first_month») (f .months) (h .its-months)
 
   pub year-exactly : (f : YearFacts) → (yearFacts y ≡ f) ↔ IsYearFacts y f
   year-exactly = exactly (IsYearFacts y) (yearFacts y) year-there year-only

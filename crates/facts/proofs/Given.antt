@@ -1,10 +1,10 @@
 -- Which answers meet a promise of one guard or of two: what is given, by what it is, and what is refused. Assumes nothing.
-use Prim.Native.Nat.{ℕ, _≤_, _<_}
+use Prim.Native.Nat.{ℕ, _≤_}
 use mathlib.Core.Path.{_≡_, ap, sym, _∙_}
 use mathlib.Core.Logic.{_↔_}
 use mathlib.Core.Bool.{Bool, true}
 use lib.Dec.{leb}
-use Rattle.rule.specs.Counts.{SolsticeYearInRange, MonthInRange}
+use Rattle.rule.specs.Counts.{SolsticeYearInRange, CivilYearInRange, MonthInRange}
 use Rattle.rule.specs.Reasons.{Answer, is, refused, guard, within}
 use Rattle.rule.proofs.Answers.{within-true, at-most, passes, holds-all, then-iff, test-iff, one-refused, two-first, two-second, turned, under}
 use Rattle.facts.specs.Facts.{
@@ -38,7 +38,7 @@ module _ {A P : Type 0} (t : Bool) (k : ℕ) (x : A) (e : (t ≡ true) ↔ P) wh
   one-reason = turned (one-refused t k x e)
 
 -- two guards, one after the other
-module _ {A P Q : Type 0} (t s : Bool) (k j : ℕ) (l : k < j) (x : A) (e : (t ≡ true) ↔ P) (f : (s ≡ true) ↔ Q) where
+module _ {A P Q : Type 0} (t s : Bool) (k j : ℕ) (l : k ≡ j → ⊥) (x : A) (e : (t ≡ true) ↔ P) (f : (s ≡ true) ↔ Q) where
   pub two-literally : (L : Type 0) (a : A) → (P → (x ≡ a) ↔ L) → (is a ≡ guard t k (guard s j (is x))) ↔ (P × Q × L)
   two-literally L a g = (λ p. let h = both .0 p in (h .0, h .1 .0, h .1 .1), λ h. both .1 (h .0, (h .1, h .2)))
     where
@@ -59,9 +59,9 @@ pub solstice-year-given : (y : ℕ) → SolsticeYearInRange y → solsticeYearAt
 unfolding solsticeYearAt
 solstice-year-given y h = passes (within 1 41040 y) 1 (is (solsticeYear y)) (within-true 1 41040 y .1 h)
 
-pub year-given : (y : ℕ) → SolsticeYearInRange y → yearFactsAt y ≡ is (yearFacts y)
+pub year-given : (y : ℕ) → CivilYearInRange y → yearFactsAt y ≡ is (yearFacts y)
 unfolding yearFactsAt
-year-given y h = passes (within 1 41040 y) 1 (is (yearFacts y)) (within-true 1 41040 y .1 h)
+year-given y h = passes (leb y 41040) 1 (is (yearFacts y)) (at-most y 41040 .1 h)
 
 pub month-given : (n : ℕ) → MonthInRange n → monthFactsAt n ≡ is (monthFacts n)
 unfolding monthFactsAt

@@ -16,6 +16,8 @@ use Rattle.rule.specs.Rule.{
   solsticeFirstMonth,
   leapRemainder,
   monthsInSolsticeYear,
+  civilFirstMonth,
+  monthsInCivilYear,
   monthAt,
 }
 use Rattle.rule.specs.Rule as Rule
@@ -35,7 +37,7 @@ pub solstice-year-made : (y : ℕ) {j b i h f l m : ℕ} →
 unfolding solsticeYear
 solstice-year-made y p q r s t u v = cc
 
-pub year-made : (y : ℕ) {n f m : ℕ} {l : LeapMonth} → n ≡ yearName y → f ≡ solsticeFirstMonth y → m ≡ monthsInSolsticeYear y → l ≡ leapMonth y →
+pub year-made : (y : ℕ) {n f m : ℕ} {l : LeapMonth} → n ≡ yearName y → f ≡ civilFirstMonth y → m ≡ monthsInCivilYear y → l ≡ leapMonth y →
     record { name = n; «first_month» = f; months = m; «leap_month» = l } ≡ yearFacts y
 unfolding yearFacts
 year-made y p q r s = cc

@@ -73,8 +73,8 @@ reasons-of-facts =
           record {
             place-one = one-reason (within 1 41040 y) 1 (solsticeYear y) (within-true 1 41040 y);
             place-only = λ why. one-only why (within 1 41040 y) 1 (solsticeYear y);
-            own-one = one-reason (within 1 41040 y) 1 (yearFacts y) (within-true 1 41040 y);
-            own-only = λ why. one-only why (within 1 41040 y) 1 (yearFacts y);
+            own-one = one-reason (leb y 41040) 1 (yearFacts y) (at-most y 41040);
+            own-only = λ why. one-only why (leb y 41040) 1 (yearFacts y);
           };
       months = λ n.
           record {
@@ -134,7 +134,7 @@ solstice-year y s =
 
 pub year-facts : Paper.Year-facts
 unfolding yearFactsAt
-year-facts y f = one-literally (within 1 41040 y) 1 (yearFacts y) (within-true 1 41040 y) (Paper.IsYearFacts y f) f (λ h. year-exactly y (h .0) f)
+year-facts y f = one-literally (leb y 41040) 1 (yearFacts y) (at-most y 41040) (Paper.IsYearFacts y f) f (λ h. year-exactly y h f)
 
 pub month-by-count : Paper.Month-by-count
 unfolding monthFactsAt

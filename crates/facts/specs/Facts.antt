@@ -16,15 +16,15 @@ use Rattle.rule.specs.Rule.{
   solsticeFirstMonth,
   leapRemainder,
   monthsInSolsticeYear,
-  civilFirstMonth,
-  monthsInCivilYear,
   leap,
   monthNumber,
   monthAt,
+  civilFirstMonth,
+  monthsInCivilYear,
   eclipse,
 }
 use Rattle.rule.specs.Reasons.{Answer, is, guard, within}
-use Rattle.rule.specs.Paper.{civilMonthsOf}
+use Rattle.rule.specs.Civil.{civilMonthsOf}
 use Rattle.rule.specs.declared.Quarter.{Quarter}
 use Rattle.rule.specs.declared.Term.{Term}
 use Rattle.facts.specs.declared.SolsticeYear.{SolsticeYear}
@@ -68,7 +68,7 @@ yearFacts y =
     }
 
 unfoldable pub yearFactsAt : ℕ → Answer YearFacts
-yearFactsAt y = guard (within 1 41040 y) 1 (is (yearFacts y))
+yearFactsAt y = guard (leb y 41040) 1 (is (yearFacts y))
 
 -- a month by its count
 unfoldable pub monthFacts : ℕ → MonthFacts

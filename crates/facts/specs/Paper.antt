@@ -31,7 +31,7 @@ use Rattle.facts.specs.declared.TermTold.{TermTold}
 use Rattle.facts.specs.declared.TermTold.the-variants as Term'
 use Rattle.facts.specs.Promises.{saidTerm, SolsticeYearFacts, YearOwnFacts, MonthByCount, QuarterOfMonth, TermOfYear}
 
--- "Year Y begins with the month count that is the whole part of 235 × (Y − 1) divided by 19; the rest is its leap remainder. It has
+-- of the solstice year: "Year Y begins with the month count that is the whole part of 235 × (Y − 1) divided by 19; the rest is its leap remainder. It has
 -- 13 months exactly when that is 12 or more, else 12."
 pub record YearBegins (y first rest months : ℕ) : Type 0 where
   pub begins : 19 * first + rest ≡ 235 * elapsed y
@@ -57,11 +57,16 @@ pub record LeapMonthOf (y : ℕ) (l : LeapMonth) : Type 0 where
   pub with-one : (k n : ℕ) → (l ≡ With k n) ↔ (InCivilYear y n × IsMonth n (Leap k))
   pub without : (l ≡ Without) ↔ ((n : ℕ) → InCivilYear y n → NoMidTerm n → ⊥)
 
--- what a civil year's own facts are: its name, the months that it lists, by its leap remainder, and its leap month
+-- "A civil year opens with its own month 1 (year 0 with month 11) and has the months up to the next": so many from the first on
+pub record YearOpens (y first months : ℕ) : Type 0 where
+  pub month-1 : 1 ≤ y → IsMonth first (Ordinary 1)
+  pub month-11 : y ≡ 0 → IsMonth first (Ordinary 11)
+  pub the-months : (n : ℕ) → InCivilYear y n ↔ ((first ≤ n) × (n < first + months))
+
+-- what a civil year's own facts are: its name, the months that it lists, and its leap month
 pub record IsYearFacts (y : ℕ) (f : YearFacts) : Type 0 where
   pub its-name : f .name ≡ yearName y
-  pub rest : ℕ
-  pub its-months : YearBegins y (f .«first_month») rest (f .months)
+  pub its-months : YearOpens y (f .«first_month») (f .months)
   pub its-leap-month : LeapMonthOf y (f .«leap_month»)
 
 abbrev pub Year-facts : Type 0
@@ -111,7 +116,7 @@ Term-as-before = (y k : ℕ) (a : TermTold) → TermOfYear y k a → andThen (sa
 abbrev pub Mid-term-even : Type 0
 Mid-term-even = (y j : ℕ) (r : Term) → TermOfYear y (2 * j) (Term'.Is r) → r .parts % 2 ≡ 0
 
--- reason 1, "year outside 1 to 41,040", and no other, for both calls of a year
+-- reason 1 and no other, for both calls of a year: a solstice year outside 1 to 41,040, a civil year outside 0 to 41,040
 pub record YearReasons (y : ℕ) : Type 0 where
   pub place-one : SolsticeYearFacts y (Solstice'.Refused NoSuchYear) ↔ (SolsticeYearInRange y → ⊥)
   pub place-only : (why : Reason) → SolsticeYearFacts y (Solstice'.Refused why) → why ≡ NoSuchYear

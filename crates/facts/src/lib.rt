@@ -143,7 +143,7 @@ pub fn year_facts_at(year: u16) -> YearFacts
 pub fn year_facts(year: u32) -> YearTold
     ensures { λ r. ⌜ YearOwnFacts year r ⌝ }
 {
-    if !rule::in_range(1, 41040, year) {
+    if 41040 < year {
         return YearTold::Refused(Reason::NoSuchYear);
     }
     YearTold::Is(year_facts_at(year as u16))

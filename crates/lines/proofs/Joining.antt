@@ -4,7 +4,7 @@ use native.Mathlib.Omega.{arith}
 use mathlib.Core.Path.{_≡_, ap}
 use mathlib.Core.List.{List, [], _∷_, _++_, append-assoc}
 use Rattle.rule.specs.Counts.{CivilYearInRange}
-use Rattle.rule.proofs.Years.{first-step, first-next, first-end}
+use Rattle.rule.proofs.CivilYears.{civil-end}
 use Rattle.facts.specs.declared.YearFacts.{YearFacts}
 use Rattle.facts.specs.Facts.{yearFacts}
 use Rattle.fields.specs.Fields.{decimal, Put}
@@ -23,6 +23,4 @@ unfolding yearFacts
 months-listed y h f e =
     let a = ap (λ (g : YearFacts). g .«first_month») e in
     let b = ap (λ (g : YearFacts). g .months) e in
-    let s = first-step y (h .0) in
-    let n = first-next y (h .0) in
-    (omega (arith, a, b, n, first-end (y + 1) (omega (arith, h .1))), omega (arith, b, n, s .1))
+    (omega (arith, a, b, civil-end y h), omega (arith, b, civil-end y h))

@@ -156,7 +156,7 @@ fn hand_over(s: &[u8], out: &mut [u8]) -> HowMany
 pub fn print_year(year: u32, out: &mut [u8]) -> HowMany
     ensures { λ r. ⌜ PrintYear year (now (out .entry)) r (now (out .exit)) ⌝ }
 {
-    if !rule::in_range(1, 41040, year) {
+    if 41040 < year {
         return HowMany::Refused(Reason::NoSuchYear);
     }
     let mut space = [0u8; 674];

@@ -12,7 +12,7 @@ use Rattle.rule.specs.Rule.{monthStart, monthLength, monthOfDay, civilYearOfMon
 use Rattle.rule.specs.Reasons.{Answer, is, refused, refused-with, reasonNumber, reasonOf}
 use Rattle.rule.specs.declared.Reason.{Reason}
 use Rattle.rule.proofs.Months
-use Rattle.rule.proofs.Years
+use Rattle.rule.proofs.CivilYears
 use Rattle.rule.proofs.Counts
 use Rattle.rule.proofs.Leap as Leaps
 use Rattle.rule.proofs.Answers.{given-not, reason-back}
@@ -143,11 +143,11 @@ later d =
       month = ap monthAt e ∙ Leaps.month-shift 1 (monthOfDay d);
       day-of-month = ap (λ (n : ℕ). d + 27759 - monthStart n + 1) e ∙ omega (arith, Months.start-shift 1 (monthOfDay d), Months.of-day-low d);
       month-length = ap monthLength e ∙ Months.length-shift 1 (monthOfDay d);
-      year = omega (arith, ap civilYearOfMonth e, Years.of-month-shift 1 (monthOfDay d));
+      year = omega (arith, ap civilYearOfMonth e, CivilYears.civil-shift 1 (monthOfDay d));
       day-name = Counts.day-name-further 1 d;
       year-name =
           ap (λ (n : ℕ). yearName (civilYearOfMonth n)) e
-          ∙ ap yearName (Years.of-month-shift 1 (monthOfDay d))
+          ∙ ap yearName (CivilYears.civil-shift 1 (monthOfDay d))
           ∙ Counts.year-name-further 1 (civilYearOfMonth (monthOfDay d));
     }
   where
@@ -172,16 +172,16 @@ pub wrong-moves : Paper.Wrong-moves
 unfolding dateOf dateIn dayName
 wrong-moves =
     record {
-      refusing-all = λ why h. given-not (moved 1 11 false 1 (pos 0)) (dateOf 0) (reasonNumber why) (by 0 (omega arith)) (sym h);
+      refusing-all = λ why h. given-not (moved 0 11 false 1 (pos 0)) (dateOf 0) (reasonNumber why) (by 0 (omega arith)) (sym h);
       never-moving = λ a p q.
           let e : _≡_ {A = Answer Date} (is (dateOf 0)) (is (dateOf 27759)) = sym (by 0 (omega arith)) ∙ sym p ∙ q ∙ by 27759 (omega arith) in
           let f : dateOf 0 ≡ dateOf 27759 = cc in
           omega (arith, ap (λ (s : Date). s .«day_name») f);
-      wrapping-back = λ r h. given-not (moved 1 11 false 1 (negsuc 0)) r 8 (sym h) (Landing.moved-found 1 11 false 1 (negsuc 0) 0 Cases.first-date);
+      wrapping-back = λ r h. given-not (moved 0 11 false 1 (negsuc 0)) r 8 (sym h) (Landing.moved-found 0 11 false 1 (negsuc 0) 0 Cases.first-date);
       wrapping-on = λ r h.
           given-not (moved 41040 10 true 30 (pos 1)) r 8 (sym h)
           (Landing.moved-found 41040 10 true 30 (pos 1) 14989859 Cases.last-date ∙ Landing.lands-out 14989860 (omega arith));
     }
   where
-    by : (n : ℕ) → DayInRange (0 + n) → moved 1 11 false 1 (pos n) ≡ is (dateOf (0 + n))
-    by n h = Landing.moved-found 1 11 false 1 (pos n) 0 Cases.first-date ∙ Landing.lands (0 + n) h
+    by : (n : ℕ) → DayInRange (0 + n) → moved 0 11 false 1 (pos n) ≡ is (dateOf (0 + n))
+    by n h = Landing.moved-found 0 11 false 1 (pos n) 0 Cases.first-date ∙ Landing.lands (0 + n) h

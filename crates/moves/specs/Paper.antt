@@ -69,7 +69,7 @@ Unique-move = (y k : ℕ) (l : Bool) (m : ℕ) (n : ℤ) (a b : Dated) → MoveD
 -- by 27,759 having one answer; one that wraps: "Day −1 does not exist: moving there is reason 8", nor does a day after the last, whose
 -- date is year 41,040, leap 10, day 30
 pub record Wrong-moves : Type 0 where
-  pub refusing-all : (why : Reason) → MoveDate 1 11 false 1 (pos 0) (Dated'.Refused why) → ⊥
-  pub never-moving : (a : Dated) → MoveDate 1 11 false 1 (pos 0) a → MoveDate 1 11 false 1 (pos 27759) a → ⊥
-  pub wrapping-back : (r : Date) → MoveDate 1 11 false 1 (negsuc 0) (Dated'.Is r) → ⊥
+  pub refusing-all : (why : Reason) → MoveDate 0 11 false 1 (pos 0) (Dated'.Refused why) → ⊥
+  pub never-moving : (a : Dated) → MoveDate 0 11 false 1 (pos 0) a → MoveDate 0 11 false 1 (pos 27759) a → ⊥
+  pub wrapping-back : (r : Date) → MoveDate 0 11 false 1 (negsuc 0) (Dated'.Is r) → ⊥
   pub wrapping-on : (r : Date) → MoveDate 41040 10 true 30 (pos 1) (Dated'.Is r) → ⊥

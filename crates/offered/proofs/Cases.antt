@@ -79,7 +79,7 @@ pub year-11 :
     ≡ record {
       reason = 0;
       name = 27;
-      «first_month» = 123;
+      «first_month» = 125;
       months = 13;
       «has_leap» = true;
       «leap_number» = 9;

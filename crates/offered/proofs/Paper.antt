@@ -477,7 +477,7 @@ wrong-exported =
       refusing-month-items = λ o r o′ h p. no-refusal (λ (x : CLength). x .reason) (text-said month-134 o h p) refl;
       refusing-day-items = λ o r o′ h p. no-refusal (λ (x : CLength). x .reason) (text-said day-0 o h p) refl;
       one-date = λ r p q. not-alike (λ (x : CDate). x .«day_of_month») p q (λ e. let f : _≡_ {A = ℕ} 29 1 = e in omega arith);
-      never-moving = λ r p q. not-alike (λ (x : CDate). x .year) p q (λ e. let f : _≡_ {A = ℕ} 1 77 = e in omega arith);
+      never-moving = λ r p q. not-alike (λ (x : CDate). x .year) p q (λ e. let f : _≡_ {A = ℕ} 0 76 = e in omega arith);
       filling-none = λ a p. unlike 0 (p .lent) (λ e. let f : _≡_ {A = ℕ} 5 0 = e in omega arith);
       copying-first = λ a p. unlike 1 (p .lent) (λ e. let f : _≡_ {A = ℕ} 0 1 = e in omega arith);
       first-alone = λ a p. unlike 1 (p .lent) (λ e. let f : _≡_ {A = ℕ} 5 1 = e in omega arith);

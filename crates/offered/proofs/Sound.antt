@@ -25,11 +25,12 @@ use Rattle.rule.specs.declared.Reason.the-variants.{
   BytesAfterLast,
   LentTooShort,
   NoSuchTermOrQuarter,
+  NoSuchNumberInYear,
   NoSuchPlanet,
   NoConjunctionLeft,
 }
 use Rattle.rule.proofs.Answers.{reason-back}
-use Rattle.dates.specs.Dates.{dateOf, dateAt, monthAsked, isThere, dayInMonth, dayOfNamed, dayOfDate}
+use Rattle.dates.specs.Dates.{dateOf, dateAt, monthAsked, isThere, dayInMonth, dayOfNamed, dayOfDate, numberThere, midTermOf}
 use Rattle.moves.specs.Moves.{landed, moved}
 use Rattle.facts.specs.Facts.{
   solsticeYear,
@@ -105,15 +106,16 @@ in-month-sound : (n m : ℕ) → Sound (dayInMonth n m)
 unfolding dayInMonth
 in-month-sound n m = guarded (leb m (monthLength n)) NoThirtiethDay (given (monthStart n + (m - 1)))
 
-named-sound : (y k : ℕ) (l : Bool) (m : ℕ) → Sound (dayOfNamed y k l m)
+named-sound : (t : ℕ) (l : Bool) (m : ℕ) → Sound (dayOfNamed t l m)
 unfolding dayOfNamed
-named-sound y k l m = guarded (isThere y k l) NoSuchLeapMonth (in-month-sound (monthAsked y k l) m)
+named-sound t l m = guarded (isThere t l) NoSuchLeapMonth (in-month-sound (monthAsked t l) m)
 
 pub day-sound : (y k : ℕ) (l : Bool) (m : ℕ) → Sound (dayOfDate y k l m)
 unfolding dayOfDate
 day-sound y k l m =
-    guarded (within 1 41040 y) NoSuchYear
-    (guarded (within 1 12 k) NoSuchMonthNumber (guarded (within 1 30 m) NoSuchDayOfMonth (named-sound y k l m)))
+    guarded (leb y 41040) NoSuchYear
+    (guarded (within 1 12 k) NoSuchMonthNumber
+    (guarded (within 1 30 m) NoSuchDayOfMonth (guarded (numberThere y k) NoSuchNumberInYear (named-sound (midTermOf y k) l m))))
 
 landed-sound : (n : ℤ) → Sound (landed n)
 landed-sound (pos d) = guarded (leb d 14989859) MoveOutOfRange (given (dateOf d))
@@ -130,7 +132,7 @@ solstice-sound y = guarded (within 1 41040 y) NoSuchYear (given (solsticeYear y)
 
 pub year-sound : (y : ℕ) → Sound (yearFactsAt y)
 unfolding yearFactsAt
-year-sound y = guarded (within 1 41040 y) NoSuchYear (given (yearFacts y))
+year-sound y = guarded (leb y 41040) NoSuchYear (given (yearFacts y))
 
 pub month-sound : (n : ℕ) → Sound (monthFactsAt n)
 unfolding monthFactsAt
@@ -242,7 +244,7 @@ write-sound l n =
 -- printed lines
 pub year-printed-sound : (y n : ℕ) → Sound (yearBlockAt y n)
 unfolding yearBlockAt
-year-printed-sound y n = guarded (within 1 41040 y) NoSuchYear (in-room n (yearBlock y))
+year-printed-sound y n = guarded (leb y 41040) NoSuchYear (in-room n (yearBlock y))
 
 pub line-printed-sound : (m n : ℕ) → Sound (monthLineAt m n)
 unfolding monthLineAt

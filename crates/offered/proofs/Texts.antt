@@ -48,7 +48,7 @@ lines : ℕ
 unfolding digits decimal followed rule-computed
 lines = 0
 
-pub year-11 : Text (yearBlockAt 11) 235
+pub year-11 : Text (yearBlockAt 11) 236
 unfolding yearBlockAt yearBlock monthLined each lines facts-computed
 year-11 = record { text = yearBlock 11; into = λ k. refl; has = refl; begins = λ e. let f : _≡_ {A = ℕ} 89 0 = e in omega arith }
 

@@ -335,8 +335,8 @@ Unwritten P x n = (o : List ℕ) (r : CLength) → n ≤ length o → getD o 0 0
 -- where it is refused with 12
 pub record Wrong-exported : Type 0 where
   pub refusing-days : (r : CDate) → CDateOfDay 0 r → r .reason ≢ 0 → ⊥
-  pub refusing-dates : (r : CDay) → CDayOfDate 1 11 false 1 r → r .reason ≢ 0 → ⊥
-  pub refusing-moves : (r : CDate) → CMoveDate 1 11 false 1 (pos 0) r → r .reason ≢ 0 → ⊥
+  pub refusing-dates : (r : CDay) → CDayOfDate 0 11 false 1 r → r .reason ≢ 0 → ⊥
+  pub refusing-moves : (r : CDate) → CMoveDate 0 11 false 1 (pos 0) r → r .reason ≢ 0 → ⊥
   pub refusing-solstices : (r : CSolstice) → CSolsticeYear 1 r → r .reason ≢ 0 → ⊥
   pub refusing-years : (r : CYear) → CYearFacts 11 r → r .reason ≢ 0 → ⊥
   pub refusing-months : (r : CMonth) → CMonthFacts 134 r → r .reason ≢ 0 → ⊥
@@ -348,12 +348,12 @@ pub record Wrong-exported : Type 0 where
   pub refusing-searches : (a : CFound) (new : List ℕ) → CSearch nothingRead 0 0 (5 ∷ []) a new → a .reason ≢ 0 → ⊥
   pub refusing-sheets : (r : CSheetCounts) (y m d : List ℕ) → CReadSheet emptySheet [] [] [] r y m d → r .reason ≢ 0 → ⊥
   pub refusing-lists : (r : CLength) (o : List ℕ) → CWriteSheet [] [] [] (replicate 6 0) r o → r .reason ≢ 0 → ⊥
-  pub refusing-year-blocks : Refusing CPrintYear 11 235
+  pub refusing-year-blocks : Refusing CPrintYear 11 236
   pub refusing-month-lines : Refusing CPrintMonthLine 134 16
   pub refusing-month-items : Refusing CPrintMonth 134 22
   pub refusing-day-items : Refusing CPrintDay 0 17
   pub one-date : (r : CDate) → CDateOfDay 28 r → CDateOfDay 29 r → ⊥
-  pub never-moving : (r : CDate) → CMoveDate 1 11 false 1 (pos 0) r → CMoveDate 1 11 false 1 (pos 27759) r → ⊥
+  pub never-moving : (r : CDate) → CMoveDate 0 11 false 1 (pos 0) r → CMoveDate 0 11 false 1 (pos 27759) r → ⊥
   pub filling-none : (a : CFound) → CSearch nothingRead 0 0 (5 ∷ []) a (5 ∷ []) → ⊥
   pub copying-first : (a : CFound) → CSearch nothingRead 0 1 (5 ∷ 5 ∷ []) a (0 ∷ 0 ∷ []) → ⊥
   pub first-alone : (a : CFound) → CSearch nothingRead 0 1 (5 ∷ 5 ∷ []) a (0 ∷ 5 ∷ []) → ⊥
@@ -370,7 +370,7 @@ pub record Wrong-exported : Type 0 where
   pub writing-none :
       (r : CLength) →
       CWriteSheet (11 ∷ []) [] [] (replicate 8 0) r (replicate 8 0) → ⊥
-  pub unwritten-year-blocks : Unwritten CPrintYear 11 235
+  pub unwritten-year-blocks : Unwritten CPrintYear 11 236
   pub unwritten-month-lines : Unwritten CPrintMonthLine 134 16
   pub unwritten-month-items : Unwritten CPrintMonth 134 22
   pub unwritten-day-items : Unwritten CPrintDay 0 17
@@ -395,7 +395,7 @@ pub record Wrong-low-bits : Type 0 where
   pub years-of-moves : LowBits 4294967296 (λ y. CMoveDate y 11 false 1 (pos 0)) 1
   pub numbers-of-moves : LowBits 4294967296 (λ k. CMoveDate 1 k false 1 (pos 0)) 11
   pub days-of-moves : LowBits 4294967296 (λ m. CMoveDate 1 11 false m (pos 0)) 1
-  pub moves : LowBits 4294967296 (λ n. CMoveDate 1 11 false 1 (pos n)) 0
+  pub moves : LowBits 4294967296 (λ n. CMoveDate 0 11 false 1 (pos n)) 0
   pub solstices : LowBits 4294967296 CSolsticeYear 1
   pub years : LowBits 4294967296 CYearFacts 1
   pub months : LowBits 4294967296 CMonthFacts 0
@@ -410,13 +410,13 @@ pub record Wrong-low-bits : Type 0 where
   pub planets-of-pairs : LowBits 256 CReducedPair 1
   pub first-days : LowBitsFound (λ d. CSearch nothingRead d 0) 0
   pub last-days : LowBitsFound (CSearch nothingRead 0) 0
-  pub year-names : LowBitsFound (λ v. CSearch (slip true v 11 1 1 1 1) 0 0) 17
-  pub month-numbers : LowBitsFound (λ v. CSearch (slip true 17 v 1 1 1 1) 0 0) 11
-  pub leap-marks : LowBitsFound (λ v. CSearch (slip true 17 11 v 1 1 1) 0 0) 1
-  pub days-of-month : LowBitsFound (λ v. CSearch (slip true 17 11 1 v 1 1) 0 0) 1
-  pub day-names : LowBitsFound (λ v. CSearch (slip true 17 11 1 1 v 1) 0 0) 1
-  pub first-names : LowBitsFound (λ v. CSearch (slip true 17 11 1 1 1 v) 0 0) 1
-  pub year-blocks : LowBitsPrinted CPrintYear 11 235
+  pub year-names : LowBitsFound (λ v. CSearch (slip true v 11 1 1 1 1) 0 0) 16
+  pub month-numbers : LowBitsFound (λ v. CSearch (slip true 16 v 1 1 1 1) 0 0) 11
+  pub leap-marks : LowBitsFound (λ v. CSearch (slip true 16 11 v 1 1 1) 0 0) 1
+  pub days-of-month : LowBitsFound (λ v. CSearch (slip true 16 11 1 v 1 1) 0 0) 1
+  pub day-names : LowBitsFound (λ v. CSearch (slip true 16 11 1 1 v 1) 0 0) 1
+  pub first-names : LowBitsFound (λ v. CSearch (slip true 16 11 1 1 1 v) 0 0) 1
+  pub year-blocks : LowBitsPrinted CPrintYear 11 236
   pub month-lines : LowBitsPrinted CPrintMonthLine 134 16
   pub month-items : LowBitsPrinted CPrintMonth 134 22
   pub day-items : LowBitsPrinted CPrintDay 0 17

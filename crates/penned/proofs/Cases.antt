@@ -19,8 +19,8 @@ unfoldable pub year-lines : ℕ
 unfolding yearBlock monthLined each month-lines facts-computed
 year-lines = 0
 
--- the year 0 into no bytes at all: 1 comes before 12
-pub one-first : yearBlockAt 0 0 ≡ refused 1
+-- the year 41,041 into no bytes at all: 1 comes before 12
+pub one-first : yearBlockAt 41041 0 ≡ refused 1
 unfolding yearBlockAt year-lines
 one-first = refl
 
@@ -33,7 +33,7 @@ pub month-134 : monthItemAt 134 300 ≡ is (inLines (word "MONTH 134 9 L 58 29 E
 unfolding monthItemAt monthItem month-lines
 month-134 = refl
 
-pub day-0 : dayItemAt 0 300 ≡ is (inLines (word "DAY 0 1 11 - 1 1" ∷ []))
+pub day-0 : dayItemAt 0 300 ≡ is (inLines (word "DAY 0 0 11 - 1 1" ∷ []))
 unfolding dayItemAt dayItem month-lines dates-computed
 day-0 = refl
 

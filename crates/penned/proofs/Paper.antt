@@ -10,11 +10,11 @@ use lib.ListN.{length, getD}
 use borrow.Author.Tests.{leb-true}
 use Rattle.rule.specs.Rule.{monthOfDay}
 use Rattle.rule.specs.Lists.{placed}
-use Rattle.rule.specs.Reasons.{Answer, is, refused, guard, within, andThen, reasonNumber, intoRoom, afterwards}
+use Rattle.rule.specs.Reasons.{Answer, is, refused, guard, andThen, reasonNumber, intoRoom, afterwards}
 use Rattle.rule.specs.declared.Reason.{Reason}
 use Rattle.rule.specs.declared.Reason.the-variants.{NoSuchYear, NoSuchMonth, NoSuchDay, LentTooShort}
 use Rattle.rule.proofs.Leap.{mark-at, number-at}
-use Rattle.rule.proofs.Answers.{reason-back, within-true, holds-all, at-most, two-given, two-first, two-second, given-not, two-only}
+use Rattle.rule.proofs.Answers.{reason-back, holds-all, at-most, two-given, two-first, two-second, given-not, two-only}
 use Rattle.dates.specs.Dates.{dateIn, dateOf}
 use Rattle.facts.specs.Facts.{monthFacts, yearFacts}
 use Rattle.sheet.specs.declared.HowMany.{HowMany}
@@ -120,7 +120,7 @@ pub rest-untouched : Paper.Rest-untouched
 unfolding yearBlockAt monthLineAt monthItemAt dayItemAt
 rest-untouched =
     record {
-      year = λ y o. text-in-front (within 1 _ y) 1 (yearBlock y) o;
+      year = λ y o. text-in-front (leb y _) 1 (yearBlock y) o;
       month-line = λ n o. text-in-front (leb n _) 7 (monthLined n) o;
       month = λ n o. text-in-front (leb n _) 7 (monthItem n) o;
       day = λ d o. text-in-front (leb d _) 6 (dayItem d) o;
@@ -130,7 +130,7 @@ pub reasons-of-printing : Paper.Reasons-of-printing
 unfolding yearBlockAt monthLineAt monthItemAt dayItemAt
 reasons-of-printing =
     record {
-      year = λ y o. of-text (within 1 _ y) NoSuchYear (omega arith) (yearBlock y) o (years-to y (omega arith));
+      year = λ y o. of-text (leb y _) NoSuchYear (omega arith) (yearBlock y) o (to y (omega arith));
       month-line = λ m o. of-text (leb m _) NoSuchMonth (omega arith) (monthLined m) o (to m (omega arith));
       month = λ m o. of-text (leb m _) NoSuchMonth (omega arith) (monthItem m) o (to m (omega arith));
       day = λ d o. of-text (leb d _) NoSuchDay (omega arith) (dayItem d) o (to d (omega arith));
@@ -140,13 +140,10 @@ reasons-of-printing =
     to : (x : ℕ) {k n : ℕ} → k ≡ n → (leb x k ≡ true) ↔ (x ≤ n)
     to x {k} e = subst (λ (n : ℕ). (leb x k ≡ true) ↔ (x ≤ n)) e (at-most x k)
 
-    years-to : (x : ℕ) {k n : ℕ} → k ≡ n → (within 1 k x ≡ true) ↔ ((1 ≤ x) × (x ≤ n))
-    years-to x {k} e = subst (λ (n : ℕ). (within 1 k x ≡ true) ↔ ((1 ≤ x) × (x ≤ n))) e (within-true 1 k x)
-
     refusal : (a : Answer (List ℕ)) (o : List ℕ) (why : Reason) → Printed a o (HowMany'.Refused why) o ↔ (a ≡ refused (reasonNumber why))
     refusal a o why = (λ p. refused-of a length (reasonNumber why) (p .answer), printed-refused o why)
 
-    of-text : {There : Type 0} (t : Bool) (why : Reason) → reasonNumber why < 12 → (text o : List ℕ) → ((t ≡ true) ↔ There) →
+    of-text : {There : Type 0} (t : Bool) (why : Reason) → (reasonNumber why ≡ 12 → ⊥) → (text o : List ℕ) → ((t ≡ true) ↔ There) →
         Paper.PrintReasons There why text o (Printed (guard t (reasonNumber why) (intoRoom (length o) text)) o)
     of-text t why l text o e =
         let k : ℕ = reasonNumber why in

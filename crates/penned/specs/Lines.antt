@@ -23,6 +23,7 @@ use Rattle.rule.specs.declared.Reason.the-variants.{
   BadWindow,
   FieldOutOfRange,
   NoSuchTermOrQuarter,
+  NoSuchNumberInYear,
   NoSuchPlanet,
   NoConjunctionLeft,
 }
@@ -104,7 +105,7 @@ listing s = printed (readSheet s)
 
 -- the words of the reasons, as the paper's table and request W11 have them
 abbrev pub wordsOf : Reason → List ℕ
-wordsOf NoSuchYear = word "year outside 1 to 41,040"
+wordsOf NoSuchYear = word "year outside its range"
 wordsOf NoSuchMonthNumber = word "month number outside 1 to 12"
 wordsOf NoSuchDayOfMonth = word "day of month outside 1 to 30"
 wordsOf NoSuchLeapMonth = word "leap month asked and that year has none of that number"
@@ -113,11 +114,12 @@ wordsOf NoSuchDay = word "day count outside the range"
 wordsOf NoSuchMonth = word "month count outside the range"
 wordsOf MoveOutOfRange = word "a move ends outside the range"
 wordsOf SheetEndsEarly = word "sheet ends before a count or an item is whole"
-wordsOf CountTooLarge = word "a count above 1,000"
+wordsOf CountTooLarge = word "a count above its most"
 wordsOf BytesAfterLast = word "bytes after the last section"
 wordsOf LentTooShort = word "a lent list or buffer too short for the whole answer"
-wordsOf BadWindow = word "window's last day before its first, or more than 27,759 days"
+wordsOf BadWindow = word "last before first, or a window of more than 27,759 days"
 wordsOf FieldOutOfRange = word "a known field of a reading outside its range"
-wordsOf NoSuchTermOrQuarter = word "term above 23 or quarter above 3"
+wordsOf NoSuchTermOrQuarter = word "term, mid-term or quarter above its last"
+wordsOf NoSuchNumberInYear = word "no such month number in that year"
 wordsOf NoSuchPlanet = word "planet outside 1 to 5"
 wordsOf NoConjunctionLeft = word "no conjunction falls from the given day to the end of the range"

@@ -8,7 +8,7 @@ use mathlib.Core.List.{List, [], _∷_, _++_}
 use lib.ListN.{length, replicate}
 use Rattle.rule.specs.Counts.{CivilYearInRange, MonthInRange, DayInRange, dayName, yearName}
 use Rattle.rule.specs.Rule.{monthStart, monthLength, monthOfDay, monthsInCivilYear, civilYearOfMonth, leap, monthNumber, eclipse}
-use Rattle.rule.specs.Paper.{civilMonthsOf}
+use Rattle.rule.specs.Civil.{civilMonthsOf}
 use Rattle.rule.specs.Reasons.{is, refused}
 use Rattle.rule.specs.declared.Reason.{Reason}
 use Rattle.rule.specs.declared.Reason.the-variants.{NoSuchYear, NoSuchMonth, NoSuchDay, LentTooShort}
@@ -33,13 +33,12 @@ unfoldable pub inLines : List (List ℕ) → List ℕ
 inLines [] = []
 inLines (l ∷ ls) = l ++ (10 ∷ inLines ls)
 
--- "For the sheet with year 11 alone .., all of it is:"
+-- "For the sheet with year 11 alone .., all of it is:", and "Listing year 11 gives months 125 to 137" (W4): the paper's lines from month 125
+-- on, and those of the two months that close the year
 abbrev pub exampleOf11 : List ℕ
 exampleOf11 =
     inLines
     (word "YEAR 11 NAME 27 MONTHS 13"
-    ∷ word "123 11 - 33 29 E"
-    ∷ word "124 12 - 2 30 -"
     ∷ word "125 1 - 32 29 -"
     ∷ word "126 2 - 1 30 -"
     ∷ word "127 3 - 31 29 -"
@@ -51,6 +50,8 @@ exampleOf11 =
     ∷ word "133 9 - 28 30 -"
     ∷ word "134 9 L 58 29 E"
     ∷ word "135 10 - 27 30 -"
+    ∷ word "136 11 - 57 29 -"
+    ∷ word "137 12 - 26 30 -"
     ∷ [])
 
 abbrev pub Example-of-the-paper : Type 0

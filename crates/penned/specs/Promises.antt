@@ -5,14 +5,14 @@ use mathlib.Core.Path.{_≡_}
 use mathlib.Core.List.{List}
 use lib.Dec.{leb}
 use lib.ListN.{length}
-use Rattle.rule.specs.Reasons.{Answer, is, guard, within, andThen, intoRoom, afterwards}
+use Rattle.rule.specs.Reasons.{Answer, is, guard, andThen, intoRoom, afterwards}
 use Rattle.sheet.specs.declared.HowMany.{HowMany}
 use Rattle.sheet.specs.Promises.{saidHowMany}
 use Rattle.penned.specs.Lines.{monthLined, yearBlock, monthItem, dayItem}
 
 -- what does not exist comes first, 12 last
 unfoldable pub yearBlockAt : ℕ → ℕ → Answer (List ℕ)
-yearBlockAt y n = guard (within 1 41040 y) 1 (intoRoom n (yearBlock y))
+yearBlockAt y n = guard (leb y 41040) 1 (intoRoom n (yearBlock y))
 
 unfoldable pub monthLineAt : ℕ → ℕ → Answer (List ℕ)
 monthLineAt m n = guard (leb m 507599) 7 (intoRoom n (monthLined m))

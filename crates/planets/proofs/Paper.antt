@@ -17,6 +17,11 @@ use Rattle.rule.proofs.Answers.{
   at-most,
   holds-all,
   fails,
+  never-is,
+  fails-here,
+  fails-later,
+  two-first,
+  two-second,
   test-iff,
   one-refused,
   read-back,
@@ -115,13 +120,13 @@ unfolding conjunctionAt conjunctionOf
 conjunctions p k =
     record {
       given = λ c. (
-        λ e. let q = Refusing.given planet in-range 19 6 other it first second c .0 (sym e) in
+        λ e. let q = Refusing.given planet in-range 19 6 it first second c .0 (sym e) in
             (q .0, subst (λ (x : Conjunction). DayInRange (x .day)) (q .1 .1) (q .1 .0), Literal.conjunction-is p k c (q .0) .1 (sym (q .1 .1))),
         λ q. let e = Literal.conjunction-is p k c (q .0) .0 (q .2) in
-            sym (Refusing.given planet in-range 19 6 other it first second c .1 (q .0, (subst (λ (x : Conjunction). DayInRange (x .day)) e (q .1), sym e))),
+            sym (Refusing.given planet in-range 19 6 it first second c .1 (q .0, (subst (λ (x : Conjunction). DayInRange (x .day)) e (q .1), sym e))),
       );
-      nineteen = turned (Refusing.first planet in-range 19 6 other it first second);
-      six = turned (Refusing.second planet in-range 19 6 other it first second);
+      nineteen = turned (two-first planet in-range 19 6 other it first second);
+      six = turned (two-second planet in-range 19 6 other it first second);
       only = λ why. two-only why planet in-range 19 6 it;
     }
   where
@@ -229,18 +234,18 @@ nexts p d =
           (three
           (under (test-iff (holds-all (within 1 5 p) 19 (asked p d) n) planet)
           (λ h. under (test-iff (holds-all (leb d 14989859) 6 (left p d) n) day) (λ i. left-given p d n h))));
-      nineteen = turned (Iff·trans (Refusing.here (within 1 5 p) 19 (asked p d) no-nineteen) (fails (within 1 5 p) planet));
+      nineteen = turned (Iff·trans (fails-here (within 1 5 p) 19 (asked p d) no-nineteen) (fails (within 1 5 p) planet));
       six =
           turned
-          (under (test-iff (Refusing.further (within 1 5 p) 19 6 (asked p d) (λ e. omega (arith, e))) planet)
-          (λ h. Iff·trans (Refusing.here (leb d 14989859) 6 (left p d) no-six) (fails (leb d 14989859) day)));
+          (under (test-iff (fails-later (within 1 5 p) 19 6 (asked p d) (λ e. omega (arith, e))) planet)
+          (λ h. Iff·trans (fails-here (leb d 14989859) 6 (left p d) no-six) (fails (leb d 14989859) day)));
       only = λ why e.
           ⊎-elim inl (λ q. inr (two-only why (leb d 14989859) in-range 6 20 (found p d) q)) (from-guard why (within 1 5 p) 19 (asked p d) e);
       twenty =
           turned
           (three
-          (under (test-iff (Refusing.further (within 1 5 p) 19 20 (asked p d) (λ e. omega (arith, e))) planet)
-          (λ h. under (test-iff (Refusing.further (leb d 14989859) 6 20 (left p d) (λ e. omega (arith, e))) day)
+          (under (test-iff (fails-later (within 1 5 p) 19 20 (asked p d) (λ e. omega (arith, e))) planet)
+          (λ h. under (test-iff (fails-later (leb d 14989859) 6 20 (left p d) (λ e. omega (arith, e))) day)
           (λ i. Iff·trans (one-refused in-range 20 (found p d) (at-most first 14989859)) (none-left p d h)))));
     }
   where
@@ -257,12 +262,12 @@ nexts p d =
     day = at-most d 14989859
 
     no-six : left p d ≡ refused 6 → ⊥
-    no-six e = Refusing.is-none (found p d) 6 (Refusing.further in-range 20 6 (is (found p d)) (λ q. omega (arith, q)) .0 e .1)
+    no-six e = never-is 6 (found p d) (fails-later in-range 20 6 (is (found p d)) (λ q. omega (arith, q)) .0 e .1)
 
     no-nineteen : asked p d ≡ refused 19 → ⊥
     no-nineteen e =
-        let l = Refusing.further (leb d 14989859) 6 19 (left p d) (λ q. omega (arith, q)) .0 e .1 in
-        Refusing.is-none (found p d) 19 (Refusing.further in-range 20 19 (is (found p d)) (λ q. omega (arith, q)) .0 l .1)
+        let l = fails-later (leb d 14989859) 6 19 (left p d) (λ q. omega (arith, q)) .0 e .1 in
+        never-is 19 (found p d) (fails-later in-range 20 19 (is (found p d)) (λ q. omega (arith, q)) .0 l .1)
 
 pub next-is-a-conjunction : Paper.Next-is-a-conjunction
 unfolding conjunctionOf

@@ -139,9 +139,22 @@ pub leap-asked : answerTo (word "DATE 11 8 L 1") ≡ refusedText 4
 unfolding dating
 leap-asked = refl
 
-pub one-day-back : answerTo (word "MOVE 1 11 - 1 -1") ≡ refusedText 8
+pub one-day-back : answerTo (word "MOVE 0 11 - 1 -1") ≡ refusedText 8
 unfolding moving
 one-day-back = refl
+
+-- 16 "looks at the number alone: year 0 leap 5 is 16, year 0 leap 11 and leap 12 are 4; year 41,040 leap 11 is 16"
+pub number-of-year-0 : answerTo (word "DATE 0 5 L 1") ≡ refusedText 16
+unfolding dating
+number-of-year-0 = refl
+
+pub leap-11-of-year-0 : answerTo (word "DATE 0 11 L 1") ≡ refusedText 4
+unfolding dating
+leap-11-of-year-0 = refl
+
+pub number-of-year-41040 : answerTo (word "DATE 41040 11 L 1") ≡ refusedText 16
+unfolding dating
+number-of-year-41040 = refl
 
 -- "A number too large for its type is out of range and is refused by its own reason in its own order, not unreadable"
 pub year-too-large : answerTo (word "YEAR 99999999999") ≡ refusedText 1

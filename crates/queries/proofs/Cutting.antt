@@ -8,7 +8,7 @@ use lib.Dec.{leb}
 use lib.IntN.{ℤ, pos}
 use lib.ListN.{length, drop}
 use borrow.Author.Tests.{le-leb, lt-leb}
-use Rattle.rule.specs.Reasons.{is, guard, within}
+use Rattle.rule.specs.Reasons.{is, guard}
 use Rattle.dates.specs.Dates.{dateOf, dateAt}
 use Rattle.facts.specs.Facts.{yearFacts, yearFactsAt, monthFacts, monthFactsAt}
 use Rattle.reading.specs.declared.Field.the-variants.{Known, Unread}
@@ -42,7 +42,7 @@ use Rattle.told.specs.Answers.{
 }
 use Rattle.capped.specs.Capped.{capped, cappedMove, cappedField, cappedReading}
 use Rattle.capped.specs.Paper.{Settled, AlikeSearch, whole, both}
-use Rattle.capped.proofs.Paper.{at-most, from-one, capped-alike, capped-search}
+use Rattle.capped.proofs.Paper.{at-most, capped-alike, capped-search}
 use Rattle.forms.specs.declared.Mark.{Mark}
 use Rattle.forms.specs.declared.Mark.the-variants.{Seen, Unseen}
 use Rattle.forms.specs.Forms.{fieldsIn, fieldAt, same, firstLike, back, isMinus, moveOf, slipFieldOf, moveIn, slipFieldIn}
@@ -68,7 +68,7 @@ place-capped y = ap (told placeLine) (capped-alike .solstice y)
 
 year-capped : (y : ℕ) → yearText (capped y) ≡ yearText y
 unfolding yearText yearFactsAt
-year-capped y = line-capped (within 1 41040) (from-one 41040 (omega arith)) 1 yearLine yearFacts y
+year-capped y = line-capped (λ n. leb n 41040) (at-most 41040 (omega arith)) 1 yearLine yearFacts y
 
 month-capped : (n : ℕ) → monthText (capped n) ≡ monthText n
 unfolding monthText monthFactsAt

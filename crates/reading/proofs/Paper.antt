@@ -9,7 +9,7 @@ use lib.ListN.{length, getD, drop, List·getD-append}
 use borrow.Author.Tests.{eqb-true, eq-eqb}
 use Rattle.rule.specs.Counts.{dayName, yearName}
 use Rattle.rule.specs.Lists.{those, placed}
-use Rattle.rule.specs.Rule.{monthStart, monthOfDay, solsticeYearOfMonth, civilYearOfMonth, leap, midTermsBefore, midTermNumber, monthNumber, monthAt}
+use Rattle.rule.specs.Rule.{monthStart, monthOfDay, civilYearOfMonth, solsticeYearOfMonth, leap, midTermsBefore, midTermNumber, monthNumber, monthAt}
 use Rattle.rule.specs.Reasons.{Answer, is, refused, refused-with, reasonNumber, reasonOf, afterwards}
 use Rattle.rule.proofs.Months.{of-day}
 use Rattle.rule.proofs.Leap as Leaps
@@ -329,7 +329,7 @@ second-of-two-big-listed n d r first last k old new big also inside e h g s = fo
 
 -- what a day's six values are computed from
 computing : ℕ
-unfolding sixOf dateOf dateIn monthAt monthStart monthOfDay solsticeYearOfMonth monthNumber midTermNumber midTermsBefore leap dayName yearName
+unfolding sixOf dateOf dateIn monthAt monthStart monthOfDay civilYearOfMonth solsticeYearOfMonth monthNumber midTermNumber midTermsBefore leap dayName yearName
 computing = 0
 
 pub wrong-searches : Paper.Wrong-searches

@@ -11,6 +11,7 @@ use Rattle.rule.specs.Rule.{
   quarterParts,
   termDay,
   termParts,
+  midTermDay,
   solsticeFirstMonth,
   leapRemainder,
   monthsInSolsticeYear,
@@ -20,6 +21,9 @@ use Rattle.rule.specs.Rule.{
   midTermNumber,
   monthNumber,
   monthAt,
+  civilYearOfMonth,
+  civilFirstMonth,
+  monthsInCivilYear,
   eclipse,
   shortcutNumber,
 }
@@ -33,5 +37,5 @@ unfolding monthStart smallRemainder monthLength monthOfDay quarterDay quarterPar
 months = 0
 
 unfoldable pub rule-computed : ℕ
-unfolding termDay termParts solsticeFirstMonth leapRemainder monthsInSolsticeYear solsticeYearOfMonth shortcutNumber counts months
+unfolding termDay termParts midTermDay solsticeFirstMonth leapRemainder monthsInSolsticeYear solsticeYearOfMonth civilYearOfMonth civilFirstMonth monthsInCivilYear shortcutNumber counts months
 rule-computed = 0

@@ -1,13 +1,13 @@
--- The last mid-term before a month's end says the month's year and number, and whether it is leap. Assumes nothing.
+-- The last mid-term before a month's end says the month's civil year and number, and whether it is leap. Assumes nothing.
 use Prim.Native.Nat.{ℕ, _+_, _/_, _≤_, _<_}
 use native.Mathlib.Omega.{arith}
 use mathlib.Core.Path.{_≡_, refl, ap, sym, _∙_}
 use mathlib.Core.Bool.{Bool, true, false}
 use lib.Dec.{ltb}
 use borrow.Author.Tests.{lt-ltb, le-ltb}
-use Rattle.rule.specs.Rule.{monthStart, InMonth, midTermDay, midTermsBefore, solsticeFirstMonth, InSolsticeYear, solsticeYearOfMonth, leap, midTermNumber, monthNumber}
-use Rattle.rule.proofs.Years.{of-month}
-use Rattle.rule.proofs.Leap.{before-iff, before-first, before-mono, before-step, first-ordinary, holds-next, leap-stays, ordinary-rises, stays-leap, rises-ordinary}
+use Rattle.rule.specs.Rule.{monthStart, InMonth, midTermDay, midTermsBefore, leap, midTermNumber, monthNumber, civilYearOfMonth}
+use Rattle.rule.proofs.Leap.{before-iff, before-mono, before-step, holds-next, leap-stays, ordinary-rises, stays-leap, rises-ordinary, number-range}
+use Rattle.rule.proofs.CivilYears.{civil-count}
 
 module _ (n m : ℕ) (low : midTermDay m < monthStart (n + 1)) (high : monthStart (n + 1) ≤ midTermDay (m + 1)) where
   all-before : midTermsBefore (n + 1) ≡ m + 1
@@ -29,22 +29,8 @@ module _ (n m : ℕ) (low : midTermDay m < monthStart (n + 1)) (high : monthStar
           let no : ¬ (midTermDay m < monthStart n) = λ g. omega (arith, all-before, ordinary-rises n h, before-iff n m .1 g) in
           le-ltb (midTermDay m) (monthStart n) (omega arith) ∙ sym h
 
-  -- a year has twelve mid-terms, the first in its first month
-  pub year-by-last : m / 12 + 1 ≡ solsticeYearOfMonth n
-  year-by-last = go (solsticeYearOfMonth n) (of-month (solsticeYearOfMonth n) n .1 refl)
-    where
-      go : (y : ℕ) → InSolsticeYear y n → m / 12 + 1 ≡ y
-      go y i =
-          omega (
-            arith,
-            all-before,
-            i .0,
-            before-first y,
-            before-first (y + 1),
-            first-ordinary y,
-            before-mono (solsticeFirstMonth y + 1) (n + 1) (omega (arith, i .1)),
-            before-mono (n + 1) (solsticeFirstMonth (y + 1)) (omega (arith, i .2)),
-          )
+  pub year-by-last : (m + 10) / 12 ≡ civilYearOfMonth n
+  year-by-last = omega (arith, all-before, civil-count n, number-range n)
 
 -- and the month after one that holds mid-term m is leap exactly where the next mid-term does not come before its end
 module _ (n m : ℕ) (h : InMonth n (midTermDay m)) where

@@ -9,8 +9,10 @@ pub mod Months
 pub mod Terms
 pub mod Years
 pub mod Leap
+pub mod CivilYears
 pub mod Last
 pub mod Eclipses
 pub mod Answers
 pub mod Pairs
 pub mod Paper
+pub mod Civil

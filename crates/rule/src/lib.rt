@@ -60,6 +60,7 @@ pub enum Reason {
     BadWindow,
     FieldOutOfRange,
     NoSuchTermOrQuarter,
+    NoSuchNumberInYear,
     NoSuchPlanet,
     NoConjunctionLeft,
 }
@@ -123,6 +124,7 @@ pub fn reason_number(r: Reason) -> u8
         Reason::BadWindow => 13,
         Reason::FieldOutOfRange => 14,
         Reason::NoSuchTermOrQuarter => 15,
+        Reason::NoSuchNumberInYear => 16,
         Reason::NoSuchPlanet => 19,
         Reason::NoConjunctionLeft => 20,
     }
@@ -242,20 +244,15 @@ pub fn last_mid_term(day: u32) -> u32
     (16 * day - 1) / 487
 }
 
-// The civil year of the month that holds a mid-term, and the number of the month that holds it: 11, 12, 1, 2 .. 10.
+// The civil year of the month that holds a mid-term, and its number: the first of all is 11 of year 0, then 12, then 1 of year 1, 2 ..
 pub fn civil_year_and_number(m: u32) -> YearMonth
     requires { ⌜ m < 492480 ⌝ }
-    ensures { λ r. ⌜ (r .year ≡ m / 12 + 1) × (r .number ≡ midTermNumber m) ⌝ }
+    ensures { λ r. ⌜ (r .year ≡ (m + 10) / 12) × (r .number ≡ midTermNumber m) ⌝ }
 {
-    let elapsed = m / 12;
-    let in_year = m - 12 * elapsed;
+    let count = m + 10;
     YearMonth {
-        year: (elapsed + 1) as u16,
-        number: if in_year < 2 {
-            (in_year + 11) as u8
-        } else {
-            (in_year - 1) as u8
-        },
+        year: (count / 12) as u16,
+        number: (count % 12 + 1) as u8,
     }
 }
 
@@ -283,20 +280,30 @@ pub fn months_in_solstice_year(year: u16) -> u8
     if leap_remainder(year) < 12 { 12 } else { 13 }
 }
 
-// The month with which a civil year opens.
+// The month with which a civil year opens; of the year after the last too.
 pub fn civil_first_month(year: u16) -> u32
-    requires { ⌜ CivilYearInRange year ⌝ }
+    requires { ⌜ year ≤ 41041 ⌝ }
     ensures { λ r. ⌜ r ≡ civilFirstMonth year ⌝ }
 {
-    solstice_first_month(year)
+    if year < 1 {
+        0
+    } else {
+        (235 * (year as u32) - 196) / 19
+    }
 }
 
-// How many months a civil year has.
+// How many months a civil year has: those up to the next year's first, and in range.
 pub fn months_in_civil_year(year: u16) -> u8
     requires { ⌜ CivilYearInRange year ⌝ }
     ensures { λ r. ⌜ r ≡ monthsInCivilYear year ⌝ }
 {
-    months_in_solstice_year(year)
+    let first = civil_first_month(year);
+    let next = civil_first_month(year + 1);
+    if next < 507600 {
+        (next - first) as u8
+    } else {
+        (507600 - first) as u8
+    }
 }
 
 // The civil year that a month is in.
@@ -304,7 +311,7 @@ pub fn civil_year_of_month(n: u32) -> u16
     requires { ⌜ MonthInRange n ⌝ }
     ensures { λ r. ⌜ r ≡ civilYearOfMonth n ⌝ }
 {
-    ((19 * n + 18) / 235 + 1) as u16
+    ((19 * n + 214) / 235) as u16
 }
 
 // How many mid-terms fall on days before a month; whole days are compared.

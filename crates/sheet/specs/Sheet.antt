@@ -98,7 +98,7 @@ ranged k =
 -- "Three sections in fixed order, each after its count: years (2 bytes each), months (4), days (4)": the bytes of an item, the
 -- least and the most that it may be, the reason where it is not, and "Each count is at most 1,000"
 abbrev pub yearItems : Items
-yearItems = record { width = 2; least = 1; most = 41040; reason = NoSuchYear; items = 1000 }
+yearItems = record { width = 2; least = 0; most = 41040; reason = NoSuchYear; items = 1000 }
 
 abbrev pub monthItems : Items
 monthItems = record { width = 4; least = 0; most = 507599; reason = NoSuchMonth; items = 1000 }

@@ -53,7 +53,7 @@ pub enum HowMany {
 
 const YEARS: Items = Items {
     width: 2,
-    least: 1,
+    least: 0,
     most: 41040,
     reason: Reason::NoSuchYear,
     items: 1000,

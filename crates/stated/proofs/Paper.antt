@@ -74,7 +74,7 @@ pub sections-literally : Paper.Sections-literally
 sections-literally =
     record {
       order = refl;
-      years = record { bytes = refl; counts = refl; good = within-true 1 41040; reason = λ x. refl };
+      years = record { bytes = refl; counts = refl; good = within-true 0 41040; reason = λ x. refl };
       months = record { bytes = refl; counts = refl; good = within-true 0 507599; reason = λ x. refl };
       days = record { bytes = refl; counts = refl; good = within-true 0 14989859; reason = λ x. refl };
     }
@@ -82,7 +82,7 @@ sections-literally =
 -- the three sections' values fit their bytes
 all-fit : AllFit sheetSections
 all-fit = (
-  record { values = λ x h. omega (arith, within-true 1 41040 x .0 h .1); counts = omega arith },
+  record { values = λ x h. omega (arith, within-true 0 41040 x .0 h .1); counts = omega arith },
   (
     record { values = λ x h. omega (arith, within-true 0 507599 x .0 h .1); counts = omega arith },
     (record { values = λ x h. omega (arith, within-true 0 14989859 x .0 h .1); counts = omega arith }, tt),

@@ -120,7 +120,7 @@ pub record SectionIs (k : Section) (w least most r : ℕ) : Type 0 where
 -- an item, and its reason, 1, 7 or 6
 pub record Sections-literally : Type 0 where
   pub order : sheetSections ≡ ranged yearItems ∷ ranged monthItems ∷ ranged dayItems ∷ []
-  pub years : SectionIs (ranged yearItems) 2 1 41040 1
+  pub years : SectionIs (ranged yearItems) 2 0 41040 1
   pub months : SectionIs (ranged monthItems) 4 0 507599 7
   pub days : SectionIs (ranged dayItems) 4 0 14989859 6
 

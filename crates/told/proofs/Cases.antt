@@ -70,28 +70,29 @@ searches : ℕ
 unfolding searchText foundLine each day-lines searches-computed
 searches = 0
 
--- known date 5: year 9,366 is year 18 of bu 4 of ji 1, leap remainder 5, first month 115,830
+-- known date 5: solstice year 9,366 is year 18 of bu 4 of ji 1, leap remainder 5, first month 115,830
 pub place-9366 : placeText 9366 ≡ inLines (word "PLACE 1 4 18 58 115830 5 12" ∷ [])
 unfolding placeText placeLine printing facts-computed
 place-9366 = refl
 
--- known date 4: year 77 is year 1 of bu 2, whose head name is 40
+-- known date 4: solstice year 77 is year 1 of bu 2, whose head name is 40
 pub place-77 : placeText 77 ≡ inLines (word "PLACE 1 2 1 40 940 0 12" ∷ [])
 unfolding placeText placeLine printing facts-computed
 place-77 = refl
 
-pub no-year : placeText 41041 ≡ inLines (word "REFUSED 1 year outside 1 to 41,040" ∷ [])
+pub no-year : placeText 41041 ≡ inLines (word "REFUSED 1 year outside its range" ∷ [])
 unfolding placeText placeLine refusing facts-computed
 no-year = refl
 
--- the paper's example: the header of year 11, whose months are 123 to 135, month 134 being leap 9
-pub year-11 : yearText 11 ≡ inLines (word "YEAR 11 NAME 27 MONTHS 13 FIRST 123 LEAP 9 134" ∷ [])
+-- "Listing year 11 gives months 125 to 137", month 134 being leap 9
+pub year-11 : yearText 11 ≡ inLines (word "YEAR 11 NAME 27 MONTHS 13 FIRST 125 LEAP 9 134" ∷ [])
 unfolding yearText yearLine facts-computed printing
 year-11 = refl
 
-pub year-1 : yearText 1 ≡ inLines (word "YEAR 1 NAME 17 MONTHS 12 FIRST 0 LEAP - -" ∷ [])
+-- "Year 0 then holds months 11 and 12 only, name 16"
+pub year-0 : yearText 0 ≡ inLines (word "YEAR 0 NAME 16 MONTHS 2 FIRST 0 LEAP - -" ∷ [])
 unfolding yearText yearLine facts-computed printing
-year-1 = refl
+year-0 = refl
 
 -- lines of the same example, with the first day and the small remainder after them
 pub month-134 : monthText 134 ≡ inLines (word "MONTH 134 9 L 58 29 E 3957 126" ∷ [])
@@ -107,7 +108,7 @@ pub full-134 : quarterText 134 2 ≡ inLines (word "QUARTER 3971 3382" ∷ [])
 unfolding quarterText quarterLine printing facts-computed
 full-134 = refl
 
-pub no-quarter : quarterText 0 4 ≡ inLines (word "REFUSED 15 term above 23 or quarter above 3" ∷ [])
+pub no-quarter : quarterText 0 4 ≡ inLines (word "REFUSED 15 term, mid-term or quarter above its last" ∷ [])
 unfolding quarterText quarterLine refusing facts-computed
 no-quarter = refl
 
@@ -187,8 +188,13 @@ pub leap-8 : dateText 11 8 true 1 ≡ inLines (word "REFUSED 4 leap month asked 
 unfolding dates refusing
 leap-8 = refl
 
+-- "a month number from 1 to 10 in year 0", leap or not
+pub no-number : dateText 0 5 true 1 ≡ inLines (word "REFUSED 16 no such month number in that year" ∷ [])
+unfolding dates refusing
+no-number = refl
+
 -- known date 11: day 0 moved by 27,759
-pub seventy-six-on : moveText 1 11 false 1 (pos 27759) ≡ inLines (word "DAY 27759 77 11 - 1 40 29 33" ∷ [])
+pub seventy-six-on : moveText 0 11 false 1 (pos 27759) ≡ inLines (word "DAY 27759 76 11 - 1 40 29 32" ∷ [])
 unfolding moveText moved dates
 seventy-six-on = refl
 
@@ -198,12 +204,12 @@ unfolding moveText moved dates
 into-leap-9 = refl
 
 -- known date 1: day 0 moved by one back
-pub one-back : moveText 1 11 false 1 (negsuc 0) ≡ inLines (word "REFUSED 8 a move ends outside the range" ∷ [])
+pub one-back : moveText 0 11 false 1 (negsuc 0) ≡ inLines (word "REFUSED 8 a move ends outside the range" ∷ [])
 unfolding moveText moved dates refusing
 one-back = refl
 
 -- known date 2: days 28 and 29, all unread; and of them the one that is day 1 of its month
-pub two-found : searchText allUnread 28 29 ≡ inLines (word "FOUND 2" ∷ word "DAY 28 1 11 - 29 29 29 17" ∷ word "DAY 29 1 12 - 1 30 30 17" ∷ [])
+pub two-found : searchText allUnread 28 29 ≡ inLines (word "FOUND 2" ∷ word "DAY 28 0 11 - 29 29 29 16" ∷ word "DAY 29 0 12 - 1 30 30 16" ∷ [])
 unfolding searches
 two-found = refl
 
@@ -218,10 +224,10 @@ firstOfMonth =
       «first_name» = Unread;
     }
 
-pub one-found : searchText firstOfMonth 28 29 ≡ inLines (word "FOUND 1" ∷ word "DAY 29 1 12 - 1 30 30 17" ∷ [])
+pub one-found : searchText firstOfMonth 28 29 ≡ inLines (word "FOUND 1" ∷ word "DAY 29 0 12 - 1 30 30 16" ∷ [])
 unfolding searches
 one-found = refl
 
-pub no-window : searchText allUnread 29 28 ≡ inLines (word "REFUSED 13 window's last day before its first, or more than 27,759 days" ∷ [])
+pub no-window : searchText allUnread 29 28 ≡ inLines (word "REFUSED 13 last before first, or a window of more than 27,759 days" ∷ [])
 unfolding searches refusing
 no-window = refl

@@ -13,7 +13,7 @@ use Rattle.rule.specs.declared.Reason.the-variants.{MoveOutOfRange}
 use Rattle.rule.proofs.Answers.{at-most, within-true, passes, holds-all, given-not}
 use Rattle.rule.proofs.Leap.{number-at, mark-at}
 use Rattle.dates.specs.declared.Date.{Date}
-use Rattle.dates.specs.Dates.{dateIn, dateOf, dateAt, isThere, monthAsked, dayInMonth, dayOfNamed, dayOfDate}
+use Rattle.dates.specs.Dates.{dateIn, dateOf, dateAt, isThere, monthAsked, dayInMonth, dayOfNamed, dayOfDate, numberThere, midTermOf}
 use Rattle.dates.specs.declared.Dated.the-variants.{Is}
 use Rattle.dates.proofs.Days.{a-day}
 use Rattle.dates.proofs.Laws.{day-is, back-to-day}
@@ -101,9 +101,9 @@ year-line-literally =
     record {
       with-leap = λ y k n h i e.
           ap (told (yearLine y)) (Given.year-given y h)
-          ∙ year-with y (With k n) (leap-there y (h .0) .with-one k n .1 (i, e));
+          ∙ year-with y (With k n) (leap-there y h .with-one k n .1 (i, e));
       without = λ y h none.
-          ap (told (yearLine y)) (Given.year-given y h) ∙ year-with y Without (leap-there y (h .0) .without .1 none);
+          ap (told (yearLine y)) (Given.year-given y h) ∙ year-with y Without (leap-there y h .without .1 none);
     }
 
 pub month-line-literally : Paper.Month-line-literally
@@ -213,10 +213,12 @@ moved-line y k l m n r = from (dayOfDate y k l m)
 date-never-with : (y k : ℕ) (l : Bool) (m : ℕ) → NeverWith (dayOfDate y k l m)
 unfolding dayOfDate dayOfNamed dayInMonth
 date-never-with y k l m =
-    never-guard (within 1 41040 y) 1 _
+    let t = midTermOf y k in
+    never-guard (leb y 41040) 1 _
     (never-guard (within 1 12 k) 2 _
     (never-guard (within 1 30 m) 3 _
-    (never-two (isThere y k l) 4 (leb m (monthLength (monthAsked y k l))) 5 (monthStart (monthAsked y k l) + (m - 1)))))
+    (never-guard (numberThere y k) 16 _
+    (never-two (isThere t l) 4 (leb m (monthLength (monthAsked t l))) 5 (monthStart (monthAsked t l) + (m - 1))))))
 
 landed-never-with : (z : ℤ) → NeverWith (landed z)
 landed-never-with (pos d) = never-one (leb d 14989859) 8 (dateOf d)
@@ -244,7 +246,7 @@ unfolding texts firsts answered
 refusals-told =
     record {
       place = λ y. tells-refusal placeLine (solsticeYearAt y) (λ x e. refl) (never-one (within 1 41040 y) 1 (solsticeYear y));
-      year = λ y. tells-refusal (yearLine y) (yearFactsAt y) (λ x e. refl) (never-one (within 1 41040 y) 1 (yearFacts y));
+      year = λ y. tells-refusal (yearLine y) (yearFactsAt y) (λ x e. refl) (never-one (leb y 41040) 1 (yearFacts y));
       month = λ n. tells-refusal (monthLineOf n) (monthFactsAt n) (λ x e. refl) (never-one (leb n 507599) 7 (monthFacts n));
       quarter = λ n q.
           tells-refusal quarterLine (quarterAt n q) (λ x e. refl) (never-two (leb n 507599) 7 (leb q 3) 15 (quarterOf n q));

@@ -5,9 +5,10 @@ use mathlib.Core.Path.{_≡_, ap, sym, subst, _∙_}
 use mathlib.Core.List.{List, [], _∷_, _++_}
 use lib.ListN.{length}
 use Rattle.rule.specs.Counts.{CivilYearInRange}
-use Rattle.rule.specs.Reasons.{Answer, is, within, reasonNumber}
+use lib.Dec.{leb}
+use Rattle.rule.specs.Reasons.{Answer, is, reasonNumber}
 use Rattle.rule.specs.declared.Reason.{Reason}
-use Rattle.rule.proofs.Answers.{reason-back, holds-all, within-true}
+use Rattle.rule.proofs.Answers.{reason-back, holds-all, at-most}
 use Rattle.facts.specs.declared.YearFacts.{YearFacts}
 use Rattle.facts.specs.declared.YearTold.{YearTold}
 use Rattle.facts.specs.declared.YearTold.the-variants.{Is}
@@ -35,7 +36,7 @@ tells {R = R} f said {r} {s} e g h p = put-as (sym (ap (λ (t : R). told f (said
 pub year-there : (y : ℕ) {r : YearTold} {f : YearFacts} → YearOwnFacts y r → r ≡ Is f → CivilYearInRange y
 unfolding yearFactsAt
 year-there y {r} {f} e g =
-    within-true 1 41040 y .0 (holds-all (within 1 41040 y) 1 (is (yearFacts y)) f .0 (sym e ∙ ap saidYear g) .0)
+    at-most y 41040 .0 (holds-all (leb y 41040) 1 (is (yearFacts y)) f .0 (sym e ∙ ap saidYear g) .0)
 
 -- a pair that is given is a planet's: 9,415 years and 11,908 conjunctions at most
 abbrev Few : Pair → Type 0

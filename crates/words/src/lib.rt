@@ -31,7 +31,7 @@ pub fn put_words(why: Reason, out: &mut [u8], at: usize) -> usize
 {
     let rows = b"\
         \x00\
-        \x18year outside 1 to 41,040\
+        \x16year outside its range\
         \x1cmonth number outside 1 to 12\
         \x1cday of month outside 1 to 30\
         \x36leap month asked and that year has none of that number\
@@ -40,13 +40,13 @@ pub fn put_words(why: Reason, out: &mut [u8], at: usize) -> usize
         \x1dmonth count outside the range\
         \x1da move ends outside the range\
         \x2dsheet ends before a count or an item is whole\
-        \x13a count above 1,000\
+        \x16a count above its most\
         \x1cbytes after the last section\
         \x34a lent list or buffer too short for the whole answer\
-        \x3cwindow's last day before its first, or more than 27,759 days\
+        \x37last before first, or a window of more than 27,759 days\
         \x2ca known field of a reading outside its range\
-        \x20term above 23 or quarter above 3\
-        \x00\
+        \x28term, mid-term or quarter above its last\
+        \x21no such month number in that year\
         \x00\
         \x00\
         \x15planet outside 1 to 5\

@@ -17,7 +17,7 @@ answer-year-spec =
     (λ c.
     let q = c .before in
     let r = q .before .before in
-    omega (arith, year-there (r .before .before .args .year) (r .year-facts .ensures) (q .f .given .1) .1))
+    omega (arith, year-there (r .before .before .args .year) (r .year-facts .ensures) (q .f .given .1)))
     (λ c κs. search needs)
     (λ c. search needs)
     (λ c κs. search needs)

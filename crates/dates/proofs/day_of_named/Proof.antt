@@ -7,7 +7,6 @@ use Prim.Native.Nat.{ℕ, _+_, _-_, _≤_}
 use Rattle.rule.specs.Rule.{monthStart, smallRemainder, monthLength, monthOfDay, midTermDay, termDay}
 use Rattle.rule.proofs.Months.{start-next}
 use Rattle.dates.specs.Dates.{dayInMonth, dayOfNamed}
-use Rattle.dates.proofs.Named.{midOf}
 use Rattle.dates.proofs.Days.{ordinary-asked, no-leap, leap-asked, named-end}
 use borrow.Author.Needs.{needs}
 use Rattle.dates.proofs.day_of_named.Statement.{statement}
@@ -15,12 +14,7 @@ use Rattle.dates.proofs.day_of_named.Tie as tie
 
 -- the number's mid-term, and its month
 abbrev m : tie.After-term-of → ℕ
-m c = c .before .mid-term-of .result
-
-is-mid : (c : tie.After-term-of) →
-    let a = c .before .before .args in
-    m c ≡ midOf (a .year) (a .number)
-is-mid c = c .before .mid-term-of .ensures
+m c = c .before .args .m
 
 -- mid-term m is term 2m
 mid-day : (c : tie.After-term-of) → c .term-of .result .day ≡ midTermDay (m c)
@@ -47,10 +41,10 @@ ends : (c : tie.After-stands) →
     × (monthStart (n + 2) ≤ 14989860)
 ends c =
     let n = month c in
-    let s = c .before .before .before in (
+    let s = c .before .before in (
       start-next n,
       ap monthStart {y = n + 1 + 1} (omega arith) ∙ start-next (n + 1),
-      named-end (s .args .year) (s .args .number) (m (c .before)) 1 (is-mid (c .before)) (s .pre .0),
+      named-end (s .args .m) 1 (s .pre .0),
     )
 
 -- where leap is asked: the month's length, and the month after it
@@ -88,55 +82,55 @@ returns : tie.Need-returns
 returns c =
     let l = c .before .before .before .before .before in
     let a = stood l in
-    let s = a .before .before .before in
-    no-leap (s .args .year) (s .args .number) (m (a .before)) (s .args .day-of-month) (is-mid (a .before)) (l .before .if1 .taken)
+    let s = a .before .before in
+    no-leap (s .args .m) (s .args .day-of-month) (l .before .if1 .taken)
     (omega (arith, next-mid (c .before .before .before), end (c .before .before)))
 
 -- the month that is asked for, n, which starts on day s and had r left of it: what day q of it is, is the answer
-record Asked (s r y k : ℕ) (l : Bool) (q : ℕ) : Type 0 where
+record Asked (s r m : ℕ) (l : Bool) (q : ℕ) : Type 0 where
   pub n : ℕ
   pub starts : s ≡ monthStart n
   pub leaves : r + smallRemainder n ≡ 939
   pub early : s ≤ 14989860
-  pub answer : dayInMonth n q ≡ dayOfNamed y k l q
+  pub answer : dayInMonth n q ≡ dayOfNamed m l q
 
 ordinary-month : (c : tie.After-stands) {s r : ℕ} →
-    let a = c .before .before .before .args in
+    let a = c .before .before .args in
     s ≡ c .before .term-of .result .day - c .stands .result .passed → r ≡ c .stands .result .left → a .leap ≡ false →
-    Asked s r (a .year) (a .number) (a .leap) (a .day-of-month)
+    Asked s r (a .m) (a .leap) (a .day-of-month)
 ordinary-month c e f h =
-    let a = c .before .before .before .args in
+    let a = c .before .before .args in
     record {
       n = month c;
       starts = e ∙ start c;
       leaves = omega (arith, f, left c);
       early = omega (arith, e, start c, ends c);
-      answer = ordinary-asked (a .year) (a .number) (m (c .before)) (a .day-of-month) (is-mid (c .before)) h;
+      answer = ordinary-asked (a .m) (a .day-of-month) h;
     }
 
 leap-month : (c : tie.After-length-of2) {s r : ℕ} →
     let l = c .before .before .before in
     let st = stood l in
-    let a = st .before .before .before .args in
+    let a = st .before .before .args in
     s ≡ st .before .term-of .result .day - st .stands .result .passed + l .length-of .result → r ≡ c .before .before .next-left .result →
-    s + c .length-of2 .result ≤ c .before .term-of2 .result .day → Asked s r (a .year) (a .number) (a .leap) (a .day-of-month)
+    s + c .length-of2 .result ≤ c .before .term-of2 .result .day → Asked s r (a .m) (a .leap) (a .day-of-month)
 leap-month c e f h =
     let l = c .before .before .before in
     let st = stood l in
-    let a = st .before .before .before .args in
+    let a = st .before .before .args in
     record {
       n = month st + 1;
       starts = e ∙ next l;
       leaves = omega (arith, f, after (c .before .before));
       early = omega (arith, e, next l, ends st);
       answer =
-          leap-asked (a .year) (a .number) (m (st .before)) (a .day-of-month) (is-mid (st .before)) (l .before .if1 .taken)
+          leap-asked (a .m) (a .day-of-month) (l .before .if1 .taken)
           (omega (arith, next-mid (c .before), end c, e, h));
     }
 
 asked : (c : tie.Joined1) →
-    let a = c .before .before .before .before .before .args in
-    Asked (c .if1 .start) (c .if1 .left) (a .year) (a .number) (a .leap) (a .day-of-month)
+    let a = c .before .before .before .before .args in
+    Asked (c .if1 .start) (c .if1 .left) (a .m) (a .leap) (a .day-of-month)
 asked c =
     ⊎-elim
     (λ w.
@@ -159,9 +153,8 @@ pub day-of-named-spec : {M : Type 1} → statement M
 day-of-named-spec =
     tie.close
     (tie.spec
+    (λ c. search needs)
     (λ c κs. search needs)
-    (λ c. omega (arith, c .mid-term-of .ensures))
-    (λ c κs. omega (arith, c .mid-term-of .ensures))
     stands-requires
     (λ c. omega (arith, c .before .stands .ensures .1))
     (λ c κs. search needs)
@@ -173,5 +166,5 @@ day-of-named-spec =
     (λ c κs. search needs)
     (λ c. omega (arith, end c, ends (stood (c .before .before .before))))
     returns
-    (λ c κs. (asked c .early, c .before .before .before .before .before .pre .2))
+    (λ c κs. (asked c .early, c .before .before .before .before .pre .1))
     returns-2)

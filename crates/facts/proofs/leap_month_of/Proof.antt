@@ -1,10 +1,10 @@
 -- `facts::leap_month_of` meets its contract: the first leap one among the year's months. Assumes nothing.
-use Prim.Native.Nat.{ℕ, _+_}
+use Prim.Native.Nat.{ℕ}
 use native.Mathlib.Omega.{arith}
 use mathlib.Core.Path.{ap₂, _∙_}
 use Rattle.rule.specs.Lists.{those}
 use Rattle.rule.specs.Rule.{leap}
-use Rattle.rule.proofs.Years.{first-next, first-end}
+use Rattle.rule.proofs.CivilYears.{civil-end}
 use Rattle.facts.specs.Facts.{firstOf, leapMonth}
 use borrow.Author.Needs.{needs}
 use Rattle.facts.proofs.leap_month_of.Statement.{statement}
@@ -13,7 +13,7 @@ use Rattle.facts.proofs.leap_month_of.Tie as tie
 leap-among-requires : tie.Need-leap-among-requires
 leap-among-requires c κs =
     let start = c .before .before in
-    omega (arith, first-next (start .args .year) (start .pre .0), first-end (start .args .year + 1) (omega arith))
+    omega (arith, civil-end (start .args .year) (start .pre))
 
 returns : tie.Need-returns
 unfolding leapMonth

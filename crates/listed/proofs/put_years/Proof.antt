@@ -28,7 +28,7 @@ put-years-spec =
     let l = c .before .before .before in
     let h = c .before .before .loop-test .taken in
     let a = l .before .before .before in
-    (in-range yearItems (a .args .years .now) (a .pre .0) _ (omega (arith, h)), room-for-item (l .loop .inv) h (a .pre .1)))
+    (in-range yearItems (a .args .years .now) (a .pre .0) _ (omega (arith, h)) .1, room-for-item (l .loop .inv) h (a .pre .1)))
     (λ c. omega arith)
     (λ c. omega arith)
     (λ c.

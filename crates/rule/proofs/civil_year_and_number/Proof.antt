@@ -1,4 +1,4 @@
--- `rule::civil_year_and_number` meets its contract: the first two of a year's twelve have 11 and 12. Assumes nothing.
+-- `rule::civil_year_and_number` meets its contract: the first mid-term of all is that of number 11 in year 0. Assumes nothing.
 use native.Mathlib.Omega.{arith}
 use Rattle.rule.specs.Rule.{midTermNumber}
 use borrow.Author.Needs.{needs}
@@ -9,10 +9,6 @@ returns : tie.Need-returns
 unfolding midTermNumber
 returns c = (omega arith, omega arith)
 
-returns-2 : tie.Need-returns-2
-unfolding midTermNumber
-returns-2 c = (omega arith, omega arith)
-
 pub civil-year-and-number-spec : {M : Type 1} → statement M
 civil-year-and-number-spec =
     tie.close
@@ -21,9 +17,4 @@ civil-year-and-number-spec =
     (λ c. search needs)
     (λ c. search needs)
     (λ c. search needs)
-    (λ c. search needs)
-    (λ c. search needs)
-    (λ c. search needs)
-    (λ c. search needs)
-    returns
-    returns-2)
+    returns)

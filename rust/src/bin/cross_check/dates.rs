@@ -2,8 +2,20 @@
 
 use crate::random::Random;
 use crate::tally::{at_random, every, Row, Tally};
-use crate::{DAYS, YEARS};
+use crate::{DAYS, FAR_YEARS, YEARS};
 use oesterwrok::{self as capi, independent as own, Asked};
+
+/// The civil years at the range's ends, where a date may be refused for 16 or 1, and those beside them.
+const END_YEARS: [u64; 8] = [
+    0,
+    1,
+    2,
+    YEARS - 2,
+    YEARS - 1,
+    YEARS,
+    YEARS + 1,
+    u32::MAX as u64,
+];
 
 /// The rows of dates and moves.
 pub fn rows(seed: u64) -> Vec<Row> {
@@ -15,9 +27,14 @@ pub fn rows(seed: u64) -> Vec<Row> {
             date_to_day,
         ),
         every(
-            "dates of every year, right and wrong, to days",
-            1..YEARS + 1,
-            dates_of_year,
+            "dates of civil years 0 to 41,041, right and wrong",
+            0..YEARS + 2,
+            |year, tally| asked_in(year, |asked| ask(asked, tally)),
+        ),
+        every(
+            "dates of years far beyond the range",
+            0..FAR_YEARS.len() as u64,
+            |item, tally| asked_in(FAR_YEARS[item as usize], |asked| ask(asked, tally)),
         ),
         at_random(
             "days in and beyond the range to dates",
@@ -32,6 +49,11 @@ pub fn rows(seed: u64) -> Vec<Row> {
             any_date,
         ),
         at_random("moves of dates", 1_000_000, seed + 2, any_move),
+        every(
+            "moves of dates of the first and the last civil years",
+            0..END_YEARS.len() as u64,
+            |item, tally| asked_in(END_YEARS[item as usize], |asked| moves(asked, tally)),
+        ),
     ]
 }
 
@@ -56,20 +78,17 @@ fn date_to_day(day: u64, tally: &mut Tally) {
     });
 }
 
-/// Every month number with one to spare at both ends, ordinary and leap, on the days that can be refused.
-fn dates_of_year(year: u64, tally: &mut Tally) {
+/// Asks in a civil year by every month number with one to spare at both ends, ordinary and leap, on the days that can be refused.
+fn asked_in(year: u64, mut ask: impl FnMut(Asked)) {
     for number in 0..=13 {
         for leap in [false, true] {
             for day_of_month in [0, 1, 15, 29, 30, 31] {
-                ask(
-                    Asked {
-                        year,
-                        number,
-                        leap,
-                        day_of_month,
-                    },
-                    tally,
-                );
+                ask(Asked {
+                    year,
+                    number,
+                    leap,
+                    day_of_month,
+                });
             }
         }
     }
@@ -122,6 +141,26 @@ fn near_date(day: u64, random: &mut Random) -> Asked {
     asked
 }
 
+/// Moves that end in range, or outside it, or both by turns: a date's own reasons come before 8.
+fn moves(asked: Asked, tally: &mut Tally) {
+    let range = DAYS as i64;
+    for days in [
+        0,
+        1,
+        -1,
+        29,
+        -29,
+        27_759,
+        -27_759,
+        range,
+        -range,
+        i64::MAX,
+        i64::MIN,
+    ] {
+        compare_move(asked, days, tally);
+    }
+}
+
 fn any_move(random: &mut Random, tally: &mut Tally) {
     let day = random.count(DAYS);
     let asked = if random.one_in(8) {
@@ -130,6 +169,10 @@ fn any_move(random: &mut Random, tally: &mut Tally) {
         near_date(day, random)
     };
     let days = any_number_of_days(day as i64, random);
+    compare_move(asked, days, tally);
+}
+
+fn compare_move(asked: Asked, days: i64, tally: &mut Tally) {
     tally.compare(
         capi::move_date(asked, days),
         own::move_date(asked, days),

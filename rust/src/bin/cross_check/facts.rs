@@ -2,27 +2,38 @@
 
 use crate::random::Random;
 use crate::tally::{at_random, every, Row, Tally};
-use crate::{MONTHS, YEARS};
+use crate::{FAR_YEARS, MONTHS, YEARS};
 use oesterwrok::{self as capi, independent as own};
 
 /// The rows of facts.
 pub fn rows(seed: u64) -> Vec<Row> {
     vec![
         every(
-            "every year's place and months (solstice year)",
-            1..YEARS + 1,
+            "the place of every solstice year 0 to 41,041",
+            0..YEARS + 2,
             solstice,
         ),
-        every("every year's own facts", 1..YEARS + 1, year),
+        every(
+            "the facts of every civil year 0 to 41,041",
+            0..YEARS + 2,
+            year,
+        ),
         every("every month", 0..MONTHS, month),
         every(
             "every quarter of every month",
             0..4 * MONTHS,
             |item, tally| quarter(item / 4, item % 4, tally),
         ),
-        every("every term of every year", 0..24 * YEARS, |item, tally| {
-            term(item / 24 + 1, item % 24, tally)
-        }),
+        every(
+            "every term of every solstice year 0 to 41,041",
+            0..24 * (YEARS + 2),
+            |item, tally| term(item / 24, item % 24, tally),
+        ),
+        every(
+            "place, facts and terms of years far beyond the range",
+            0..FAR_YEARS.len() as u64,
+            |item, tally| far_year(FAR_YEARS[item as usize], tally),
+        ),
         at_random(
             "years, months, quarters and terms of any number",
             500_000,
@@ -63,6 +74,15 @@ fn term(year: u64, term: u64, tally: &mut Tally) {
     tally.compare(capi::term(year, term), own::term(year, term), || {
         format!("term {year} {term}")
     });
+}
+
+/// Every term with one to spare.
+fn far_year(far: u64, tally: &mut Tally) {
+    solstice(far, tally);
+    year(far, tally);
+    for k in 0..=24 {
+        term(far, k, tally);
+    }
 }
 
 fn any_fact(random: &mut Random, tally: &mut Tally) {

@@ -13,8 +13,8 @@ const LONG: usize = 700;
 pub fn rows(seed: u64) -> Vec<Row> {
     vec![
         every(
-            "every year's block printed, in four buffers",
-            1..YEARS + 1,
+            "every civil year's block printed, in four buffers",
+            0..YEARS + 2,
             |item, tally| YEAR.compare(item, tally),
         ),
         every(

@@ -10,6 +10,7 @@ mod random;
 mod searches;
 mod sheets;
 mod tally;
+mod walked;
 
 use oesterwrok::REASONS;
 use std::panic::{catch_unwind, AssertUnwindSafe};
@@ -20,10 +21,30 @@ use std::thread;
 use std::time::Instant;
 use tally::{Row, Tally};
 
-/// Years, months and days in range.
+/// The last year, civil or solstice: civil years start at 0, solstice years at 1.
 const YEARS: u64 = 41_040;
+
+/// Months and days in range.
 const MONTHS: u64 = 507_600;
 const DAYS: u64 = 14_989_860;
+
+/// Years beyond the range, civil or solstice; among them those that are 0, 1 or the last year if they are cut to 16 or 32 bits.
+const FAR_YEARS: [u64; 14] = [
+    YEARS + 1,
+    YEARS + 2,
+    u16::MAX as u64,
+    1 << 16,
+    (1 << 16) + 1,
+    (1 << 16) + YEARS,
+    i32::MAX as u64,
+    u32::MAX as u64 - 1,
+    u32::MAX as u64,
+    1 << 32,
+    (1 << 32) + 1,
+    (1 << 32) + YEARS,
+    i64::MAX as u64,
+    u64::MAX,
+];
 
 /// What all random numbers are drawn from; each row adds its own number.
 const SEED: u64 = 0x0085_0E57_E240_0000;
@@ -46,6 +67,7 @@ fn all_rows() -> Vec<Row> {
     rows.extend(sheets::rows(SEED + 40));
     rows.extend(lines::rows(SEED + 50));
     rows.extend(planets::rows(SEED + 60));
+    rows.extend(walked::rows());
     rows
 }
 

@@ -2,8 +2,8 @@
 
 use crate::lent::Lent;
 use crate::random::Random;
-use crate::tally::{at_random, Row, Tally};
-use crate::DAYS;
+use crate::tally::{at_random, every, Row, Tally};
+use crate::{DAYS, YEARS};
 use oesterwrok::{self as capi, independent as own, Reading, LEAP, ORDINARY};
 
 /// The longest window that the paper allows.
@@ -51,6 +51,11 @@ pub fn rows(seed: u64) -> Vec<Row> {
                 compare(own::search_by_months, first, last, random, tally);
             },
         ),
+        every(
+            "the days of every civil year, found by its name",
+            0..YEARS + 1,
+            named_year,
+        ),
     ]
 }
 
@@ -60,13 +65,42 @@ type Search = fn(&Reading, u64, u64, &mut [u32]) -> Result<u32, capi::SearchRefu
 fn compare(search: Search, first: u64, last: u64, random: &mut Random, tally: &mut Tally) {
     let reading = any_reading(first, last, random);
     let places = any_places(total(&reading, first, last), random);
+    compare_into(places, search, &reading, (first, last), random, tally);
+}
+
+fn compare_into(
+    places: usize,
+    search: Search,
+    reading: &Reading,
+    (first, last): (u64, u64),
+    random: &mut Random,
+    tally: &mut Tally,
+) {
     let mut capi_list = Lent::new(places, random);
     let mut own_list = capi_list.clone();
-    let capi_answer = capi::search(&reading, first, last, capi_list.lend());
-    let own_answer = search(&reading, first, last, own_list.lend());
+    let capi_answer = capi::search(reading, first, last, capi_list.lend());
+    let own_answer = search(reading, first, last, own_list.lend());
     tally.compare_lent((capi_answer, capi_list), (own_answer, own_list), || {
         format!("search {first} to {last}, {places} places lent, {reading:?}")
     });
+}
+
+/// The name of a civil year alone, in a window from some months before the year to some months after it.
+fn named_year(year: u64, tally: &mut Tally) {
+    const DAYS_BEYOND: u64 = 100;
+    let Ok(facts) = own::year_facts(year) else {
+        unreachable!("year {year} is in range")
+    };
+    let starts = |month: u32| own::month_facts(month.into()).map_or(DAYS, |m| m.first_day.into());
+    let first = starts(facts.first_month).saturating_sub(DAYS_BEYOND);
+    let after = starts(facts.first_month + facts.months);
+    let reading = Reading {
+        year_name: Some(facts.name.into()),
+        ..Reading::default()
+    };
+    let window = (first, (after + DAYS_BEYOND).min(DAYS) - 1);
+    let mut random = Random::new(2, year);
+    compare_into(400, own::search, &reading, window, &mut random, tally);
 }
 
 /// How many days fit, 0 where the search is refused.

@@ -2,7 +2,7 @@
 
 use crate::lent::Lent;
 use crate::random::Random;
-use crate::tally::{at_random, Row, Tally};
+use crate::tally::{at_random, every, Row, Tally};
 use crate::{DAYS, MONTHS, YEARS};
 use oesterwrok::{self as capi, independent as own};
 
@@ -20,6 +20,11 @@ pub fn rows(seed: u64) -> Vec<Row> {
         ),
         at_random("sheets of random bytes read", 100_000, seed + 1, read_noise),
         at_random("sheets written", 100_000, seed + 2, write_any),
+        every(
+            "a sheet of each year of 16 bits, read and written",
+            0..1 << 16,
+            |year, tally| year_alone(year as u16, tally),
+        ),
     ]
 }
 
@@ -31,11 +36,11 @@ struct Lists {
 }
 
 impl Lists {
-    /// Lists of items in range.
+    /// Lists of items in range; a year is a civil one, 0 to 41,040.
     fn good(random: &mut Random) -> Lists {
         let (years, months, days) = (any_count(random), any_count(random), any_count(random));
         Lists {
-            years: (0..years).map(|_| random.count(YEARS) as u16 + 1).collect(),
+            years: (0..years).map(|_| random.count(YEARS + 1) as u16).collect(),
             months: (0..months).map(|_| random.count(MONTHS) as u32).collect(),
             days: (0..days).map(|_| random.count(DAYS) as u32).collect(),
         }
@@ -45,8 +50,8 @@ impl Lists {
     fn spoil(&mut self, random: &mut Random) {
         match random.below(3) {
             0 => put(&mut self.years, random, |random| match random.below(3) {
-                0 => 0,
-                1 => YEARS as u16 + 1,
+                0 => YEARS as u16 + 1,
+                1 => u16::MAX,
                 _ => YEARS as u16 + 1 + random.below(65_535 - YEARS) as u16,
             }),
             1 => put(&mut self.months, random, |random| beyond(MONTHS, random)),
@@ -175,12 +180,28 @@ fn read_noise(random: &mut Random, tally: &mut Tally) {
     read(&bytes, counts, random, tally);
 }
 
+/// A year alone on a sheet: refused for 1, or read and written.
+fn year_alone(year: u16, tally: &mut Tally) {
+    let lists = Lists {
+        years: vec![year],
+        months: Vec::new(),
+        days: Vec::new(),
+    };
+    let mut random = Random::new(1, year.into());
+    read_into([2, 1, 1], &lists.bytes(), &mut random, tally);
+    write(&lists, 10, &mut random, tally);
+}
+
 fn read(bytes: &[u8], counts: [usize; 3], random: &mut Random, tally: &mut Tally) {
     let short = random.one_in(4);
     let mut places = counts.map(|count| any_places(count, short, random));
     if random.one_in(8) {
         places = [ITEMS; 3];
     }
+    read_into(places, bytes, random, tally);
+}
+
+fn read_into(places: [usize; 3], bytes: &[u8], random: &mut Random, tally: &mut Tally) {
     let mut capi_lists = (
         Lent::<u16>::new(places[0], random),
         Lent::<u32>::new(places[1], random),
@@ -223,11 +244,15 @@ fn write_any(random: &mut Random, tally: &mut Tally) {
     }
     let short = random.one_in(3);
     let length = any_places(lists.bytes().len(), short, random);
+    write(&lists, length, random, tally);
+}
+
+fn write(lists: &Lists, length: usize, random: &mut Random, tally: &mut Tally) {
     let Lists {
         years,
         months,
         days,
-    } = &lists;
+    } = lists;
     let mut capi_buffer = Lent::new(length, random);
     let mut own_buffer = capi_buffer.clone();
     let capi_answer = capi::write_sheet(years, months, days, capi_buffer.lend());
