@@ -53,7 +53,7 @@ MONTH 116957 | count=116957 number=1 mark=- first-name=60
 DATE 9457 5 L 1 | year=9457 number=5 mark=L day-of-month=1
 MONTH 116962 | count=116962 number=5 mark=L
 YEAR 9457 | year=9457 leap-number=5 leap-month=116962
-# 8. Civil year 11: leap 9, month 134. The shortcut would give leap 8.
+# 8. Civil year 11: leap 9, month 134. The shortcut, of solstice year 11, would give leap 8.
 YEAR 11 | year=11 leap-number=9 leap-month=134
 # 9. Civil year 11, leap 8, day 1: reason 4. Leap 9, day 30: reason 5.
 DATE 11 8 L 1 | reason=4

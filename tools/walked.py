@@ -113,11 +113,17 @@ def hold_years(c):
         return [f"{mark(c.leap[n])}{c.number[n]}".lstrip("-") for n in months]
 
     twelve = [str(number) for number in range(1, 13)]
+    from_solstice = [*twelve[10:], *twelve[:10]]
     assert list(c.months_of_solstice) == list(range(1, YEARS + 1)) and list(c.months_of_civil) == list(range(YEARS + 1))
     # one less than the solstice year where the number is 11 or 12, leap or not
     assert c.civil_year == [year - (number in (11, 12)) for year, number in zip(c.solstice_year, c.number)]
     assert sum(c.length(n) for n in range(MONTHS) if c.civil_year[n] != c.solstice_year[n]) == 2487240
-    # 1 to 12 in order, a leap month after its namesake; the first month and how many by the leap remainder of the solstice year
+    # of a solstice year 11, 12, 1 to 10 in order; 13 months exactly at a leap remainder of 12 or more
+    for year, months in c.months_of_solstice.items():
+        assert borne(n for n in months if not c.leap[n]) == from_solstice
+        assert len(months) == (13 if 235 * (year - 1) % 19 >= 12 else 12)
+    # of a civil year 1 to 12 in order, a leap month after its namesake; the first month and how many by the leap remainder of the
+    # solstice year of the same number
     for year in range(1, YEARS):
         months, (whole, rest) = c.months_of_civil[year], divmod(235 * (year - 1), 19)
         leap = [n for n in months if c.leap[n]]

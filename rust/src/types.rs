@@ -35,7 +35,7 @@ pub enum Reason {
     Window = 13,
     /// 14: a known field of a reading outside its range.
     Field = 14,
-    /// 15: term or quarter above its last, 23 or 3.
+    /// 15: term, mid-term or quarter above its last; a term's is 23, a quarter's 3.
     TermOrQuarter = 15,
     /// 16: no such month number in that year: 1 to 10 in civil year 0, or 11 or 12 in civil year 41,040, leap or not. It comes
     /// after 3 and before 4.

@@ -200,6 +200,7 @@ macro_rules! paper_of {
                 assert_eq!(place(first), (9_365, Month::Ordinary(11), 1, 19));
                 assert_eq!(first.year_name, 21);
                 assert_eq!(calls::year_facts(9_365).unwrap().name, 21);
+                assert_eq!(calls::year_facts(9_366).unwrap().name, 22);
                 let full = u64::from(calls::quarter(115_830, 2).unwrap().day);
                 assert_eq!(
                     (full, calls::date_of_day(full).unwrap().day_name),

@@ -23,7 +23,7 @@ use Rattle.facts.specs.Paper.{termBefore}
 use Rattle.facts.specs.Promises.{saidTerm, TermOfYear}
 
 -- W2: "Everything that asks for a term now receives both and must be shown unchanged in what it answers." Of a term's own day, and of its
--- refusals, facts says it (Term-as-before). Here it is said of dates. `term` is what is answered as the day of a year's term.
+-- refusals, facts says it (Term-as-before). Here it is said of dates. `term` is what is answered as the day of a solstice year's term.
 
 -- mid-term 2j of solstice year y is answered with one of the days of month n
 pub record FallsIn (term : ℕ → ℕ → Answer ℕ) (y j n : ℕ) : Type 0 where
@@ -31,14 +31,15 @@ pub record FallsIn (term : ℕ → ℕ → Answer ℕ) (y j n : ℕ) : Type 0 wh
   pub answered : term y (2 * j) ≡ is day
   pub on-its-days : InMonth n day
 
--- "A month holding mid-term k has number 11 for k = 0, 12 for k = 2 ..": month n holds one of solstice year y, and k is the number that goes with it
+-- "A month holding mid-term k has number 11 for k = 0, 12 for k = 2 ..": month n holds one of solstice year y, and k is the
+-- number that goes with it
 pub record HoldsOne (term : ℕ → ℕ → Answer ℕ) (y n k : ℕ) : Type 0 where
   pub j : ℕ
   pub falls : FallsIn term y j n
   pub number : k ≡ getD numbersInOrder j 0
 
--- month n, of solstice year y, by its mid-terms: ordinary, holding one; or leap, "when no mid-term falls on any of its days", with the number of the
--- month before it
+-- month n, of solstice year y, by its mid-terms: ordinary, holding one; or leap, "when no mid-term falls on any of its days", with the
+-- number of the month before it
 abbrev pub MonthByTerms : (ℕ → ℕ → Answer ℕ) → ℕ → ℕ → Month → Type 0
 MonthByTerms term y n (Ordinary k) = HoldsOne term y n k
 MonthByTerms term y n (Leap k) = (1 ≤ n) × ((z j : ℕ) → FallsIn term z j n → ⊥) × HoldsOne term y (n - 1) k
@@ -53,7 +54,7 @@ pub record DateByTerms (term : ℕ → ℕ → Answer ℕ) (d : ℕ) (r : Date) 
   pub its-day-name : r .«day_name» ≡ dayName d
   pub its-year-name : r .«year_name» ≡ yearName (r .year)
 
--- the day of a date, by the mid-terms: of the month of that year, number and mark there is a day m
+-- the day of a date, by the mid-terms: of the month of that civil year, number and mark there is a day m
 pub record DayByTerms (term : ℕ → ℕ → Answer ℕ) (y k : ℕ) (l : Bool) (m d : ℕ) : Type 0 where
   pub n : ℕ
   pub the-month : MonthByTerms term (solsticeYearOf y k) n (marked l k)

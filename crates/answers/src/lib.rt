@@ -87,7 +87,7 @@ fn put_term(t: Term, out: &mut [u8], at: usize) -> usize
     fields::put_byte(10, out, to3)
 }
 
-// The answer to `TERM year k`.
+// The answer to `TERM solstice-year k`.
 pub fn answer_term(year: u32, k: u32, out: &mut [u8], at: usize) -> usize
     requires { ⌜ at + 120 ≤ length (now out) ⌝ }
     ensures { λ r. ⌜ Put 120 (now (out .entry)) at (termText year k) (now (out .exit)) r ⌝ }
@@ -120,7 +120,7 @@ pub fn answer_quarter(n: u32, q: u32, out: &mut [u8], at: usize) -> usize
     }
 }
 
-// A year's place among ji and bu, and its bu's head name.
+// A solstice year's place among ji and bu, and its bu's head name.
 fn put_bu_fields(p: SolsticeYear, out: &mut [u8], at: usize) -> usize
     requires { ⌜ at + 49 ≤ length (now out) ⌝ }
     ensures { λ r. ⌜ Put 49 (now (out .entry)) at (joined (fieldsOfBu p)) (now (out .exit)) r ⌝ }
@@ -132,7 +132,7 @@ fn put_bu_fields(p: SolsticeYear, out: &mut [u8], at: usize) -> usize
     fields::put_next(p.head_name as u32, out, to4)
 }
 
-// A `PLACE` line: the year's place, then its first month, leap remainder and how many months.
+// A `PLACE` line: the solstice year's place, then its first month, leap remainder and how many months.
 fn put_place(p: SolsticeYear, out: &mut [u8], at: usize) -> usize
     requires { ⌜ at + 83 ≤ length (now out) ⌝ }
     ensures { λ r. ⌜ Put 83 (now (out .entry)) at (placeLine p) (now (out .exit)) r ⌝ }
@@ -144,7 +144,7 @@ fn put_place(p: SolsticeYear, out: &mut [u8], at: usize) -> usize
     fields::put_byte(10, out, to4)
 }
 
-// The answer to `PLACE year`.
+// The answer to `PLACE solstice-year`.
 pub fn answer_place(year: u32, out: &mut [u8], at: usize) -> usize
     requires { ⌜ at + 120 ≤ length (now out) ⌝ }
     ensures { λ r. ⌜ Put 120 (now (out .entry)) at (placeText year) (now (out .exit)) r ⌝ }
@@ -178,7 +178,7 @@ pub fn answer_month(n: u32, out: &mut [u8], at: usize) -> usize
     }
 }
 
-// A year's leap month by number and count, or two `-`, each after a space.
+// A civil year's leap month by number and count, or two `-`, each after a space.
 fn put_leap(l: LeapMonth, out: &mut [u8], at: usize) -> usize
     requires { ⌜ at + 22 ≤ length (now out) ⌝ }
     ensures { λ r. ⌜ Put 22 (now (out .entry)) at (32 ∷ joined (fieldsOfLeap l)) (now (out .exit)) r ⌝ }

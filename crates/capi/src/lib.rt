@@ -91,7 +91,7 @@ pub extern "C" fn oes_solstice_year(year: u64) -> CSolstice
     flat::flat_solstice(facts::solstice_year(capped::cap(year)))
 }
 
-// A year's own facts.
+// A civil year's own facts.
 #[no_mangle]
 pub extern "C" fn oes_year_facts(year: u64) -> CYear
     ensures { λ r. ⌜ CYearFacts year r ⌝ }
@@ -115,7 +115,7 @@ pub extern "C" fn oes_quarter(month: u64, quarter: u64) -> CQuarter
     flat::flat_quarter(facts::quarter(capped::cap(month), capped::cap(quarter)))
 }
 
-// A term of a year.
+// A term of a solstice year.
 #[no_mangle]
 pub extern "C" fn oes_term(year: u64, term: u64) -> CTerm
     ensures { λ r. ⌜ CTermOf year term r ⌝ }
@@ -214,7 +214,7 @@ pub extern "C" fn oes_write_sheet(
     flat::flat_length(sheet::write_sheet(years, months, days, out))
 }
 
-// A year's block, a month's line, a `MONTH` line, a `DAY` line.
+// A civil year's block, a month's line, a `MONTH` line, a `DAY` line.
 #[no_mangle]
 pub extern "C" fn oes_print_year(year: u64, out: &mut [u8]) -> CLength
     ensures { λ r. ⌜ CPrintYear year (now (out .entry)) r (now (out .exit)) ⌝ }

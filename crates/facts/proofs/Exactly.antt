@@ -41,7 +41,7 @@ use Rattle.facts.specs.declared.LeapMonth.the-variants.{Without, With}
 use Rattle.facts.specs.declared.YearFacts.{YearFacts}
 use Rattle.facts.specs.declared.MonthFacts.{MonthFacts}
 use Rattle.facts.specs.Facts.{solsticeYear, leapMonth, yearFacts, monthFacts, quarterOf, termOf}
-use Rattle.facts.specs.Paper.{YearBegins, YearOpens, IsSolsticeYear, LeapMonthOf, IsYearFacts, IsMonthFacts, IsQuarter}
+use Rattle.facts.specs.Paper.{SolsticeYearBegins, YearOpens, IsSolsticeYear, LeapMonthOf, IsYearFacts, IsMonthFacts, IsQuarter}
 use Rattle.facts.proofs.Leaps.{leap-found, leap-none, leap-is}
 use Rattle.facts.proofs.Made.{solstice-year-made, year-made, month-made, quarter-made, term-made}
 
@@ -123,16 +123,16 @@ month-exactly n = exactly (IsMonthFacts n) (monthFacts n) (month-there n) (month
 
 -- a solstice year, of 13 months or of 12
 module _ (y : ℕ) (l : 1 ≤ y) where
-  begins-there : YearBegins y (solsticeFirstMonth y) (leapRemainder y) (monthsInSolsticeYear y)
+  begins-there : SolsticeYearBegins y (solsticeFirstMonth y) (leapRemainder y) (monthsInSolsticeYear y)
   begins-there =
       record {
         begins = year-parts y .0;
         below = year-parts y .1;
-        thirteen = Rule.thirteen-months y l .thirteen;
-        twelve = Rule.thirteen-months y l .twelve;
+        thirteen = Rule.thirteen-in-a-solstice-year y l .thirteen;
+        twelve = Rule.thirteen-in-a-solstice-year y l .twelve;
       }
 
-  begins-only : (a b m : ℕ) → YearBegins y a b m → (a ≡ solsticeFirstMonth y) × (b ≡ leapRemainder y) × (m ≡ monthsInSolsticeYear y)
+  begins-only : (a b m : ℕ) → SolsticeYearBegins y a b m → (a ≡ solsticeFirstMonth y) × (b ≡ leapRemainder y) × (m ≡ monthsInSolsticeYear y)
   begins-only a b m h = (whole .0, whole .1, ⊎-elim short long (lt-or-le b 12))
     where
       whole : (a ≡ solsticeFirstMonth y) × (b ≡ leapRemainder y)

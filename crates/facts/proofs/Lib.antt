@@ -6,3 +6,4 @@ pub mod Made
 pub mod Given
 pub mod Exactly
 pub mod Paper
+pub mod Years

@@ -214,10 +214,10 @@ wrong-facts =
     near-midnight r = told-is (termOf 44 10) r (termAt 44 10) (term-given 44 10 (omega arith) (omega arith))
 
 -- what is told of a year and of a month
-its-place : (y : ℕ) (s : SolsticeYear) → SolsticeYearInRange y → SolsticeYearFacts y (Solstice'.Is s) → s ≡ solsticeYear y
+pub its-place : (y : ℕ) (s : SolsticeYear) → SolsticeYearInRange y → SolsticeYearFacts y (Solstice'.Is s) → s ≡ solsticeYear y
 its-place y s h = told-is (solsticeYear y) s (solsticeYearAt y) (solstice-year-given y h)
 
-its-month : (n : ℕ) (f : MonthFacts) → MonthInRange n → MonthByCount n (Month'.Is f) → f ≡ monthFacts n
+pub its-month : (n : ℕ) (f : MonthFacts) → MonthInRange n → MonthByCount n (Month'.Is f) → f ≡ monthFacts n
 its-month n f h = told-is (monthFacts n) f (monthFactsAt n) (month-given n h)
 
 its-eclipse : (n : ℕ) (f : MonthFacts) → MonthInRange n → MonthByCount n (Month'.Is f) → f .eclipse ≡ eclipse n

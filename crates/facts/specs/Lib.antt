@@ -2,3 +2,4 @@
 pub mod Facts
 pub mod Promises
 pub mod Paper
+pub mod Years

@@ -31,9 +31,9 @@ use Rattle.facts.specs.declared.TermTold.{TermTold}
 use Rattle.facts.specs.declared.TermTold.the-variants as Term'
 use Rattle.facts.specs.Promises.{saidTerm, SolsticeYearFacts, YearOwnFacts, MonthByCount, QuarterOfMonth, TermOfYear}
 
--- of the solstice year: "Year Y begins with the month count that is the whole part of 235 × (Y − 1) divided by 19; the rest is its leap remainder. It has
--- 13 months exactly when that is 12 or more, else 12."
-pub record YearBegins (y first rest months : ℕ) : Type 0 where
+-- of the solstice year: "Year Y begins with the month count that is the whole part of 235 × (Y − 1) divided by 19; the rest is its leap
+-- remainder. It has 13 months exactly when that is 12 or more, else 12."
+pub record SolsticeYearBegins (y first rest months : ℕ) : Type 0 where
   pub begins : 19 * first + rest ≡ 235 * elapsed y
   pub below : rest < 19
   pub thirteen : (months ≡ 13) ↔ (12 ≤ rest)
@@ -45,7 +45,7 @@ pub record IsSolsticeYear (y : ℕ) (s : SolsticeYear) : Type 0 where
   pub w : ℕ
   pub its-place : IsPlace y w (s .ji) (s .bu) (s .«year_in_bu»)
   pub its-head : s .«head_name» ≡ dayName (monthStart (solsticeFirstMonth (y - (s .«year_in_bu» - 1))))
-  pub its-months : YearBegins y (s .«first_month») (s .«leap_remainder») (s .months)
+  pub its-months : SolsticeYearBegins y (s .«first_month») (s .«leap_remainder») (s .months)
 
 -- a solstice year's facts are given exactly in range, and are just what the paper says
 abbrev pub Solstice-year : Type 0
@@ -97,8 +97,8 @@ pub record IsQuarter (n q : ℕ) (r : Quarter) : Type 0 where
 abbrev pub Quarter-of-month : Type 0
 Quarter-of-month = (n q : ℕ) (r : Quarter) → QuarterOfMonth n q (Quarter'.Is r) ↔ (MonthInRange n × (q ≤ 3) × IsQuarter n q r)
 
--- "Year Y and term k (0 to 23, 0 the solstice) mean t = 24 × (Y − 1) + k." "The answer for a term gives, besides the day, the remainder in
--- parts of 32." (W2)
+-- of a solstice year: "Year Y and term k (0 to 23, 0 the solstice) mean t = 24 × (Y − 1) + k." "The answer for a term gives, besides the day,
+-- the remainder in parts of 32." (W2)
 abbrev pub Term-of-year : Type 0
 Term-of-year =
     (y k : ℕ) (r : Term) → TermOfYear y k (Term'.Is r) ↔ (SolsticeYearInRange y × (k ≤ 23) × IsTerm (24 * (y - 1) + k) (r .day) (r .parts))
@@ -153,8 +153,8 @@ pub record Unique-facts : Type 0 where
   pub quarter : (n q : ℕ) (a b : QuarterTold) → QuarterOfMonth n q a → QuarterOfMonth n q b → a ≡ b
   pub term : (y k : ℕ) (a b : TermTold) → TermOfYear y k a → TermOfYear y k b → a ≡ b
 
--- wrong versions, each shut out at a named input: of each call one that refuses all, and one fixed answer; and at year 44, term 10, which is
--- day 15,857 and 30 parts: the remainder of another divisor, 487 × t by 16 (14 parts) or, counted among mid-terms, 487 × m by 16 (15);
+-- wrong versions, each shut out at a named input: of each call one that refuses all, and one fixed answer; and at solstice year 44, term 10,
+-- which is day 15,857 and 30 parts: the remainder of another divisor, 487 × t by 16 (14 parts) or, counted among mid-terms, 487 × m by 16 (15);
 -- the remainder of the term after (5)
 pub record Wrong-facts : Type 0 where
   pub solstice-year-refused : (why : Reason) → SolsticeYearFacts 1 (Solstice'.Refused why) → ⊥

@@ -4,7 +4,7 @@ ghost use Prim.Native.Nat.{_+_, _≤_};
 ghost use Rattle.rule.specs.Counts.{SolsticeYearInRange, CivilYearInRange, MonthInRange};
 ghost use Rattle.rule.specs.Lists.{those};
 ghost use Rattle.rule.specs.Rule.{leap};
-ghost use Rattle.facts.specs.Facts.{solsticeYear, firstOf, leapMonth, yearFacts, monthFacts};
+ghost use Rattle.facts.specs.Facts.{solsticeYear, firstOf, yearFacts, monthFacts};
 ghost use Rattle.facts.specs.Promises.{SolsticeYearFacts, YearOwnFacts, MonthByCount, QuarterOfMonth, TermOfYear};
 use rule::Month;
 use rule::Quarter;
@@ -114,27 +114,18 @@ fn leap_among(first: u32, months: u32) -> LeapMonth
     LeapMonth::Without
 }
 
-// The leap month of a civil year, if it has one.
-fn leap_month_of(year: u16) -> LeapMonth
-    requires { ⌜ CivilYearInRange year ⌝ }
-    ensures { λ r. ⌜ r ≡ leapMonth year ⌝ }
-{
-    leap_among(
-        rule::civil_first_month(year),
-        rule::months_in_civil_year(year) as u32,
-    )
-}
-
 // The own facts of a civil year in range. Whoever lists a year asks here.
 pub fn year_facts_at(year: u16) -> YearFacts
     requires { ⌜ CivilYearInRange year ⌝ }
     ensures { λ r. ⌜ r ≡ yearFacts year ⌝ }
 {
-    let leap_month = leap_month_of(year);
+    let first = rule::civil_first_month(year);
+    let months = rule::months_in_civil_year(year);
+    let leap_month = leap_among(first, months as u32);
     YearFacts {
         name: rule::year_name(year),
-        first_month: rule::civil_first_month(year),
-        months: rule::months_in_civil_year(year),
+        first_month: first,
+        months: months,
         leap_month: leap_month,
     }
 }

@@ -136,7 +136,7 @@ pub fn flat_solstice(a: SolsticeYearTold) -> CSolstice
     }
 }
 
-// The same of a year's own.
+// The same of a civil year's own.
 fn given_year(y: YearFacts) -> CYear
     ensures { λ r. ⌜ r ≡ givenYear y ⌝ }
 {

@@ -1,6 +1,6 @@
--- "Known dates" of the paper, the starred ones: one table of cases, every clause a row, and what it means that all hold. "Cases 1, 2, 3, 5, 6,
--- 8, 9 and 11 are worked again where they name a year" (W4): a date's year is the civil one, a place, a leap remainder and a solstice are of
--- the solstice year.
+-- "Known dates" of the paper, the starred ones: one table of cases, every clause a row, and what it means that all hold. "Cases 1, 2,
+-- 3, 5, 6, 8, 9 and 11 are worked again where they name a year" (W4): a date's year, with its name and its leap month, is the civil one; a
+-- place, a first month, a leap remainder and a solstice are of the solstice year.
 -- Assumes nothing.
 use Prim.Native.Nat.{ℕ}
 use mathlib.Core.Path.{_≡_}
@@ -18,26 +18,26 @@ use Rattle.facts.specs.Facts.{solsticeYearAt, yearFactsAt, monthFactsAt, quarte
 
 -- what is asked in a row
 pub data Question : Type 0 where
-  date-of-day : ℕ → Question  -- year, month number, mark, day of month
+  date-of-day : ℕ → Question  -- civil year, month number, mark, day of month
   name-of-day : ℕ → Question
   year-name-of-day : ℕ → Question
   day-of-date : ℕ → ℕ → Bool → ℕ → Question
-  moved-date : ℕ → ℕ → Bool → ℕ → ℤ → Question  -- year, month number, mark, day of month
+  moved-date : ℕ → ℕ → Bool → ℕ → ℤ → Question  -- civil year, month number, mark, day of month
   moved-name : ℕ → ℕ → Bool → ℕ → ℤ → Question  -- the day's name there
-  moved-year-name : ℕ → ℕ → Bool → ℕ → ℤ → Question  -- the year's name there
-  ji-of-year : ℕ → Question
-  bu-of-year : ℕ → Question  -- bu, and year in bu
-  head-name : ℕ → Question  -- of the year's bu
-  year-name : ℕ → Question
-  leap-remainder : ℕ → Question
-  first-month : ℕ → Question
+  moved-year-name : ℕ → ℕ → Bool → ℕ → ℤ → Question  -- the civil year's name there
+  ji-of-year : ℕ → Question  -- of a solstice year
+  bu-of-year : ℕ → Question  -- of a solstice year: bu, and year in bu
+  head-name : ℕ → Question  -- of a solstice year's bu
+  year-name : ℕ → Question  -- of a civil year
+  leap-remainder : ℕ → Question  -- of a solstice year
+  first-month : ℕ → Question  -- of a solstice year
   first-day : ℕ → Question  -- of a month by its count
   first-name : ℕ → Question  -- of that day
   full-moon : ℕ → Question  -- the day of a month's quarter 2
-  solstice : ℕ → Question  -- the day of a year's term 0
-  month-of-name : ℕ → ℕ → Bool → Question  -- the month of a year with a number and mark
-  leap-month : ℕ → Question  -- its number and its count
-  shortcut : ℕ → Question  -- the number that 004's shortcut would give the leap month
+  solstice : ℕ → Question  -- the day of a solstice year's term 0
+  month-of-name : ℕ → ℕ → Bool → Question  -- the month of a civil year with a number and mark
+  leap-month : ℕ → Question  -- of a civil year: its number and its count
+  shortcut : ℕ → Question  -- the number that 004's shortcut would give a solstice year's leap month
   eclipse-month : ℕ → Question  -- 1 if it is one, 0 if not
 
 abbrev pub bit : Bool → ℕ
@@ -88,14 +88,14 @@ refusal q r = record { asked = q; answer = refused r }
 -- the paper's eleven starred cases; a mark is 0 for ordinary and 1 for leap
 unfoldable pub cases : List Case
 cases =
-    -- 1. Day 0: year 0, month 11, day 1, name 1. Day −1 does not exist: moving there is reason 8.
+    -- 1. Day 0: civil year 0, month 11, day 1, name 1. Day −1 does not exist: moving there is reason 8.
     row (date-of-day 0) (0 ∷ 11 ∷ 0 ∷ 1 ∷ [])
     ∷ row (name-of-day 0) (1 ∷ [])
     ∷ refusal (moved-date 0 11 false 1 (negsuc 0)) 8
-    -- 2. Day 29: year 0, month 12, day 1. Day 28 is day 29 of its month 11.
+    -- 2. Day 29: civil year 0, month 12, day 1. Day 28 is day 29 of its month 11.
     ∷ row (date-of-day 29) (0 ∷ 12 ∷ 0 ∷ 1 ∷ [])
     ∷ row (date-of-day 28) (0 ∷ 11 ∷ 0 ∷ 29 ∷ [])
-    -- 3. Day 14,989,859: year 41,040, leap 10, day 30, name 60. The next day is reason 6.
+    -- 3. Day 14,989,859: civil year 41,040, leap 10, day 30, name 60. The next day is reason 6.
     ∷ row (date-of-day 14989859) (41040 ∷ 10 ∷ 1 ∷ 30 ∷ [])
     ∷ row (name-of-day 14989859) (60 ∷ [])
     ∷ refusal (date-of-day 14989860) 6
@@ -126,7 +126,7 @@ cases =
     ∷ row (first-name 116957) (60 ∷ [])
     ∷ row (month-of-name 9457 5 true) (116962 ∷ [])
     ∷ row (leap-month 9457) (5 ∷ 116962 ∷ [])
-    -- 8. Civil year 11: leap 9, month 134. The shortcut would give leap 8.
+    -- 8. Civil year 11: leap 9, month 134. In solstice year 11 the shortcut would give leap 8.
     ∷ row (leap-month 11) (9 ∷ 134 ∷ [])
     ∷ row (shortcut 11) (8 ∷ [])
     -- 9. Civil year 11, leap 8, day 1: reason 4. Leap 9, day 30: reason 5.
@@ -141,7 +141,7 @@ cases =
     ∷ row (eclipse-month 2) (0 ∷ [])
     ∷ row (eclipse-month 3) (0 ∷ [])
     ∷ row (eclipse-month 4) (0 ∷ [])
-    -- 11. Day 0 moved by 27,759: year 76, month 11, day 1, name 40, year name 32.
+    -- 11. Day 0 moved by 27,759: civil year 76, month 11, day 1, name 40, year name 32.
     ∷ row (moved-date 0 11 false 1 (pos 27759)) (76 ∷ 11 ∷ 0 ∷ 1 ∷ [])
     ∷ row (moved-name 0 11 false 1 (pos 27759)) (40 ∷ [])
     ∷ row (moved-year-name 0 11 false 1 (pos 27759)) (32 ∷ [])

@@ -69,7 +69,7 @@ pub fn put_month(n: u32, out: &mut [u8], at: usize) -> usize
     put_month_line(n, out, to)
 }
 
-// The six fields of a year's header.
+// The six fields of a civil year's header.
 pub fn put_year_fields(year: u16, f: YearFacts, out: &mut [u8], at: usize) -> usize
     requires { ⌜ at + 49 ≤ length (now out) ⌝ }
     ensures { λ r. ⌜ Put 49 (now (out .entry)) at (joined (fieldsOfYear year f)) (now (out .exit)) r ⌝ }
@@ -97,7 +97,7 @@ fn put_months(first: u32, months: u32, out: &mut [u8], at: usize) -> usize
     to
 }
 
-// A year's block: its header, and one line a month.
+// A civil year's block: its header, and one line a month.
 pub fn put_year(year: u16, out: &mut [u8], at: usize) -> usize
     requires { ⌜ CivilYearInRange year × (at + 674 ≤ length (now out)) ⌝ }
     ensures { λ r. ⌜ Put 674 (now (out .entry)) at (yearBlock year) (now (out .exit)) r ⌝ }
@@ -152,7 +152,7 @@ fn hand_over(s: &[u8], out: &mut [u8]) -> HowMany
     HowMany::Is(fields::put_bytes(s, out, 0))
 }
 
-// A year's block into a lent buffer: reason 1, then 12.
+// A civil year's block into a lent buffer: reason 1, then 12.
 pub fn print_year(year: u32, out: &mut [u8]) -> HowMany
     ensures { λ r. ⌜ PrintYear year (now (out .entry)) r (now (out .exit)) ⌝ }
 {

@@ -9,7 +9,7 @@ ghost use Rattle.penned.specs.Lines.{yearBlock, monthItem, dayItem, listingOf, 
 ghost use Rattle.listed.specs.Paper.{inputHeld, InputListed};
 use sheet::SheetCounts;
 
-// The blocks of years.
+// The blocks of civil years.
 fn put_years(years: &[u16], out: &mut [u8], at: usize) -> usize
     requires { ⌜ GoodList (ranged yearItems) (now years) × (at + 674 * length (now years) ≤ length (now out)) ⌝ }
     ensures { λ r. ⌜ Put (674 * length (now (years .entry))) (now (out .entry)) at (each yearBlock (now (years .entry)))

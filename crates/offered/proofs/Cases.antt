@@ -49,7 +49,7 @@ pub leap-8-of-11 : flatDay (dayOfDate 11 8 true 1) ≡ record { reason = 4; day 
 unfolding dates-computed
 leap-8-of-11 = refl
 
--- cases 5 and 6: the place of year 9,366, its full moon and its solstice
+-- cases 5 and 6: the place of solstice year 9,366, its full moon and its solstice
 pub place-of-9366 :
     flatSolstice (solsticeYearAt 9366)
     ≡ record {
@@ -103,7 +103,8 @@ pub month-134 :
 unfolding facts-computed
 month-134 = refl
 
--- W11: the first conjunction of Venus, a morning one; the one that 004 counts to by the end of year 9,455, an evening one; its pair
+-- W11: the first conjunction of Venus, a morning one; the one that 004 counts to by the end of solstice year 9,455, an evening one;
+-- its pair
 pub first-of-venus : flatConjunction (conjunctionAt 4 1) ≡ record { reason = 0; day = 292; parts = 281; divisor = 23320; phase = 1 }
 unfolding planets-computed
 first-of-venus = refl

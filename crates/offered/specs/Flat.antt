@@ -120,7 +120,7 @@ abbrev pub leapCount : LeapMonth → ℕ
 leapCount Without = 0
 leapCount (With k n) = n
 
--- a year's own
+-- a civil year's own
 abbrev pub givenYear : YearFacts → CYear
 givenYear y =
     record {

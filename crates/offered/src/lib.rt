@@ -35,7 +35,7 @@ pub struct CSolstice {
     pub months: u32,
 }
 
-// A year's own; without a leap month, `has_leap` is false and the two numbers after it are 0.
+// A civil year's own; without a leap month, `has_leap` is false and the two numbers after it are 0.
 #[repr(C)]
 pub struct CYear {
     pub reason: u32,
@@ -68,7 +68,7 @@ pub struct CQuarter {
     pub parts: u32,
 }
 
-// A term of a year: its day and the rest in parts of 32.
+// A term of a solstice year: its day and the rest in parts of 32.
 #[repr(C)]
 pub struct CTerm {
     pub reason: u32,

@@ -37,6 +37,11 @@ pub day-0 : dayItemAt 0 300 ≡ is (inLines (word "DAY 0 0 11 - 1 1" ∷ []))
 unfolding dayItemAt dayItem month-lines dates-computed
 day-0 = refl
 
+-- "Year 0 then holds months 11 and 12 only, name 16"
+pub year-0 : yearBlockAt 0 300 ≡ is (inLines (word "YEAR 0 NAME 16 MONTHS 2" ∷ word "0 11 - 1 29 -" ∷ word "1 12 - 30 30 -" ∷ []))
+unfolding yearBlockAt year-lines
+year-0 = refl
+
 pub year-11 : yearBlockAt 11 300 ≡ is exampleOf11
 unfolding yearBlockAt year-lines
 year-11 = refl

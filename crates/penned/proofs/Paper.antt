@@ -40,7 +40,7 @@ use Rattle.penned.specs.Lines.{
 use Rattle.fields.proofs.Paper.{first-tells}
 use Rattle.penned.specs.Promises.{yearBlockAt, monthLineAt, monthItemAt, dayItemAt, Printed}
 use Rattle.penned.specs.Paper.{inLines}
-use Rattle.penned.proofs.Cases.{year-lines, year-11, line-134, month-134, day-0}
+use Rattle.penned.proofs.Cases.{year-lines, year-11, line-134, month-134, day-0, year-0}
 use Rattle.penned.proofs.Refusing.{printed-refused}
 use Rattle.penned.specs.Paper as Paper
 
@@ -199,6 +199,7 @@ unfolding inLines
 wrong-printings =
     record {
       year-refused = λ why o p. not-refused year-11 p;
+      year-0-refused = λ why o p. not-refused year-0 p;
       year-unwritten = λ a p. not-so 0 0 89 year-11 p refl refl (omega arith);
       header-alone = λ a p. not-so 26 0 49 year-11 p refl refl (omega arith);
       month-line-refused = λ why o p. not-refused line-134 p;

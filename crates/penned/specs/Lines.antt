@@ -46,11 +46,12 @@ fieldsOfMonth n f =
     ∷ (mark (f .eclipse) letterE ∷ [])
     ∷ []
 
--- "The header holds the year, its name and how many months it has"
+-- "The header holds the year, its name and how many months it has": a civil year
 abbrev pub fieldsOfYear : ℕ → YearFacts → List (List ℕ)
 fieldsOfYear y f = word "YEAR" ∷ decimal y ∷ word "NAME" ∷ decimal (f .name) ∷ word "MONTHS" ∷ decimal (f .months) ∷ []
 
--- "`DAY`, day, year, month, `L` or `-`, day of month, day name"; "the day is the day count and the month is its number"
+-- "`DAY`, day, year, month, `L` or `-`, day of month, day name"; "the day is the day count and the month is its number", and
+-- the year is the civil one
 abbrev pub fieldsOfDay : ℕ → Date → List (List ℕ)
 fieldsOfDay d r =
     word "DAY"
@@ -66,11 +67,11 @@ fieldsOfDay d r =
 unfoldable pub monthLine : ℕ → List ℕ
 monthLine n = joined (fieldsOfMonth n (monthFacts n))
 
--- the same as a line of a year's block
+-- the same as a line of a civil year's block
 unfoldable pub monthLined : ℕ → List ℕ
 monthLined n = lined (fieldsOfMonth n (monthFacts n))
 
--- "For each year it prints a header and one line a month": the months that the year lists
+-- "For each year it prints a header and one line a month": the months that the civil year lists
 abbrev pub monthsListed : YearFacts → List ℕ
 monthsListed f = those (λ n. true) (f .«first_month») (f .months)
 
@@ -103,7 +104,8 @@ printed (refused-with k n) = refusedLine k
 unfoldable pub listing : List ℕ → List ℕ
 listing s = printed (readSheet s)
 
--- the words of the reasons, as the paper's table and request W11 have them
+-- the words of the reasons: the paper's rows and those of W4 and W11; 1, 10, 13 and 15 so worded that they are true wherever the reason
+-- is given (docs/PAPER.md has the paper's own)
 abbrev pub wordsOf : Reason → List ℕ
 wordsOf NoSuchYear = word "year outside its range"
 wordsOf NoSuchMonthNumber = word "month number outside 1 to 12"

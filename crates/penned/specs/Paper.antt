@@ -33,8 +33,8 @@ unfoldable pub inLines : List (List ℕ) → List ℕ
 inLines [] = []
 inLines (l ∷ ls) = l ++ (10 ∷ inLines ls)
 
--- "For the sheet with year 11 alone .., all of it is:", and "Listing year 11 gives months 125 to 137" (W4): the paper's lines from month 125
--- on, and those of the two months that close the year
+-- "For the sheet with year 11 alone .., all of it is:", and "Listing year 11 gives months 125 to 137" (W4): the paper's lines from
+-- month 125 on, and those of the two months that close the civil year
 abbrev pub exampleOf11 : List ℕ
 exampleOf11 =
     inLines
@@ -84,7 +84,7 @@ Month-line-literally =
     ∷ 32
     ∷ (decimal (dayName (monthStart n)) ++ (32 ∷ (decimal (monthLength n) ++ (32 ∷ mark (eclipse n) letterE ∷ [])))))))
 
--- a year's block: its header, and one line a month of its own
+-- a civil year's block: its header, and one line a month of its own
 abbrev pub Year-block-literally : Type 0
 Year-block-literally =
     (y : ℕ) →
@@ -168,6 +168,7 @@ noughts = replicate 300 0
 
 pub record Wrong-printings : Type 0 where
   pub year-refused : (why : Reason) (o : List ℕ) → PrintYear 11 noughts (HowMany'.Refused why) o → ⊥
+  pub year-0-refused : (why : Reason) (o : List ℕ) → PrintYear 0 noughts (HowMany'.Refused why) o → ⊥
   pub year-unwritten : (a : HowMany) → PrintYear 11 noughts a noughts → ⊥
   pub header-alone : (a : HowMany) → PrintYear 11 noughts a (placed (inLines (word "YEAR 11 NAME 27 MONTHS 13" ∷ [])) noughts) → ⊥
   pub month-line-refused : (why : Reason) (o : List ℕ) → PrintMonthLine 134 noughts (HowMany'.Refused why) o → ⊥

@@ -1,4 +1,4 @@
--- What the four calls promise that write a year's block, a month's line, a `MONTH` or a `DAY` line into a lent buffer.
+-- What the four calls promise that write a civil year's block, a month's line, a `MONTH` or a `DAY` line into a lent buffer.
 -- Assumes nothing.
 use Prim.Native.Nat.{ℕ}
 use mathlib.Core.Path.{_≡_}
@@ -28,7 +28,7 @@ pub record Printed (a : Answer (List ℕ)) (o : List ℕ) (r : HowMany) (o′ : 
   pub answer : saidHowMany r ≡ andThen a (λ b. is (length b))
   pub buffer : o′ ≡ afterwards a (λ b. b) o
 
--- a year's block, a month's line, a `MONTH` line, a `DAY` line
+-- a civil year's block, a month's line, a `MONTH` line, a `DAY` line
 abbrev pub PrintYear : ℕ → List ℕ → HowMany → List ℕ → Type 0
 PrintYear y o = Printed (yearBlockAt y (length o)) o
 

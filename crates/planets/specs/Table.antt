@@ -55,7 +55,7 @@ cases =
     ∷ row (in-month 3 1 12) (24 ∷ 2163 ∷ [])
     ∷ row (in-month 4 1 9) (27 ∷ 281 ∷ [])
     ∷ row (in-month 5 1 1) (28 ∷ 44805 ∷ [])
-    -- 11,826 conjunctions of Venus by the end of year 9,455, an evening one in that year (Q04, Q05)
+    -- 11,826 conjunctions of Venus by the end of solstice year 9,455, an evening one in that year (Q04, Q05)
     ∷ row (conjunction 4 11826) (3453334 ∷ 11666 ∷ 23320 ∷ 2 ∷ [])
     ∷ row (next 4 3453334) (11826 ∷ 3453334 ∷ 11666 ∷ 23320 ∷ 2 ∷ [])
     -- the printed pairs (P01, P02, P22, P23, P43, P44, P65, P66, P90, P91)

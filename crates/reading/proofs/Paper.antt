@@ -348,5 +348,6 @@ wrong-searches =
       one-place-on = λ a s. let e : _≡_ {A = List ℕ} (0 ∷ 3 ∷ 4 ∷ []) (3 ∷ 4 ∷ 5 ∷ []) = s .lent in omega (arith, ap (λ (l : List ℕ). getD l 0 0) e);
       written-before-refusal = λ a x h s. h (let e : _≡_ {A = List ℕ} (x ∷ []) (0 ∷ []) = s .lent in ap (λ (l : List ℕ). getD l 0 0) e);
       tail-cleared = λ a x h s. h (let e : _≡_ {A = List ℕ} (3 ∷ 4 ∷ x ∷ []) (3 ∷ 4 ∷ 5 ∷ []) = s .lent in ap (λ (l : List ℕ). getD l 2 0) e);
+      by-the-solstice-year = λ a s. let e : _≡_ {A = List ℕ} (0 ∷ []) (5 ∷ []) = s .lent in omega (arith, ap (λ (l : List ℕ). getD l 0 0) e);
       second-big-left-out = λ a s. let e : _≡_ {A = List ℕ} (0 ∷ []) (3838 ∷ []) = s .lent in omega (arith, ap (λ (l : List ℕ). getD l 0 0) e);
     }

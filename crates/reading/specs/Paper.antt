@@ -161,6 +161,18 @@ allUnread =
       «first_name» = Unread;
     }
 
+-- and all but the year name
+abbrev pub yearNamed : ℕ → Reading
+yearNamed name =
+    record {
+      «year_name» = Known name;
+      «month_number» = Unread;
+      «leap_mark» = Unread;
+      «day_of_month» = Unread;
+      «day_name» = Unread;
+      «first_name» = Unread;
+    }
+
 pub record Unread-lists-all : Type 0 where
   pub counted : (first last n : ℕ) (old new : List ℕ) → Searched allUnread first last old (Is n) new → n ≡ windowDays first last
   pub each :
@@ -210,7 +222,8 @@ allRead d =
 -- wrong versions, each shut out at a named input: one that refuses all, one that finds every list too short, one that fills no
 -- list, or with noughts, an invented total, given or told at 12, the first day copied over the rest, the first day alone, all days
 -- in one place, or one place too far, a list written before the refusal, its tail cleared, and days of the second of two big months
--- left out ("months 128 and 129 are both big", and day 3,838 is the last of month 129)
+-- left out ("months 128 and 129 are both big", and day 3,838 is the last of month 129); and day 0, whose civil year has name 16, found by
+-- the name of its solstice year
 pub record Wrong-searches : Type 0 where
   pub refusing-all : (why : Reason) (new : List ℕ) → Searched allUnread 0 0 (5 ∷ []) (Refused why) new → ⊥
   pub short-for-all : (n : ℕ) (new : List ℕ) → Searched allUnread 0 0 (5 ∷ []) (TooShort n) new → ⊥
@@ -224,4 +237,5 @@ pub record Wrong-searches : Type 0 where
   pub one-place-on : (a : Found) → Searched allUnread 3 4 (0 ∷ 0 ∷ 5 ∷ []) a (0 ∷ 3 ∷ 4 ∷ []) → ⊥
   pub written-before-refusal : (a : Found) (x : ℕ) → x ≢ 0 → Searched allUnread 3 4 (0 ∷ []) a (x ∷ []) → ⊥
   pub tail-cleared : (a : Found) (x : ℕ) → x ≢ 5 → Searched allUnread 3 4 (0 ∷ 0 ∷ 5 ∷ []) a (3 ∷ 4 ∷ x ∷ []) → ⊥
+  pub by-the-solstice-year : (a : Found) → Searched (yearNamed 17) 0 0 (5 ∷ []) a (0 ∷ []) → ⊥
   pub second-big-left-out : (a : Found) → Searched (allRead 3838) 3838 3838 (0 ∷ []) a (0 ∷ []) → ⊥

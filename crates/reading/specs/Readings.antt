@@ -20,7 +20,7 @@ markNumber false = 1
 markNumber true = 2
 
 -- the six values of a day, "in this order: year name, month number, leap mark, day of month, day name, name of the month's first
--- day": what its date has, and the last
+-- day": what its date has, and the last; the year name is the name of its civil year
 pub record Six : Type 0 where
   pub year-name : ℕ
   pub month-number : ℕ
@@ -48,7 +48,7 @@ abbrev pub fieldFits : Field → ℕ → Bool
 fieldFits (Known k) value = eqb k value
 fieldFits Unread value = true
 
--- the four values that all days of month n share: year name, month number, leap mark, name of the month's first day
+-- the four values that all days of month n share: the name of its civil year, month number, leap mark, name of the month's first day
 unfoldable pub monthFits : Reading → ℕ → Bool
 monthFits r n =
     fieldFits (r .«year_name») (yearName (civilYearOfMonth n))

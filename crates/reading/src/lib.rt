@@ -79,7 +79,7 @@ fn mark_number(leap: bool) -> u32
     if leap { 2 } else { 1 }
 }
 
-// Whether a field fits a month's year name.
+// Whether a field fits the name of a month's civil year.
 fn year_name_fits(f: Field, n: u32) -> bool
     requires { ⌜ MonthInRange n ⌝ }
     ensures { λ b. ⌜ b ≡ fieldFits f (yearName (civilYearOfMonth n)) ⌝ }

@@ -3,7 +3,7 @@ use Prim.Native.Nat.{ℕ, zero, suc, _+_, _-_, _*_, _/_, _≤_, _<_}
 use native.Mathlib.Numerals.{add-one}
 use native.Mathlib.Omega.{arith}
 use mathlib.Core.Path.{_≡_, refl, ap, ap₂, sym, _∙_, subst}
-use mathlib.Core.Logic.{Iff·trans, inl, inr, ⊎-elim}
+use mathlib.Core.Logic.{inl, inr, ⊎-elim}
 use mathlib.Core.Bool.{Bool, true, false, not, cond, _&&_, and-true, and-false}
 use lib.Dec.{eqb, leb}
 use lib.ListN.{length, length-append}
@@ -11,7 +11,7 @@ use borrow.Author.Tests.{leb-true, leb-false, le-leb, lt-leb, eq-eqb, ne-eqb}
 use Rattle.rule.specs.Counts.{CivilYearInRange}
 use Rattle.rule.specs.Lists.{those}
 use Rattle.rule.specs.Rule.{monthStart, monthLength, InMonth, solsticeFirstMonth, leapRemainder, InSolsticeYear, solsticeYearOfMonth, midTermsBefore, leap, midTermNumber, monthNumber, closing, civilYearOfMonth, solsticeYearOf, civilFirstMonth, monthsInCivilYear}
-use Rattle.rule.specs.declared.Month.the-variants.{Ordinary, Leap}
+use Rattle.rule.specs.declared.Month.the-variants.{Ordinary}
 use Rattle.rule.specs.Paper.{IsMonth, AfterNamesake}
 use Rattle.rule.specs.Civil as Civil
 use Rattle.rule.specs.Civil.{civilMonthsOf, yearsDiffer, inNineteen}
@@ -133,37 +133,6 @@ one-leap-in-a-civil-year y r =
   where
     at : (z : ℕ) → z ≡ y → length (civilMonthsOf leap z) ≤ 1 → length (civilMonthsOf leap y) ≤ 1
     at z = subst (λ (u : ℕ). length (civilMonthsOf leap u) ≤ 1)
-
-pub year-0 : Civil.Year-0
-unfolding rule-computed
-year-0 =
-    record {
-      months = λ n. Iff·trans (Years.civil-so-many 0 n (omega arith)) (omega arith);
-      eleven = month-0;
-      twelve = month-literally 1 (Ordinary 12) .0 refl;
-      name = refl;
-    }
-
-pub year-41040 : Civil.Year-41040
-unfolding rule-computed
-year-41040 =
-    record {
-      months = λ n. Iff·trans (Years.civil-so-many 41040 n (omega arith)) (omega arith);
-      last = month-literally 507599 (Leap 10) .0 refl;
-    }
-
-pub year-8 : Civil.Year-8
-unfolding rule-computed
-year-8 =
-    record { thirteen = refl; months = λ n. Iff·trans (Years.civil-so-many 8 n (omega arith)) (omega arith); remainder = refl }
-
-pub year-11 : Civil.Year-11
-unfolding rule-computed
-year-11 n = Iff·trans (Years.civil-so-many 11 n (omega arith)) (omega arith)
-
-pub year-27 : Civil.Year-27
-unfolding rule-computed
-year-27 = (Years.of-civil 27 334 .1 (omega arith, refl), month-literally 334 (Leap 11) .0 refl)
 
 -- the two years of a day differ where its month's number is 11 or 12
 day-differs : (n d : ℕ) → InMonth n d → yearsDiffer d ≡ closing (monthNumber n)

@@ -7,7 +7,7 @@ use mathlib.Core.Bool.{Bool, true, not, _&&_}
 use mathlib.Core.List.{List, [], _∷_, map}
 use lib.Dec.{eqb, leb}
 use lib.ListN.{length}
-use Rattle.rule.specs.Counts.{CivilYearInRange, MonthInRange, yearName}
+use Rattle.rule.specs.Counts.{CivilYearInRange, MonthInRange}
 use Rattle.rule.specs.Lists.{those}
 use Rattle.rule.specs.Rule.{
   monthOfDay,
@@ -21,7 +21,7 @@ use Rattle.rule.specs.Rule.{
   monthsInCivilYear,
 }
 use Rattle.rule.specs.Paper.{IsMonth, AfterNamesake, ordinary}
-use Rattle.rule.specs.declared.Month.the-variants.{Ordinary, Leap}
+use Rattle.rule.specs.declared.Month.the-variants.{Ordinary}
 
 -- "On a slip, month 11 and month 12, with any leap month of those numbers, close the year .. From now on a date's year is the civil one:
 -- one less than before for those months"
@@ -81,32 +81,6 @@ Leap-in-its-civil-year = (y n : ℕ) → InCivilYear y n → leap n ≡ true →
 -- and a year has one leap month at most
 abbrev pub One-leap-in-a-civil-year : Type 0
 One-leap-in-a-civil-year = (y : ℕ) → CivilYearInRange y → length (civilMonthsOf leap y) ≤ 1
-
--- "Year 0 then holds months 11 and 12 only, name 16"
-pub record Year-0 : Type 0 where
-  pub months : (n : ℕ) → InCivilYear 0 n ↔ (n ≤ 1)
-  pub eleven : IsMonth 0 (Ordinary 11)
-  pub twelve : IsMonth 1 (Ordinary 12)
-  pub name : yearName 0 ≡ 16
-
--- "year 41,040 ends with its leap month 10"
-pub record Year-41040 : Type 0 where
-  pub months : (n : ℕ) → InCivilYear 41040 n ↔ ((507589 ≤ n) × (n ≤ 507599))
-  pub last : IsMonth 507599 (Leap 10)
-
--- "year 8 has 13, months 88 to 100, though its remainder is 11"
-pub record Year-8 : Type 0 where
-  pub thirteen : monthsInCivilYear 8 ≡ 13
-  pub months : (n : ℕ) → InCivilYear 8 n ↔ ((88 ≤ n) × (n ≤ 100))
-  pub remainder : leapRemainder 8 ≡ 11
-
--- "year 11 gives months 125 to 137"
-abbrev pub Year-11 : Type 0
-Year-11 = (n : ℕ) → InCivilYear 11 n ↔ ((125 ≤ n) × (n ≤ 137))
-
--- year 27 has a leap 11, month 334
-abbrev pub Year-27 : Type 0
-Year-27 = InCivilYear 27 334 × IsMonth 334 (Leap 11)
 
 -- the two years of a day differ
 abbrev pub yearsDiffer : ℕ → Bool

@@ -224,7 +224,7 @@ pub fn quarter_of(n: u32, q: u8) -> Quarter
 }
 
 // A term, counted from the origin: its day and the rest in parts of 32; even ones are the mid-terms. The term after the last too, with
-// which the last year ends. Whatever asks for a term asks here.
+// which the last solstice year ends. Whatever asks for a term asks here.
 pub fn term_of(t: u32) -> Term
     requires { ⌜ t ≤ 984960 ⌝ }
     ensures { λ r. ⌜ (r .day ≡ termDay t) × (r .parts ≡ termParts t) ⌝ }
@@ -306,7 +306,7 @@ pub fn months_in_civil_year(year: u16) -> u8
     }
 }
 
-// The civil year that a month is in.
+// The civil year that a month is in. Why 214: civil year Y opens with the first month n for which 19 × n + 214 is 235 × Y or more.
 pub fn civil_year_of_month(n: u32) -> u16
     requires { ⌜ MonthInRange n ⌝ }
     ensures { λ r. ⌜ r ≡ civilYearOfMonth n ⌝ }

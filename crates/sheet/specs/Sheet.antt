@@ -96,7 +96,8 @@ ranged k =
     }
 
 -- "Three sections in fixed order, each after its count: years (2 bytes each), months (4), days (4)": the bytes of an item, the
--- least and the most that it may be, the reason where it is not, and "Each count is at most 1,000"
+-- least and the most that it may be, the reason where it is not, and "Each count is at most 1,000". A sheet's years are
+-- civil years (W4).
 abbrev pub yearItems : Items
 yearItems = record { width = 2; least = 0; most = 41040; reason = NoSuchYear; items = 1000 }
 

@@ -1,4 +1,4 @@
-// The sheet: three sections of years, months and days, read into three lent lists and written into a lent buffer.
+// The sheet: three sections of civil years, months and days, read into three lent lists and written into a lent buffer.
 ghost use mathlib.Core.Path.{_≡_};
 ghost use Prim.Native.Nat.{_≤_, _<_};
 ghost use mathlib.Core.Bool.{_&&_};
@@ -136,7 +136,7 @@ fn check_section(s: &[u8], k: Items) -> HowMany
     }
 }
 
-// The section in a place of the sheet: the years, the months, the days.
+// The section in a place of the sheet: the civil years, the months, the days.
 fn section_at(j: usize) -> Items
     requires { ⌜ j < 3 ⌝ }
     ensures { λ r. ⌜ SectionAt j r ⌝ }

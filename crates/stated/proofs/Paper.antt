@@ -424,6 +424,10 @@ wrong-sheets =
           let o : _≡_ {A = Answer Counted} (refused (reasonNumber why)) (is (countsAre 0 0 1)) = p .answer in
           let z : _≡_ {A = ℕ} 0 1 = cc in
           omega arith;
+      year-0-refused = λ why y m d p.
+          let o : _≡_ {A = Answer Counted} (refused (reasonNumber why)) (is (countsAre 1 0 0)) = p .answer in
+          let z : _≡_ {A = ℕ} 0 1 = cc in
+          omega arith;
     }
 
 pub wrong-writings : Paper.Wrong-writings
@@ -447,6 +451,10 @@ wrong-writings =
           omega arith;
       day-as-a-month = λ why o p.
           let e : _≡_ {A = Answer ℕ} (refused (reasonNumber why)) (is 10) = p .answer in
+          let z : _≡_ {A = ℕ} 0 1 = cc in
+          omega arith;
+      year-0-refused = λ why o p.
+          let e : _≡_ {A = Answer ℕ} (refused (reasonNumber why)) (is 8) = p .answer in
           let z : _≡_ {A = ℕ} 0 1 = cc in
           omega arith;
     }

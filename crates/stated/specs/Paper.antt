@@ -214,11 +214,15 @@ ReadTwos = ReadSheet sheetOfTwos (0 ∷ 0 ∷ []) (0 ∷ 0 ∷ []) (0 ∷ 0 ∷ 
 abbrev pub sheetPastMonths : List ℕ
 sheetPastMonths = 0 ∷ 0 ∷ 1 ∷ 0 ∷ 208 ∷ 190 ∷ 7 ∷ 0 ∷ 0 ∷ 0 ∷ []
 
+-- the sheet of civil year 0 alone
+abbrev pub sheetOfYear0 : List ℕ
+sheetOfYear0 = 1 ∷ 0 ∷ 0 ∷ 0 ∷ 0 ∷ 0 ∷ 0 ∷ 0 ∷ []
+
 abbrev pub sheetOfADay : List ℕ
 sheetOfADay = 0 ∷ 0 ∷ 0 ∷ 0 ∷ 1 ∷ 0 ∷ 208 ∷ 190 ∷ 7 ∷ 0 ∷ []
 
 -- wrong versions, each shut out at a named input: refusing all, filling no list, copying the first item over the rest, leaving out
--- the rest, and months and days in each other's place
+-- the rest, months and days in each other's place, and civil year 0 refused, as it was before W4
 pub record Wrong-sheets : Type 0 where
   pub refusing-all : (why : Reason) (y m d : List ℕ) → ReadSheet emptySheet [] [] [] (Counts'.Refused why) y m d → ⊥
   pub filling-none : (a : SheetCounts) (m d : List ℕ) → ReadSheet sheetOf11 (0 ∷ []) [] [] a (0 ∷ []) m d → ⊥
@@ -230,6 +234,7 @@ pub record Wrong-sheets : Type 0 where
   pub first-day-alone : (a : SheetCounts) (y m : List ℕ) → ReadTwos a y m (28 ∷ 0 ∷ []) → ⊥
   pub month-as-a-day : (c : Counted) (y m d : List ℕ) → ReadSheet sheetPastMonths [] (0 ∷ []) [] (Counts'.Is c) y m d → ⊥
   pub day-as-a-month : (why : Reason) (y m d : List ℕ) → ReadSheet sheetOfADay [] [] (0 ∷ []) (Counts'.Refused why) y m d → ⊥
+  pub year-0-refused : (why : Reason) (y m d : List ℕ) → ReadSheet sheetOfYear0 (5 ∷ []) [] [] (Counts'.Refused why) y m d → ⊥
 
 -- what a call may do that writes two years, two months or two days into a buffer of noughts
 abbrev pub WriteYears : HowMany → List ℕ → Type 0
@@ -252,3 +257,4 @@ pub record Wrong-writings : Type 0 where
   pub first-day-alone : (a : HowMany) → WriteDays a (0 ∷ 0 ∷ 0 ∷ 0 ∷ 2 ∷ 0 ∷ 28 ∷ 0 ∷ 0 ∷ 0 ∷ 0 ∷ 0 ∷ 0 ∷ 0 ∷ []) → ⊥
   pub month-as-a-day : (n : ℕ) (o : List ℕ) → WriteSheet [] (507600 ∷ []) [] (replicate 10 0) (HowMany'.Is n) o → ⊥
   pub day-as-a-month : (why : Reason) (o : List ℕ) → WriteSheet [] [] (507600 ∷ []) (replicate 10 0) (HowMany'.Refused why) o → ⊥
+  pub year-0-refused : (why : Reason) (o : List ℕ) → WriteSheet (0 ∷ []) [] [] (replicate 8 0) (HowMany'.Refused why) o → ⊥

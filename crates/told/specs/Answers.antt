@@ -43,7 +43,7 @@ told f (is a) = f a
 told f (refused k) = refusedText k
 told f (refused-with k n) = refusedText k
 
--- `PLACE year`: `PLACE ji bu year-in-bu head-name first-month leap-remainder months`
+-- `PLACE solstice-year`: `PLACE ji bu year-in-bu head-name first-month leap-remainder months`
 abbrev pub fieldsOfBu : SolsticeYear → List (List ℕ)
 fieldsOfBu p = word "PLACE" ∷ decimal (p .ji) ∷ decimal (p .bu) ∷ decimal (p .«year_in_bu») ∷ decimal (p .«head_name») ∷ []
 
@@ -53,7 +53,7 @@ placeLine p = lined (fieldsOfBu p ++ (decimal (p .«first_month») ∷ decimal (
 unfoldable pub placeText : ℕ → List ℕ
 placeText y = told placeLine (solsticeYearAt y)
 
--- a year's leap month by number and count, "`-` where there is none"
+-- a civil year's leap month by number and count, "`-` where there is none"
 abbrev pub leapNumber : LeapMonth → List ℕ
 leapNumber Without = word "-"
 leapNumber (With k n) = decimal k
@@ -65,7 +65,7 @@ leapCount (With k n) = decimal n
 abbrev pub fieldsOfLeap : LeapMonth → List (List ℕ)
 fieldsOfLeap l = leapNumber l ∷ leapCount l ∷ []
 
--- `YEAR year`: `YEAR year NAME name MONTHS months FIRST first-month LEAP number month-count`
+-- `YEAR year`: `YEAR year NAME name MONTHS months FIRST first-month LEAP number month-count`, all of the civil year
 unfoldable pub yearLine : ℕ → YearFacts → List ℕ
 yearLine y f = lined (fieldsOfYear y f ++ (word "FIRST" ∷ decimal (f .«first_month») ∷ word "LEAP" ∷ fieldsOfLeap (f .«leap_month»)))
 
@@ -86,7 +86,7 @@ quarterLine q = lined (word "QUARTER" ∷ decimal (q .day) ∷ decimal (q .parts
 unfoldable pub quarterText : ℕ → ℕ → List ℕ
 quarterText n q = told quarterLine (quarterAt n q)
 
--- `TERM year k`: `TERM day parts`
+-- `TERM solstice-year k`: `TERM day parts`
 unfoldable pub termLine : Term → List ℕ
 termLine t = lined (word "TERM" ∷ decimal (t .day) ∷ decimal (t .parts) ∷ [])
 

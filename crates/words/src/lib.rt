@@ -1,4 +1,5 @@
-// The words of a reason, as the paper has them, put into a lent buffer. A crate of its own: so long a constant is slow to check.
+// The words of a reason, true wherever it is given (docs/PAPER.md has the paper's rows beside them), put into a lent buffer. A crate of
+// its own: so long a constant is slow to check.
 ghost use mathlib.Core.Path.{_≡_};
 ghost use mathlib.Core.Bool.{true};
 ghost use Prim.Native.Nat.{_+_, _≤_};

@@ -13,7 +13,7 @@ const TIME: Duration = Duration::from_millis(1_500);
 /// The days of a yuan of 4,560 years.
 const YUAN_DAYS: u64 = 1_665_540;
 
-/// The first day of solstice year 9,366 (85 CE), where the windows start, and the days of a full window.
+/// The first day of solstice year 9,366 (85 CE in 004), where the windows start, and the days of a full window.
 const FIRST: u64 = 3_420_558;
 const WINDOW: u64 = 27_759;
 
