@@ -1,4 +1,4 @@
--- Laws of texts put one after the other, and of the months that a year lists. Assumes nothing.
+-- Laws of texts put one after the other, and of the months that a civil year lists. Assumes nothing.
 use Prim.Native.Nat.{ℕ, _+_, _≤_}
 use native.Mathlib.Omega.{arith}
 use mathlib.Core.Path.{_≡_, ap}
@@ -16,7 +16,7 @@ pub number-and-mark : {w v a b d : ℕ} {o o′ o″ : List ℕ} (k m : ℕ) {re
     Put (w + v) o a (32 ∷ (decimal k ++ (32 ∷ m ∷ rest))) o″ d
 number-and-mark k m {rest} p q = put-as (ap (λ (l : List ℕ). 32 ∷ l) (append-assoc (decimal k) (32 ∷ m ∷ []) rest)) (then p q)
 
--- a year lists months in range, 13 at most
+-- a civil year lists months in range, 13 at most
 pub months-listed :
     (y : ℕ) → CivilYearInRange y → (f : YearFacts) → f ≡ yearFacts y → (f .«first_month» + f .months ≤ 507600) × (f .months ≤ 13)
 unfolding yearFacts

@@ -65,7 +65,7 @@ CMoveDate y k l m n r = r ≡ flatDate (moved y k l m n)
 abbrev pub CSolsticeYear : ℕ → CSolstice → Type 0
 CSolsticeYear y r = r ≡ flatSolstice (solsticeYearAt y)
 
--- a year's own
+-- a civil year's own
 abbrev pub CYearFacts : ℕ → CYear → Type 0
 CYearFacts y r = r ≡ flatYear (yearFactsAt y)
 
@@ -77,7 +77,7 @@ CMonthFacts n r = r ≡ flatMonth (monthFactsAt n)
 abbrev pub CQuarterOf : ℕ → ℕ → CQuarter → Type 0
 CQuarterOf n q r = r ≡ flatQuarter (quarterAt n q)
 
--- a term of a year
+-- a term of a solstice year
 abbrev pub CTermOf : ℕ → ℕ → CTerm → Type 0
 CTermOf y k r = r ≡ flatTerm (termAt y k)
 
@@ -131,7 +131,7 @@ pub record CPrinted (a : Answer (List ℕ)) (o : List ℕ) (r : CLength) (o′ :
 abbrev pub CWriteSheet : List ℕ → List ℕ → List ℕ → List ℕ → CLength → List ℕ → Type 0
 CWriteSheet y m d o = CPrinted (writeInto (record { years = y; months = m; days = d }) (length o)) o
 
--- a year's block, a month's line, a `MONTH` line, a `DAY` line
+-- a civil year's block, a month's line, a `MONTH` line, a `DAY` line
 abbrev pub CPrintYear : ℕ → List ℕ → CLength → List ℕ → Type 0
 CPrintYear y o = CPrinted (yearBlockAt y (length o)) o
 

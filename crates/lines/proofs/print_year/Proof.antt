@@ -1,4 +1,4 @@
--- `lines::print_year` meets its contract: reason 1, then 12, or a year's block. Assumes nothing.
+-- `lines::print_year` meets its contract: reason 1, then 12, or a civil year's block. Assumes nothing.
 use native.Mathlib.Omega.{arith}
 use lib.Dec.{leb}
 use borrow.Author.Tests.{le-leb, lt-leb}
