@@ -238,9 +238,10 @@ class Asked:
         return [f"PLACE {year}"], [at(0, "first-month"), at(0, "leap-remainder")]
 
     def leap_month(self, year):
-        """The leap month of a solstice year, asked of the civil year that it lies in."""
+        """The leap month of a solstice year, asked of the civil year of the same count: no row has a leap 11 or 12."""
         [leap] = [n for n in self.c.months_of_solstice[year] if self.c.leap[n]]
-        return [f"YEAR {self.c.civil_year[leap]}"], [at(0, "leap-number"), at(0, "leap-month")]
+        assert self.c.civil_year[leap] == year
+        return [f"YEAR {year}"], [at(0, "leap-number"), at(0, "leap-month")]
 
     def month_start(self, n):
         return [f"MONTH {n}"], [at(0, "first-day"), at(0, "small-remainder"), at(0, "first-name")]

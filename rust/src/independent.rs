@@ -248,8 +248,8 @@ pub fn solstice_year(year: u64) -> Result<SolsticeYear, Reason> {
     })
 }
 
-/// The month count that a civil year opens with: its own month 1; year 0 opens with month 11, the range's first. The year after
-/// the last would open where the range ends.
+/// The month count that a civil year opens with: its own month 1; year 0 opens with month 11, the range's first. The last year
+/// has the months up to the range's end, so the year after it is taken to open there.
 fn civil_first(year: u64) -> u64 {
     match year {
         0 => 0,

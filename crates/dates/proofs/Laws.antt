@@ -243,13 +243,17 @@ not-there y k r s = (λ e. there (out .0 e), λ h. out .1 (λ w. back w h))
     out = fails (numberThere y k) (within-true 11 492490 (12 * y + k))
 
     there : ((11 ≤ 12 * y + k) × (12 * y + k ≤ 492490) → ⊥) → NotInYear y k
-    there out-of-range =
-        ⊎-elim (λ first. ⊎-elim (λ high. absurd (out-of-range (omega arith, omega arith))) (λ low. inl (omega arith, s .0, omega arith)) (lt-or-le 10 k))
-        (λ later.
-        ⊎-elim (λ inner. absurd (out-of-range (omega arith, omega (arith, s .1))))
-        (λ last. ⊎-elim (λ low. absurd (out-of-range (omega arith, omega arith))) (λ high. inr (omega arith, ⊎-elim (λ g. inl (omega (arith, high, g))) (λ g. inr (omega (arith, s .1, g))) (lt-or-le k 12))) (lt-or-le k 11))
-        (lt-or-le y 41040))
-        (lt-or-le y 1)
+    there outside =
+        ⊎-elim first (λ later. ⊎-elim (λ inner. absurd (outside (omega arith, omega (arith, s .1)))) last (lt-or-le y 41040)) (lt-or-le y 1)
+      where
+        first : y < 1 → NotInYear y k
+        first h = ⊎-elim (λ high. absurd (outside (omega arith, omega arith))) (λ low. inl (omega arith, s .0, low)) (lt-or-le 10 k)
+
+        last : 41040 ≤ y → NotInYear y k
+        last h =
+            ⊎-elim (λ low. absurd (outside (omega arith, omega arith)))
+            (λ high. inr (omega arith, ⊎-elim (λ g. inl (omega (arith, high, g))) (λ g. inr (omega (arith, s .1, g))) (lt-or-le k 12)))
+            (lt-or-le k 11)
 
     back : (11 ≤ 12 * y + k) × (12 * y + k ≤ 492490) → NotInYear y k → ⊥
     back w = ⊎-elim (λ h. omega (arith, w, h)) (λ h. ⊎-elim (λ g. omega (arith, w, h .0, g)) (λ g. omega (arith, w, h .0, g)) (h .1))

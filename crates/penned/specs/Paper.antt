@@ -161,8 +161,8 @@ pub record Unique-printing : Type 0 where
   pub month : Once PrintMonth
   pub day : Once PrintDay
 
--- wrong versions, each shut out at a named input, in a buffer of 300 noughts: refusing all, writing nothing, and a year's header
--- without its months
+-- wrong versions, each shut out at a named input, in a buffer of 300 noughts: refusing all, civil year 0 refused, as it was before W4,
+-- writing nothing, and a year's header without its months
 abbrev pub noughts : List ℕ
 noughts = replicate 300 0
 

@@ -10,7 +10,24 @@ use lib.ListN.{length, length-append}
 use borrow.Author.Tests.{leb-true, leb-false, le-leb, lt-leb, eq-eqb, ne-eqb}
 use Rattle.rule.specs.Counts.{CivilYearInRange}
 use Rattle.rule.specs.Lists.{those}
-use Rattle.rule.specs.Rule.{monthStart, monthLength, InMonth, solsticeFirstMonth, leapRemainder, InSolsticeYear, solsticeYearOfMonth, midTermsBefore, leap, midTermNumber, monthNumber, closing, civilYearOfMonth, solsticeYearOf, civilFirstMonth, monthsInCivilYear}
+use Rattle.rule.specs.Rule.{
+  monthStart,
+  monthLength,
+  InMonth,
+  solsticeFirstMonth,
+  leapRemainder,
+  InSolsticeYear,
+  solsticeYearOfMonth,
+  midTermsBefore,
+  leap,
+  midTermNumber,
+  monthNumber,
+  closing,
+  civilYearOfMonth,
+  solsticeYearOf,
+  civilFirstMonth,
+  monthsInCivilYear,
+}
 use Rattle.rule.specs.declared.Month.the-variants.{Ordinary}
 use Rattle.rule.specs.Paper.{IsMonth, AfterNamesake}
 use Rattle.rule.specs.Civil as Civil

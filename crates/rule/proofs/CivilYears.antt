@@ -6,7 +6,23 @@ use mathlib.Core.Logic.{_↔_}
 use mathlib.Core.Bool.{Bool, true, false, cond}
 use borrow.Author.Tests.{leb-true, leb-false, le-leb, lt-leb}
 use Rattle.rule.specs.Counts.{CivilYearInRange, MonthInRange}
-use Rattle.rule.specs.Rule.{monthStart, InMonth, termDay, midTermDay, midTermsBefore, solsticeFirstMonth, InSolsticeYear, solsticeYearOfMonth, midTermNumber, monthNumber, closing, civilYearOfMonth, InCivilYear, civilFirstMonth, monthsInCivilYear}
+use Rattle.rule.specs.Rule.{
+  monthStart,
+  InMonth,
+  termDay,
+  midTermDay,
+  midTermsBefore,
+  solsticeFirstMonth,
+  InSolsticeYear,
+  solsticeYearOfMonth,
+  midTermNumber,
+  monthNumber,
+  closing,
+  civilYearOfMonth,
+  InCivilYear,
+  civilFirstMonth,
+  monthsInCivilYear,
+}
 use Rattle.rule.proofs.Years.{of-month}
 use Rattle.rule.proofs.Leap.{before-first, before-mono, first-ordinary, holds-next}
 

@@ -160,7 +160,7 @@ writeSheet l = sectionsWritten sheetSections (inOrder l)
 unfoldable pub writeInto : Lists → ℕ → Answer (List ℕ)
 writeInto l n = andThen (writeSheet l) (λ b. intoRoom n b)
 
--- the empty sheet of case 12, the paper's sheet of the year 11 alone, and a sheet with two items in each list: the years 11 and 12,
+-- the empty sheet of case 12, the paper's sheet of the civil year 11 alone, and a sheet with two items in each list: the years 11 and 12,
 -- the months 123 and 134, the days 28 and 29
 abbrev pub emptySheet : List ℕ
 emptySheet = 0 ∷ 0 ∷ 0 ∷ 0 ∷ 0 ∷ 0 ∷ []

@@ -4,7 +4,7 @@
 
 use crate::tally::{part, Piece, Row, Tally, PIECES};
 use crate::{DAYS, MONTHS, YEARS};
-use oesterwrok::{self as capi, Date, LeapMonth, Month, Reason, YearFacts};
+use oesterwrok::{self as capi, Asked, Date, LeapMonth, Month, Reason, YearFacts};
 use std::ops::Range;
 
 /// On how many days civil year and solstice year differ: the figure of the issue that asks for civil years.
@@ -15,6 +15,7 @@ pub fn rows() -> Vec<Row> {
     vec![
         every_month("every day to its date and back, walked", days_of_month),
         one_piece("every civil year's facts, walked", civil_years),
+        one_piece("every number of every civil year, walked", numbers_of_years),
         one_piece("every solstice year's months, walked", solstice_years),
         one_piece("the days whose two years differ, counted", different_days),
     ]
@@ -178,6 +179,34 @@ fn civil_years(tally: &mut Tally) {
         tally.compare(capi::year_facts(year), Ok(facts), || {
             format!("year_facts {year}, walked to")
         });
+    }
+}
+
+/// Day 1 of each number, ordinary and leap: 16 where no month of the year bears the number, 4 where no leap one does.
+fn numbers_of_years(tally: &mut Tally) {
+    for (year, months) in by_years(0, |month| month.civil_year) {
+        for number in 1..=12 {
+            let named: Vec<&Walked> = months
+                .iter()
+                .filter(|month| month.number == number)
+                .collect();
+            for leap in [false, true] {
+                let asked = Asked {
+                    year,
+                    number: u64::from(number),
+                    leap,
+                    day_of_month: 1,
+                };
+                let walked = match named.iter().find(|month| month.leap == leap) {
+                    Some(month) => Ok(month.first_day as u32),
+                    None if named.is_empty() => Err(Reason::NoSuchNumber),
+                    None => Err(Reason::NoSuchLeap),
+                };
+                tally.compare(capi::day_of_date(asked), walked, || {
+                    format!("day_of_date {asked:?}, walked")
+                });
+            }
+        }
     }
 }
 
