@@ -33,6 +33,7 @@ use Rattle.rule.proofs.Answers.{
   within-true,
   fails,
   holds-where,
+  same-given,
   Never,
   never-is,
   never-guard,
@@ -109,7 +110,7 @@ date-is d r h = (λ e. subst (IsDate d) e (is-date d h), back)
 pub dated : (d : ℕ) (r : Date) → (dateAt d ≡ is r) ↔ (DayInRange d × (dateOf d ≡ r))
 unfolding dateAt
 dated d r =
-    test-iff (then-iff (holds-all (leb d 14989859) 6 (is (dateOf d)) r) (λ e. let f : _≡_ {A = Answer Date} (is (dateOf d)) (is r) = e in cc, ap is))
+    test-iff (then-iff (holds-all (leb d 14989859) 6 (is (dateOf d)) r) (same-given (dateOf d) r))
     (at-most d 14989859)
 
 -- the month of a civil year with a number and mark is the one asked for
@@ -118,7 +119,8 @@ asked : (y k : ℕ) (l : Bool) → NumberInRange k → numberThere y k ≡ true 
 asked y k l s r h =
     let n = monthAsked (midTermOf y k) l in
     let w = within-true 11 492490 (12 * y + k) .0 r in
-    (Named.asked-year y k s (w .0) l h (w .1), subst (IsMonth n) (Leaps.at-mark n k l (Named.asked-number y k s (w .0) l h)) (is-month n))
+    let mark = Named.asked-number y k s (w .0) l h in
+    (Named.asked-year y k s (w .0) l h (w .1), subst (IsMonth n) (Leaps.at-mark n k l (mark .0) (mark .1)) (is-month n))
 
 -- the row of tests that a date to day goes through
 module _ (y k : ℕ) (l : Bool) (q : ℕ) where

@@ -32,7 +32,7 @@ use Rattle.rule.proofs.Months
 use Rattle.rule.proofs.Years
 use Rattle.rule.proofs.CivilYears.{civil-so-many, civil-end}
 use Rattle.rule.proofs.Civil.{civil-year-opens}
-use Rattle.rule.proofs.Leap.{as-leap, mark-at, number-at}
+use Rattle.rule.proofs.Leap.{at-mark, mark-at, number-at}
 use Rattle.rule.proofs.Pairs.{lt-or-le}
 use Rattle.rule.proofs.Paper as Rule
 use Rattle.facts.specs.declared.SolsticeYear.{SolsticeYear}
@@ -206,7 +206,7 @@ module _ (y : ℕ) (l : CivilYearInRange y) where
   leap-there = record { with-one = λ k n. (there k n, back k n); without = (none, λ h. leap-none y l (λ n i. ordinary h n i (leap n) refl)) }
     where
       there : (k n : ℕ) → leapMonth y ≡ With k n → InCivilYear y n × IsMonth n (Leap k)
-      there k n f = let h = leap-is y k n l f in (h .0, Rule.month-literally n (Leap k) .0 (sym (as-leap n k (h .1) (sym (h .2)))))
+      there k n f = let h = leap-is y k n l f in (h .0, Rule.month-literally n (Leap k) .0 (at-mark n k true (h .1) (h .2)))
 
       back : (k n : ℕ) → InCivilYear y n × IsMonth n (Leap k) → leapMonth y ≡ With k n
       back k n h =

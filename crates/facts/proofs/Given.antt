@@ -1,12 +1,12 @@
 -- Which answers meet a promise of one guard or of two: what is given, by what it is, and what is refused. Assumes nothing.
 use Prim.Native.Nat.{ℕ, _≤_}
-use mathlib.Core.Path.{_≡_, ap, sym, _∙_}
+use mathlib.Core.Path.{_≡_, sym, _∙_}
 use mathlib.Core.Logic.{_↔_}
 use mathlib.Core.Bool.{Bool, true}
 use lib.Dec.{leb}
 use Rattle.rule.specs.Counts.{SolsticeYearInRange, CivilYearInRange, MonthInRange}
 use Rattle.rule.specs.Reasons.{Answer, is, refused, guard, within}
-use Rattle.rule.proofs.Answers.{within-true, at-most, passes, holds-all, then-iff, test-iff, one-refused, two-first, two-second, turned, under}
+use Rattle.rule.proofs.Answers.{within-true, at-most, passes, holds-all, then-iff, test-iff, one-refused, two-first, two-second, turned, under, same-given}
 use Rattle.facts.specs.Facts.{
   solsticeYear,
   solsticeYearAt,
@@ -21,10 +21,6 @@ use Rattle.facts.specs.Facts.{
 }
 
 module _ {A : Type 0} where
-  -- what is given is one thing
-  same-given : (x a : A) → (_≡_ {A = Answer A} (is x) (is a)) ↔ (x ≡ a)
-  same-given x a = (λ e. cc, λ e. ap is e)
-
   -- what is told of an answer that is given
   pub told-is : (x a : A) (b : Answer A) → b ≡ is x → is a ≡ b → a ≡ x
   told-is x a b e p = sym (same-given x a .0 (sym e ∙ sym p))

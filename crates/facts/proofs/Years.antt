@@ -2,7 +2,7 @@
 use Prim.Native.Nat.{ℕ, _+_, _-_, _≤_, _<_}
 use native.Mathlib.Omega.{arith}
 use mathlib.Core.Path.{_≡_, refl, ap, ap₂, sym, _∙_, subst₂}
-use mathlib.Core.Bool.{not}
+use mathlib.Core.Bool.{false, not}
 use mathlib.Core.List.{map}
 use Rattle.rule.specs.Counts.{CivilYearInRange, MonthInRange}
 use Rattle.rule.specs.Lists.{those}
@@ -10,7 +10,7 @@ use Rattle.rule.specs.Rule.{solsticeFirstMonth, monthNumber, monthAt, numberOf,
 use Rattle.rule.specs.Paper.{ordinary, AfterNamesake}
 use Rattle.rule.specs.declared.Month.the-variants.{Leap}
 use Rattle.rule.proofs.Lists.{those-same, map-same}
-use Rattle.rule.proofs.Leap.{as-ordinary, mark-at, number-at}
+use Rattle.rule.proofs.Leap.{at-mark, mark-at, number-at}
 use Rattle.rule.proofs.CivilYears.{civil-so-many, civil-end, civil-next}
 use Rattle.rule.proofs.Civil as Civil
 use Rattle.facts.specs.declared.SolsticeYear.{SolsticeYear}
@@ -105,7 +105,7 @@ leap-after-its-namesake y n k f a p low high q e =
     record {
       same-year = omega (arith, first, civil-so-many y (n - 1) (its .0) .0 (before .same-year), before .later);
       namesake = λ b s.
-          month-told (n - 1) b s .1 ∙ sym (as-ordinary (n - 1) k (before .ordinary-one) (sym (before .same-number ∙ sym (number-at n) ∙ ap numberOf m)));
+          month-told (n - 1) b s .1 ∙ at-mark (n - 1) k false (before .ordinary-one) (before .same-number ∙ sym (number-at n) ∙ ap numberOf m);
     }
   where
     its : CivilYearInRange y × (f ≡ yearFacts y)

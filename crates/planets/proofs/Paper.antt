@@ -17,6 +17,7 @@ use Rattle.rule.proofs.Answers.{
   at-most,
   holds-all,
   fails,
+  same-given,
   never-is,
   fails-here,
   fails-later,
@@ -208,7 +209,7 @@ left-given p d n h = (there, back)
     there : left p d ≡ is n → IsNext p d n
     there e =
         let q = all .0 e in
-        subst (IsNext p d) (Refusing.same first n .0 (q .1))
+        subst (IsNext p d) (same-given first n .0 (q .1))
         (record {
           least = Moments.next-least (numbersOf p) (Five.good-planets p h) d;
           conjunction = Literal.conjunction-is p (first .k) (first .conjunction) h .1 refl;
@@ -321,13 +322,13 @@ wrong-planets =
       next-refused = λ why e. given-not (nextAt 1 0) (nextOf (numbersOf 1) 0) (reasonNumber why) refl (sym e);
       pair-refused = λ why q. q .0 (omega arith, omega arith);
       conjunction-fixed = λ c x y.
-          let f = Refusing.same (conjunctionOf (numbersOf 1) 0) (conjunctionOf (numbersOf 1) 1) .0 (sym x ∙ y) in
+          let f = same-given (conjunctionOf (numbersOf 1) 0) (conjunctionOf (numbersOf 1) 1) .0 (sym x ∙ y) in
           let e : _≡_ {A = ℕ} 0 398 = ap (λ (c : Conjunction). c .day) f in omega arith;
       next-fixed = λ n x y.
-          let f = Refusing.same (found 1 0) (found 1 1) .0 (sym x ∙ y) in
+          let f = same-given (found 1 0) (found 1 1) .0 (sym x ∙ y) in
           let e : _≡_ {A = ℕ} 0 1 = ap (λ (n : Next). n .k) f in omega arith;
       pair-fixed = λ r x y.
-          let f = Refusing.same (pairOf (numbersOf 1)) (pairOf (numbersOf 2)) .0 (sym (Reducing.as-printed 1 r .0 x) ∙ Reducing.as-printed 2 r .0 y) in
+          let f = same-given (pairOf (numbersOf 1)) (pairOf (numbersOf 2)) .0 (sym (Reducing.as-printed 1 r .0 x) ∙ Reducing.as-printed 2 r .0 y) in
           let e : _≡_ {A = ℕ} 4725 1876 = ap (λ (r : Pair). r .years) f in omega arith;
       divisor-one = λ h. let e : _≡_ {A = ℕ} 6 1 = eq-one-of-dvd-one (h .every 6 (dvd-of-mod-eq-zero 6 refl) (dvd-of-mod-eq-zero 6 refl)) in omega arith;
       divisor-first = λ h. let e : _≡_ {A = ℕ} 6 0 = mod-eq-zero-of-dvd 12 (h .second) in omega arith;

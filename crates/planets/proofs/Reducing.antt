@@ -5,7 +5,7 @@ use native.Mathlib.Nat.{eq-of-mul-eq-mul-right}
 use mathlib.Core.Path.{_≡_, refl, ap, sym, subst, _∙_}
 use mathlib.Core.Logic.{_↔_}
 use Rattle.rule.specs.Reasons.{is, refused, reasonNumber, within}
-use Rattle.rule.proofs.Answers.{within-true, holds-all, passes, one-refused}
+use Rattle.rule.proofs.Answers.{within-true, same-given, holds-all, passes, one-refused}
 use Rattle.planets.specs.declared.Pair.{Pair}
 use Rattle.planets.specs.declared.PairTold.{PairTold}
 use Rattle.planets.specs.declared.PairTold.the-variants as Pair'
@@ -15,7 +15,7 @@ use Rattle.planets.specs.Promises.{saidPair, ReducedPair}
 use Rattle.planets.specs.Paper.{Common-divisor-of-004, Reduction}
 use Rattle.planets.proofs.Divisors.{by-difference, one-divisor}
 use Rattle.planets.proofs.Five.{each-planet}
-use Rattle.planets.proofs.Refusing.{same, alone}
+use Rattle.planets.proofs.Refusing.{alone}
 
 -- so many times their common divisor, of two numbers, is one pair
 one-pair :
@@ -64,7 +64,7 @@ unfolding pairAt
 as-printed p (Pair'.Is r) = (
   λ q. let e = reduction p r .0 q in ap is (e .1) ∙ sym (passes (within 1 5 p) 19 _ (within-true 1 5 p .1 (e .0))),
   λ e. let f = holds-all (within 1 5 p) 19 (is (pairOf (numbersOf p))) r .0 (sym e) in
-      reduction p r .1 (within-true 1 5 p .0 (f .0), sym (same (pairOf (numbersOf p)) r .0 (f .1))),
+      reduction p r .1 (within-true 1 5 p .0 (f .0), sym (same-given (pairOf (numbersOf p)) r .0 (f .1))),
 )
 as-printed p (Pair'.Refused why) = (
   λ q. ap refused (q .1) ∙ sym (one-refused (within 1 5 p) 19 (pairOf (numbersOf p)) (within-true 1 5 p) .1 (q .0)),

@@ -1,16 +1,12 @@
 -- Two guards in front of a planet's answer: what is given; and the reason of one. Assumes nothing.
 use Prim.Native.Nat.{ℕ}
-use mathlib.Core.Path.{_≡_, ap}
+use mathlib.Core.Path.{_≡_}
 use mathlib.Core.Logic.{_↔_}
 use mathlib.Core.Bool.{Bool, true, false}
 use Rattle.rule.specs.Reasons.{Answer, is, refused, guard}
-use Rattle.rule.proofs.Answers.{never-is, holds-all, then-iff, test-iff}
+use Rattle.rule.proofs.Answers.{same-given, never-is, holds-all, then-iff, test-iff}
 
 module _ {A : Type 0} where
-  -- what is given is one thing
-  pub same : (x y : A) → (_≡_ {A = Answer A} (is x) (is y)) ↔ (x ≡ y)
-  same x y = (λ e. let f : _≡_ {A = Answer A} (is x) (is y) = e in cc, ap is)
-
   -- of one guard alone there is one reason
   pub alone : (t : Bool) (k j : ℕ) (x : A) → guard t k (is x) ≡ refused j → j ≡ k
   alone true k j x e = absurd (never-is j x e)
@@ -19,4 +15,4 @@ module _ {A : Type 0} where
 -- two guards in front of an answer
 module _ {A P Q : Type 0} (t s : Bool) (k j : ℕ) (x : A) (e : (t ≡ true) ↔ P) (f : (s ≡ true) ↔ Q) where
   pub given : (y : A) → (guard t k (guard s j (is x)) ≡ is y) ↔ (P × (Q × (x ≡ y)))
-  given y = test-iff (then-iff (holds-all t k (guard s j (is x)) y) (test-iff (then-iff (holds-all s j (is x) y) (same x y)) f)) e
+  given y = test-iff (then-iff (holds-all t k (guard s j (is x)) y) (test-iff (then-iff (holds-all s j (is x) y) (same-given x y)) f)) e

@@ -55,7 +55,7 @@ month-1 : (y : ℕ) → 1 ≤ y → IsMonth (civilFirstMonth y) (Ordinary 1)
 unfolding midTermNumber
 month-1 y l =
     month-literally n (Ordinary 1) .0
-    (sym (Leaps.as-ordinary n 1 (Leaps.rises-ordinary n (omega (arith, held))) (sym (Leaps.number-holding n (12 * y - 10) (Years.opens-holds y l) ∙ omega arith))))
+    (Leaps.at-mark n 1 false (Leaps.rises-ordinary n (omega (arith, held))) (Leaps.number-holding n (12 * y - 10) (Years.opens-holds y l) ∙ omega arith))
   where
     n : ℕ
     n = civilFirstMonth y

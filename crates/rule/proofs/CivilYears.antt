@@ -2,7 +2,7 @@
 use Prim.Native.Nat.{ℕ, _+_, _-_, _*_, _/_, _%_, _≤_, _<_}
 use native.Mathlib.Omega.{arith}
 use mathlib.Core.Path.{_≡_, refl}
-use mathlib.Core.Logic.{_↔_}
+use mathlib.Core.Logic.{_↔_, ⊎-elim}
 use mathlib.Core.Bool.{Bool, true, false, cond}
 use borrow.Author.Tests.{leb-true, leb-false, le-leb, lt-leb}
 use Rattle.rule.specs.Counts.{CivilYearInRange, MonthInRange}
@@ -24,7 +24,8 @@ use Rattle.rule.specs.Rule.{
   monthsInCivilYear,
 }
 use Rattle.rule.proofs.Years.{of-month}
-use Rattle.rule.proofs.Leap.{before-first, before-mono, first-ordinary, holds-next}
+use Rattle.rule.proofs.Pairs.{lt-or-le}
+use Rattle.rule.proofs.Leap.{before-first, before-mono, before-pos, first-ordinary, holds-next, number-range}
 
 -- the month with which a civil year opens holds the mid-term of number 1
 pub opens-holds : (y : ℕ) → 1 ≤ y → InMonth (civilFirstMonth y) (midTermDay (12 * y - 10))
@@ -37,27 +38,12 @@ before-civil y l = holds-next (civilFirstMonth y) (12 * y - 10) (opens-holds y l
 before-civil-next : (y : ℕ) → 1 ≤ y → midTermsBefore (civilFirstMonth y + 1) ≡ 12 * y - 10 + 1
 before-civil-next y l = holds-next (civilFirstMonth y) (12 * y - 10) (opens-holds y l) .1
 
--- in a solstice year months 11 and 12 are those before that month
-module _ (s n : ℕ) (i : InSolsticeYear s n) where
-  up-to-its-end : (12 * s - 11 ≤ midTermsBefore (n + 1)) × (midTermsBefore (n + 1) ≤ 12 * s)
-  up-to-its-end = (
-    omega (arith, i .0, before-first s, first-ordinary s, before-mono (solsticeFirstMonth s + 1) (n + 1) (omega (arith, i .1))),
-    omega (arith, i .0, before-first (s + 1), before-mono (n + 1) (solsticeFirstMonth (s + 1)) (omega (arith, i .2))),
-  )
-
-  closes-before : 11 ≤ monthNumber n → n < civilFirstMonth s
-  unfolding monthNumber midTermNumber
-  closes-before h =
-      let no : ¬ (civilFirstMonth s ≤ n) = λ g.
-      omega (arith, h, i .0, up-to-its-end, before-civil-next s (i .0), before-mono (civilFirstMonth s + 1) (n + 1) (omega arith)) in
-      omega arith
-
-  opens-from : monthNumber n ≤ 10 → civilFirstMonth s ≤ n
-  unfolding monthNumber midTermNumber
-  opens-from h =
-      let no : ¬ (n < civilFirstMonth s) = λ g.
-      omega (arith, h, i .0, up-to-its-end, before-civil s (i .0), before-mono (n + 1) (civilFirstMonth s) (omega arith)) in
-      omega arith
+-- the mid-terms before the end of a month of a solstice year
+up-to-its-end : (s n : ℕ) → InSolsticeYear s n → (12 * s - 11 ≤ midTermsBefore (n + 1)) × (midTermsBefore (n + 1) ≤ 12 * s)
+up-to-its-end s n i = (
+  omega (arith, i .0, before-first s, first-ordinary s, before-mono (solsticeFirstMonth s + 1) (n + 1) (omega (arith, i .1))),
+  omega (arith, i .0, before-first (s + 1), before-mono (n + 1) (solsticeFirstMonth (s + 1)) (omega (arith, i .2))),
+)
 
 number-of : (n : ℕ) → monthNumber n ≡ (midTermsBefore (n + 1) - 1 + 10) % 12 + 1
 unfolding monthNumber midTermNumber
@@ -81,18 +67,27 @@ civil-count n = go (closing (monthNumber n)) refl
     go true e = omega (arith, in-its-year, leb-true 11 (monthNumber n) e)
     go false e = omega (arith, in-its-year, leb-false 11 (monthNumber n) e)
 
--- the civil year of a month in closed form
+-- the civil year of a month in closed form: by the mid-terms with which that year and the next open
 pub civil-closed : (n : ℕ) → civilYearOfMonth n ≡ (19 * n + 214) / 235
-unfolding civilYearOfMonth solsticeFirstMonth civilFirstMonth
-civil-closed n = go (closing (monthNumber n)) refl
+unfolding civilFirstMonth
+civil-closed n = go ((19 * n + 214) / 235) refl
   where
-    go : (b : Bool) → closing (monthNumber n) ≡ b → cond b (solsticeYearOfMonth n - 1) (solsticeYearOfMonth n) ≡ (19 * n + 214) / 235
-    go true e =
-        let i = solstice-year n in
-        omega (arith, i .0, i .1, closes-before (solsticeYearOfMonth n) n i (leb-true 11 (monthNumber n) e))
-    go false e =
-        let i = solstice-year n in
-        omega (arith, i .0, i .2, opens-from (solsticeYearOfMonth n) n i (omega (arith, leb-false 11 (monthNumber n) e)))
+    from : (y : ℕ) → (19 * n + 214) / 235 ≡ y → 12 * y ≤ midTermsBefore (n + 1) + 9
+    from y e =
+        ⊎-elim (λ h. omega (arith, before-pos n))
+        (λ l. omega (arith, before-civil-next y l, before-mono (civilFirstMonth y + 1) (n + 1) (omega arith)))
+        (lt-or-le y 1)
+
+    go : (y : ℕ) → (19 * n + 214) / 235 ≡ y → civilYearOfMonth n ≡ (19 * n + 214) / 235
+    go y e =
+        omega (
+          arith,
+          civil-count n,
+          number-range n,
+          from y e,
+          before-civil (y + 1) (omega arith),
+          before-mono (n + 1) (civilFirstMonth (y + 1)) (omega arith),
+        )
 
 -- a month is in civil year y or in a later one exactly from the month on with which y opens
 pub civil-least : (y n : ℕ) → (civilFirstMonth y ≤ n) ↔ (y ≤ civilYearOfMonth n)

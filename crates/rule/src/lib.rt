@@ -256,9 +256,9 @@ pub fn civil_year_and_number(m: u32) -> YearMonth
     }
 }
 
-// The first month of a solstice year; of the year after the last too, where the last year ends.
+// The first month of a solstice year.
 pub fn solstice_first_month(year: u16) -> u32
-    requires { ⌜ (1 ≤ year) × (year ≤ 41041) ⌝ }
+    requires { ⌜ SolsticeYearInRange year ⌝ }
     ensures { λ r. ⌜ r ≡ solsticeFirstMonth year ⌝ }
 {
     235 * (year as u32 - 1) / 19
