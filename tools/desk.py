@@ -4,9 +4,10 @@ from the origin and shares nothing with the library.
 
 The desk's first lines are worked by hand from the issue's and the paper's own figures, edges and wrong lines; then come lines drawn
 by a generator with a fixed seed, sound and damaged, enough to pass the 65,536 bytes that the program reads at a time. After these
-stand the notes and the pairs, by hand and drawn by a second generator, and then days about the turns of civil years and dates of
-the years at both ends, drawn by a third, so that no line before them changes. The last line has no newline. The lines of `echo` are
-a short page that tries what it does with notes, queries and lines of any length.
+stand the notes and the pairs, by hand and drawn by a second generator; then days about the turns of civil years and dates of the
+years at both ends, drawn by a third; then days about the heads of bu and the turns of eclipse months, drawn by a fourth: so no line
+before them changes. The last line has no newline. The lines of `echo` are a short page that tries what it does with notes, queries
+and lines of any length.
 
 usage: tools/desk.py            write stdin and stdout of crates/desk and crates/echo
        tools/desk.py --check    say whether what stands is what it computes (exit status 1 if not)
@@ -19,7 +20,7 @@ import sys
 
 sys.dont_write_bytecode = True
 
-from walked import DAYS, MONTHS, ROOT, YEARS, Desk, hold, last_count, lines_in, mark
+from walked import DAYS, MONTHS, ROOT, YEARS, Desk, hold, is_eclipse, last_count, lines_in, mark
 
 # the words of the drawn lines that keep their bytes: a new query has a list of its own
 OLD_WORDS = "PLACE YEAR MONTH QUARTER TERM CONJUNCTION NEXT DAY DATE MOVE SEARCH".split()
@@ -230,6 +231,11 @@ def long_lines():
             b"SEARCH" + b" ?" * 97, b"x" * 200, b"x" * 201, b"YEAR 11" + b" " * 500, b"\xff\x00" * 400]
 
 
+def asked_by(date):
+    """The four things that a date is asked for by."""
+    return f"{date.year} {date.number} {mark(date.leap)} {date.day_of_month}"
+
+
 def drawn(desk, draw, words):
     """A query of one of these words, or a note, its fields near the true ones or near the edges."""
     def near(most):
@@ -243,8 +249,7 @@ def drawn(desk, draw, words):
     if word == "PAIR":
         return f"PAIR {draw.choice((1, 2, 3, 4, 5, near(5)))}"
     day = draw.randrange(DAYS)
-    y, k, l, m, _, dn, yn = desk.date_fields(day)
-    date = f"{y} {k} {mark(l)} {m}"
+    date = asked_by(desk.record(day))
     if draw.random() >= 0.8:
         date = f"{near(YEARS)} {draw.randint(0, 13)} {draw.choice('-L')} {draw.randint(0, 31)}"
     if word in ("PLACE", "YEAR"):
@@ -330,14 +335,35 @@ def turns(desk):
     for _ in range(200):
         first = desk.c.starts[desk.c.months_of_civil[draw.randint(1, YEARS)][0]]
         day = max(0, first + draw.randint(-65, 35))
-        y, k, l, m, _, _, yn = desk.date_fields(day)
-        date = f"{y} {k} {mark(l)} {m}"
-        lines.append(draw.choice((f"DAY {day}", f"DATE {date}", f"MOVE {date} {draw.randint(-90, 90)}", f"YEAR {y}",
-                                  f"SEARCH {yn} ? ? ? ? ? {max(0, day - 3)} {day + 3}")))
+        record = desk.record(day)
+        date = asked_by(record)
+        lines.append(draw.choice((f"DAY {day}", f"DATE {date}", f"MOVE {date} {draw.randint(-90, 90)}", f"YEAR {record.year}",
+                                  f"SEARCH {record.year_name} ? ? ? ? ? {max(0, day - 3)} {day + 3}")))
         year = draw.choice((0, 0, 1, YEARS - 1, YEARS, YEARS, YEARS + 1))
         date = f"{year} {draw.randint(0, 13)} {draw.choice('-L')} {draw.choice((0, 1, 15, 29, 30, 31))}"
         lines.append(draw.choice((f"DATE {date}", f"MOVE {date} {draw.randint(-400, 400)}")))
-    return [line.encode() for line in lines] + [b"# the last line has no newline", b"PAIR 3"]
+    return [line.encode() for line in lines]
+
+
+# The place and the eclipse mark of a date: the days about the heads of bu, those of ji and yuan often among them, and about the turns
+# of eclipse months; moves of days that keep the year in the bu, and of days that keep the eclipse mark too.
+
+
+def places(desk):
+    draw, starts, lines = random.Random(20261118), desk.c.starts, []
+    eclipses = [n for n in range(MONTHS) if is_eclipse(n)]
+    for _ in range(100):
+        bu, n = draw.choice((draw.randrange(540), 20 * draw.randrange(27), 60 * draw.randrange(9))), draw.choice(eclipses)
+        head = starts[desk.c.months_of_solstice[76 * bu + 1][0]] + draw.randint(-65, 65)
+        turn = starts[n + draw.randint(0, 1)] + draw.randint(-1, 0)
+        for day in (min(max(0, day), DAYS - 1) for day in (head, turn)):
+            date, days = asked_by(desk.record(day)), draw.choice((1, -1)) * draw.choice((27759, 20 * 27759, 749493))
+            lines.append(draw.choice((f"DAY {day}", f"DATE {date}", f"MOVE {date} {days}", f"MOVE {date} {days}",
+                                      f"SEARCH ? ? ? ? ? ? {max(0, day - 2)} {min(day + 2, DAYS - 1)}")))
+    return [line.encode() for line in lines]
+
+
+LAST = [b"# the last line has no newline", b"PAIR 3"]
 
 
 # The page of `echo`.
@@ -402,7 +428,7 @@ def main():
             sys.stdout.buffer.write(b"".join(map(call, lines_in(sys.stdin.buffer.read()))))
             return 0
     files = {}
-    asked = queries(desk) + added(desk) + turns(desk)
+    asked = queries(desk) + added(desk) + turns(desk) + places(desk) + LAST
     for program, lines, call in (("desk", asked, desk.answer), ("echo", echo_lines(), desk.echo)):
         files[ROOT / "crates" / program / "stdin"] = b"\n".join(lines)
         files[ROOT / "crates" / program / "stdout"] = b"".join(map(call, lines))

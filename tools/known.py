@@ -2,9 +2,9 @@
 """The page of the program `known`: the paper's known dates and the planets' proved table, as queries, and what must be answered.
 
 PAGE has each case in the paper's own sentence, worked by request W4 where it names a year, which is then told to be a civil or a
-solstice one; after the cases, W4's own figures. After each sentence come the queries that show it, each with the figures that the
-sentence gives; `|` parts them, and parts the figures of one line of an answer from those of the next. These figures stand in the
-expected answers in their places (tools/pages.py); what the paper does not give is computed by tools/walked.py.
+solstice one; after the cases, W4's own figures and W8's. After each sentence come the queries that show it, each with the figures
+that the sentence gives; `|` parts them, and parts the figures of one line of an answer from those of the next. These figures stand in
+the expected answers in their places (tools/pages.py); what the paper does not give is computed by tools/walked.py.
 
 After it comes every row of the proved table of the planets (crates/planets/specs/Table.antt), in its order. The table's own answers
 stand in the expected answers, and each is held against what is computed.
@@ -39,14 +39,14 @@ PLACE 9366 | ji=1 bu=4 year-in-bu=18 first-month=115830 leap-remainder=5
 # first month 115,830 starts on day 3,420,558, name 19, full on day 3,420,573, name 34.
 MONTH 115830 | count=115830 first-name=19 first-day=3420558
 QUARTER 115830 2 | day=3420573
-DAY 3420573 | day=3420573 day-name=34
+DAY 3420573 | day=3420573 day-name=34 ji=1 bu=4 year-in-bu=18
 # Day 3,420,558: civil year 9,365, year name 21, month 11, day 1. The year name 22 is that of civil year 9,366.
-DAY 3420558 | day=3420558 year=9365 number=11 mark=- day-of-month=1 day-name=19 year-name=21
+DAY 3420558 | day=3420558 year=9365 number=11 mark=- day-of-month=1 day-name=19 year-name=21 ji=1 bu=4 year-in-bu=18
 YEAR 9365 | year=9365 name=21
 YEAR 9366 | year=9366 name=22
 # 6. The solstice of solstice year 9,366: day 3,420,566, name 27; it is civil year 9,365, month 11, day 9.
 TERM 9366 0 | day=3420566
-DAY 3420566 | day=3420566 year=9365 number=11 mark=- day-of-month=9 day-name=27 year-name=21
+DAY 3420566 | day=3420566 year=9365 number=11 mark=- day-of-month=9 day-name=27 year-name=21 ji=1 bu=4 year-in-bu=18
 # 7. Civil year 9,457 (176 CE): month 1 is 116,957, first name 60; leap month 5 is 116,962.
 DATE 9457 1 - 1 | year=9457 number=1 mark=- day-of-month=1 day-name=60
 MONTH 116957 | count=116957 number=1 mark=- first-name=60
@@ -107,6 +107,55 @@ DATE 0 5 L 1 | reason=16
 DATE 0 11 L 1 | reason=4
 DATE 41040 11 L 1 | reason=16
 DATE 41040 9 L 1 | reason=4
+# THE PLACE OF A DATE AND ITS ECLIPSE MARK, by request W8: the place is that of the solstice year the day lies in
+# By case 4 the bu passes from 1 to 2 where solstice year 76 ends, and not with civil year 76, whose months 11 and 12 are of bu 2.
+DATE 76 10 - 1 | year=76 number=10 mark=- ji=1 bu=1 year-in-bu=76
+DAY 27758 | day=27758 year=76 number=10 mark=L day-of-month=30 ji=1 bu=1 year-in-bu=76
+DAY 27759 | day=27759 year=76 number=11 mark=- day-of-month=1 ji=1 bu=2 year-in-bu=1
+DATE 76 12 - 1 | year=76 number=12 mark=- ji=1 bu=2 year-in-bu=1
+DATE 77 1 - 1 | year=77 number=1 mark=- ji=1 bu=2 year-in-bu=1
+DATE 77 10 - 1 | year=77 number=10 mark=- ji=1 bu=2 year-in-bu=1
+DATE 77 11 - 1 | year=77 number=11 mark=- ji=1 bu=2 year-in-bu=2
+# Twenty bu of 27,759 days are a ji: solstice year 1,520 is the last of ji 1, solstice year 1,521 the first of ji 2.
+DAY 555179 | day=555179 year=1520 number=10 ji=1 bu=20 year-in-bu=76
+DAY 555180 | day=555180 year=1520 number=11 mark=- day-of-month=1 ji=2 bu=1 year-in-bu=1
+# Three ji are a yuan, of 1,665,540 days: solstice year 4,560 is the last of ji 3, solstice year 4,561 the first of ji 1 again.
+DAY 1665539 | day=1665539 year=4560 number=10 ji=3 bu=20 year-in-bu=76
+DAY 1665540 | day=1665540 year=4560 number=11 mark=- day-of-month=1 ji=1 bu=1 year-in-bu=1
+# The first day of all is of solstice year 1, the last of solstice year 41,040, with which nine yuan are whole.
+DATE 0 11 - 1 | day=0 year=0 ji=1 bu=1 year-in-bu=1
+DATE 41040 10 L 30 | day=14989859 year=41040 ji=3 bu=20 year-in-bu=76
+# A leap 12 and a leap 11 are of the solstice year after their civil year; a leap 10 and a leap 1 are of the one of the same count.
+DATE 8 12 L 1 | year=8 number=12 mark=L ji=1 bu=1 year-in-bu=9
+DATE 27 11 L 1 | year=27 number=11 mark=L ji=1 bu=1 year-in-bu=28
+DATE 19 10 L 1 | year=19 number=10 mark=L ji=1 bu=1 year-in-bu=19
+DATE 17 1 L 1 | year=17 number=1 mark=L ji=1 bu=1 year-in-bu=17
+# A date has the eclipse mark of its month, by case 10: month 5 is the first, month 134, leap 9 of year 11, is one, 135 is not.
+DATE 1 3 - 29 | year=1 number=3 mark=- eclipse=-
+DATE 1 4 - 1 | year=1 number=4 mark=- eclipse=E
+DATE 11 9 - 30 | year=11 number=9 mark=- eclipse=-
+DATE 11 9 L 1 | year=11 number=9 mark=L eclipse=E
+DATE 11 9 L 29 | year=11 number=9 mark=L eclipse=E
+DATE 11 10 - 1 | year=11 number=10 mark=- eclipse=-
+# A move of 27,759 days keeps the year in the bu, and the bu goes one on.
+MOVE 9365 11 - 1 27759 | year=9441 number=11 mark=- day-of-month=1 ji=1 bu=5 year-in-bu=18
+MOVE 76 11 - 1 -27759 | day=0 year=0 number=11 mark=- day-of-month=1 ji=1 bu=1 year-in-bu=1
+# The eclipse mark is excepted: month 939 is an eclipse month, 1,879 is not; month 4 is not one, 944 is.
+MOVE 76 10 L 30 27759 | day=55517 year=152 number=10 mark=L day-of-month=30 ji=1 bu=2 year-in-bu=76 eclipse=-
+MOVE 152 10 L 30 -27759 | day=27758 year=76 number=10 mark=L day-of-month=30 ji=1 bu=1 year-in-bu=76 eclipse=E
+MOVE 1 3 - 29 27759 | year=77 number=3 mark=- day-of-month=29 ji=1 bu=2 year-in-bu=1 eclipse=E
+# The bu goes round twenty, and the ji goes one on, round three, when the bu passes from 20 to 1, and not before.
+MOVE 1444 10 L 30 27759 | day=555179 year=1520 number=10 mark=L day-of-month=30 ji=1 bu=20 year-in-bu=76
+MOVE 1444 11 - 1 27759 | day=555180 year=1520 number=11 mark=- day-of-month=1 ji=2 bu=1 year-in-bu=1
+MOVE 3040 10 L 30 27759 | year=3116 number=10 mark=L day-of-month=30 ji=3 bu=1 year-in-bu=76
+MOVE 4560 10 L 30 27759 | year=4636 number=10 mark=L day-of-month=30 ji=1 bu=1 year-in-bu=76
+MOVE 4636 10 L 30 -27759 | day=1665539 year=4560 number=10 mark=L day-of-month=30 ji=3 bu=20 year-in-bu=76
+# The eclipse mark is kept over 749,493 days; these are 27 bu, so that the place is a ji and seven bu on.
+MOVE 76 10 L 30 749493 | day=777251 year=2128 number=10 mark=L day-of-month=30 ji=2 bu=8 year-in-bu=76 eclipse=E
+MOVE 76 11 - 1 749493 | day=777252 year=2128 number=11 mark=- day-of-month=1 ji=2 bu=9 year-in-bu=1 eclipse=-
+MOVE 11 9 L 29 749493 | year=2063 number=9 mark=L day-of-month=29 ji=2 bu=8 year-in-bu=11 eclipse=E
+# Every date that is given out has them: a search's too.
+SEARCH ? ? ? ? ? ? 27758 27759 | total=2 | day=27758 ji=1 bu=1 year-in-bu=76 eclipse=E | day=27759 ji=1 bu=2 year-in-bu=1 eclipse=-
 """
 
 # Case 7: a date and the month that it starts.

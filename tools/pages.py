@@ -20,7 +20,7 @@ TERM day parts
 CONJUNCTION day parts divisor phase
 NEXT k day parts divisor phase
 PAIR years conjunctions
-DAY day year number mark day-of-month day-name month-length year-name
+DAY day year number mark day-of-month day-name month-length year-name ji bu year-in-bu eclipse
 FOUND total
 """
 SHAPES = {line.split()[0]: line.split() for line in SHAPES.strip().split("\n")}

@@ -4,20 +4,21 @@ It shares nothing with the library. The calendar is walked from the origin, mid-
 month's days, numbers are given out by the paper's two sentences, and every date is found by looking it up. A term is walked to from
 its year's solstice. A planet's next conjunction is searched for among its counts. A query line is read by regular expressions.
 
-Years are of two kinds. A solstice year, 1 to 41,040, opens with the month of a winter solstice: a year's place and its terms are of
-it. A civil year, 0 to 41,040, opens with its own month 1, year 0 with the origin: dates, a year's own facts, a reading's year name,
-the listing and the sheet have it. Each is walked by itself.
+Years are of two kinds. A solstice year, 1 to 41,040, opens with the month of a winter solstice: a place and the terms are of it. A
+civil year, 0 to 41,040, opens with its own month 1, year 0 with the origin: dates, a year's own facts, a reading's year name, the
+listing and the sheet have it. Each is walked by itself, and a solstice year's place from that of the year before.
 
 In order:
 
 - the ranges and the words of the reasons,
-- the walked calendar and what request W4 says of its years, the big pairs, the terms, names and marks,
+- the walked calendar and what requests W4 and W8 say of its years and places, the big pairs, the terms, names and marks,
 - the planets,
 - the sheet, read and written byte by byte,
 - the desk: a line's answer, its echo, and the listing's lines,
 - `hold`, which writes a tool's files or says whether they stand.
 """
 import bisect
+import collections
 import math
 import pathlib
 import re
@@ -57,25 +58,38 @@ def refused(k):
 
 # The calendar.
 
+# The place of a yuan's last year, after which its first comes again: ji, bu, year in bu.
+LAST_PLACE = (3, 20, 76)
+
+
+def next_place(ji, bu, year_in_bu):
+    """The place of the solstice year after one of this place: 76 years make a bu, twenty bu a ji, three ji a yuan."""
+    if year_in_bu < 76:
+        return ji, bu, year_in_bu + 1
+    if bu < 20:
+        return ji, bu + 1, 1
+    return (ji + 1 if ji < 3 else 1), 1, 1
+
 
 class Calendar:
-    """Every month of the range: first day, number, leap mark, solstice year and civil year; by walking, not by formula.
+    """Every month of the range: first day, number, leap mark, solstice year, its place, and civil year; by walking, not by formula.
 
-    The solstice year goes on by one at the month of a winter solstice, the civil year at an ordinary month 1; before the first of
-    them it is 0. A date's year is the civil one, so that months are looked up by it."""
+    The solstice year goes on by one at the month of a winter solstice, its place to the next; the civil year goes on at an ordinary
+    month 1. Before the first of them a year is 0. A date's year is the civil one, so that months are looked up by it."""
 
     def __init__(self):
         self.starts = [27759 * n // 940 for n in range(MONTHS + 1)]
         mid_days = {}
         for t in range(0, 24 * YEARS + 48, 2):
             mid_days[487 * t // 32] = t % 24
-        self.number, self.leap, self.solstice_year, self.civil_year = [], [], [], []
-        solstice_year, civil_year, previous = 0, 0, None
+        self.number, self.leap, self.solstice_year, self.place, self.civil_year = [], [], [], [], []
+        solstice_year, place, civil_year, previous = 0, LAST_PLACE, 0, None
         for n in range(MONTHS):
             held = [mid_days[d] for d in range(self.starts[n], self.starts[n + 1]) if d in mid_days]
             assert len(held) <= 1
             if held and held[0] == 0:
                 solstice_year += 1
+                place = next_place(*place)
             if held:
                 previous = [11, 12, 1, 2, 3, 4, 5, 6, 7, 8, 9, 10][held[0] // 2]
             if held and previous == 1:
@@ -83,6 +97,7 @@ class Calendar:
             self.number.append(previous)
             self.leap.append(not held)
             self.solstice_year.append(solstice_year)
+            self.place.append(place)
             self.civil_year.append(civil_year)
         self.by_name = {}
         self.months_of_solstice, self.months_of_civil = {}, {}
@@ -93,6 +108,7 @@ class Calendar:
             self.months_of_solstice.setdefault(self.solstice_year[n], []).append(n)
             self.months_of_civil.setdefault(self.civil_year[n], []).append(n)
         hold_years(self)
+        hold_places(self)
 
     def length(self, n):
         return self.starts[n + 1] - self.starts[n]
@@ -135,6 +151,23 @@ def hold_years(c):
     # the years that the request names, and a leap month 11
     assert c.months_of_civil[8] == list(range(88, 101)) and c.months_of_civil[11] == list(range(125, 138))
     assert c.by_name[27, 11, True] == 334
+
+
+def hold_places(c):
+    """It stops where the paper's sentence on a place, or one of request W8, does not hold of the walked months."""
+    # from the elapsed years: three ji of 1,520 years make a yuan of 4,560, twenty bu of 76 years make a ji
+    for year, place in zip(c.solstice_year, c.place):
+        elapsed = year - 1
+        assert place == (elapsed % 4560 // 1520 + 1, elapsed % 1520 // 76 + 1, elapsed % 76 + 1)
+    # 27,759 days keep the year in the bu; the bu goes one on, round twenty, and the ji, round three, when the bu passes from 20 to 1
+    for n in range(MONTHS - 940):
+        ji, bu, year_in_bu = c.place[n]
+        assert c.starts[n + 940] == c.starts[n] + 27759
+        assert c.place[n + 940] == (ji % 3 + 1 if bu == 20 else ji, bu % 20 + 1, year_in_bu)
+    # the eclipse mark is excepted; it is kept over 749,493 days
+    assert is_eclipse(939) and not is_eclipse(939 + 940)
+    for n in range(MONTHS - 25380):
+        assert c.starts[n + 25380] == c.starts[n] + 749493 and is_eclipse(n + 25380) == is_eclipse(n)
 
 
 def pair_starts():
@@ -190,6 +223,10 @@ def mark(leap):
 def is_eclipse(n):
     """Whether a month is an eclipse month."""
     return 23 * (n + 1) % 135 < 23
+
+
+def eclipse_mark(eclipse):
+    return "E" if eclipse else "-"
 
 
 # The planets. "004 gives conjunctions per years": planet, conjunctions, years.
@@ -337,6 +374,10 @@ def planet_line(word, answer):
     return refused(answer) if isinstance(answer, int) else " ".join([word, *map(str, answer)])
 
 
+# A date record. Its year is the civil one; ji, bu and year in bu are the place of the solstice year that its month lies in.
+Date = collections.namedtuple("Date", "year number leap day_of_month month_length day_name year_name ji bu year_in_bu eclipse")
+
+
 class Desk:
     """The desk over the walked calendar. Each query has a method, which gives the lines of its answer."""
 
@@ -345,18 +386,17 @@ class Desk:
 
     # What a day is, and what a date is.
 
-    def date_fields(self, day):
-        """Civil year, number, whether leap, day of month, month length, day name, year name."""
-        n = self.c.month_of(day)
-        y = self.c.civil_year[n]
-        day_of_month = day - self.c.starts[n] + 1
-        return (y, self.c.number[n], self.c.leap[n], day_of_month, self.c.length(n), day_name(day), year_name(y))
+    def record(self, day):
+        """A day's date record."""
+        c, n = self.c, self.c.month_of(day)
+        y, day_of_month = c.civil_year[n], day - c.starts[n] + 1
+        names = (day_name(day), year_name(y))
+        return Date(y, c.number[n], c.leap[n], day_of_month, c.length(n), *names, *c.place[n], is_eclipse(n))
 
     def six(self, day):
         """A day's six values, in the paper's order."""
-        n = self.c.month_of(day)
-        y, k, l, m, _, dn, yn = self.date_fields(day)
-        return (yn, k, 2 if l else 1, m, dn, day_name(self.c.starts[n]))
+        d = self.record(day)
+        return (d.year_name, d.number, 2 if d.leap else 1, d.day_of_month, d.day_name, day_name(day - d.day_of_month + 1))
 
     def find(self, y, k, l, m):
         """The day of a date of a civil year, or the reason's number as a negative."""
@@ -387,14 +427,11 @@ class Desk:
         """A solstice year's place."""
         if not 1 <= y <= YEARS:
             return [refused(1)]
-        elapsed = y - 1
-        in_yuan = elapsed % 4560
-        ji, rest = in_yuan // 1520 + 1, in_yuan % 1520
-        bu, year_in_bu = rest // 76 + 1, rest % 76 + 1
+        months = self.c.months_of_solstice[y]
+        ji, bu, year_in_bu = self.c.place[months[0]]
         head_year = y - (year_in_bu - 1)
         head = day_name(self.c.starts[self.c.months_of_solstice[head_year][0]])
-        months = self.c.months_of_solstice[y]
-        return [f"PLACE {ji} {bu} {year_in_bu} {head} {months[0]} {235 * elapsed % 19} {len(months)}"]
+        return [f"PLACE {ji} {bu} {year_in_bu} {head} {months[0]} {235 * (y - 1) % 19} {len(months)}"]
 
     def year(self, y):
         """A civil year's own facts."""
@@ -429,11 +466,13 @@ class Desk:
     def pair(self, p):
         return [planet_line("PAIR", pair(p))]
 
-    def day(self, d):
-        if not 0 <= d < DAYS:
+    def day(self, day):
+        """The listing's line, and what the listing does not say."""
+        if not 0 <= day < DAYS:
             return [refused(6)]
-        y, k, l, m, length, dn, yn = self.date_fields(d)
-        return [f"DAY {d} {y} {k} {mark(l)} {m} {dn} {length} {yn}"]
+        d = self.record(day)
+        place = f"{d.ji} {d.bu} {d.year_in_bu}"
+        return [f"{listed_day(self, day)} {d.month_length} {d.year_name} {place} {eclipse_mark(d.eclipse)}"]
 
     def date(self, y, k, l, m, n=0):
         """A date, or a date moved by n days."""
@@ -486,8 +525,7 @@ class Desk:
 def month_fields(desk, n):
     """The six fields of a month's line."""
     c = desk.c
-    eclipse = "E" if is_eclipse(n) else "-"
-    return f"{n} {c.number[n]} {mark(c.leap[n])} {day_name(c.starts[n])} {c.length(n)} {eclipse}"
+    return f"{n} {c.number[n]} {mark(c.leap[n])} {day_name(c.starts[n])} {c.length(n)} {eclipse_mark(is_eclipse(n))}"
 
 
 def year_block(desk, y):
@@ -498,8 +536,8 @@ def year_block(desk, y):
 
 def listed_day(desk, day):
     """A day's line in a listing, with its civil year."""
-    y, k, l, m, _, dn, _ = desk.date_fields(day)
-    return f"DAY {day} {y} {k} {mark(l)} {m} {dn}"
+    d = desk.record(day)
+    return f"DAY {day} {d.year} {d.number} {mark(d.leap)} {d.day_of_month} {d.day_name}"
 
 
 # The files of a tool.

@@ -17,7 +17,11 @@ AT(oes_date, day_of_month, 16);
 AT(oes_date, month_length, 20);
 AT(oes_date, day_name, 24);
 AT(oes_date, year_name, 28);
-SIZE(oes_date, 32);
+AT(oes_date, ji, 32);
+AT(oes_date, bu, 36);
+AT(oes_date, year_in_bu, 40);
+AT(oes_date, eclipse, 44);
+SIZE(oes_date, 48);
 AT(oes_day, day, 4);
 SIZE(oes_day, 8);
 AT(oes_solstice, ji, 4);
@@ -110,17 +114,18 @@ static void bytes_same(int line, const void *got, const void *want, size_t n)
 /* A number whose low 32 bits are n: never in range. */
 static uint64_t wide(uint64_t n) { return (UINT64_C(1) << 32) + n; }
 
-static void date_is(oes_date d, const uint32_t want[8])
+static void date_is(oes_date d, const uint32_t want[12])
 {
-    const uint32_t got[8] = {d.reason, d.year, d.number, d.leap, d.day_of_month, d.month_length, d.day_name, d.year_name};
-    for (int i = 0; i < 8; i++) {
+    const uint32_t got[12] = {d.reason,   d.year,      d.number, d.leap, d.day_of_month, d.month_length,
+                              d.day_name, d.year_name, d.ji,     d.bu,   d.year_in_bu,   d.eclipse};
+    for (int i = 0; i < 12; i++) {
         SAME(got[i], want[i]);
     }
 }
 
 static void date_refused(oes_date d, uint32_t reason)
 {
-    const uint32_t want[8] = {reason};
+    const uint32_t want[12] = {reason};
     date_is(d, want);
 }
 
@@ -132,20 +137,29 @@ static void day_is(oes_day d, uint32_t reason, uint32_t day)
 
 /* By civil years: day 0 (case 1), 28 and 29 (2), the last day (3), the first day of solstice year 9,366 and its solstice (5, 6), a
  * day of the leap month of year 11 (8), reasons of a date (9), moves (1, 11). By hand, the first days of leap 12 of year 8 and of
- * the month after it, of leap 11 of year 27, of month 1 of year 1 and of its month 12. */
+ * the month after it, of leap 11 of year 27, of month 1 of year 1 and of its month 12; the days on both sides of the heads of bu 2,
+ * of ji 2 and of the second yuan; the day before solstice year 9,366, in an eclipse month that leaves no rest; the last day of bu 1
+ * moved over 27,759 days, which do not keep its eclipse mark, and over 749,493, which do. */
 static void dates(void)
 {
-    date_is(oes_date_of_day(0), (const uint32_t[8]){0, 0, 11, 0, 1, 29, 1, 16});
-    date_is(oes_date_of_day(28), (const uint32_t[8]){0, 0, 11, 0, 29, 29, 29, 16});
-    date_is(oes_date_of_day(29), (const uint32_t[8]){0, 0, 12, 0, 1, 30, 30, 16});
-    date_is(oes_date_of_day(59), (const uint32_t[8]){0, 1, 1, 0, 1, 29, 60, 17});
-    date_is(oes_date_of_day(2953), (const uint32_t[8]){0, 8, 12, 1, 1, 29, 14, 24});
-    date_is(oes_date_of_day(2982), (const uint32_t[8]){0, 9, 1, 0, 1, 30, 43, 25});
-    date_is(oes_date_of_day(3961), (const uint32_t[8]){0, 11, 9, 1, 5, 29, 2, 27});
-    date_is(oes_date_of_day(9863), (const uint32_t[8]){0, 27, 11, 1, 1, 29, 24, 43});
-    date_is(oes_date_of_day(3420558), (const uint32_t[8]){0, 9365, 11, 0, 1, 30, 19, 21});
-    date_is(oes_date_of_day(3420566), (const uint32_t[8]){0, 9365, 11, 0, 9, 30, 27, 21});
-    date_is(oes_date_of_day(14989859), (const uint32_t[8]){0, 41040, 10, 1, 30, 30, 60, 16});
+    date_is(oes_date_of_day(0), (const uint32_t[12]){0, 0, 11, 0, 1, 29, 1, 16, 1, 1, 1, 0});
+    date_is(oes_date_of_day(28), (const uint32_t[12]){0, 0, 11, 0, 29, 29, 29, 16, 1, 1, 1, 0});
+    date_is(oes_date_of_day(29), (const uint32_t[12]){0, 0, 12, 0, 1, 30, 30, 16, 1, 1, 1, 0});
+    date_is(oes_date_of_day(59), (const uint32_t[12]){0, 1, 1, 0, 1, 29, 60, 17, 1, 1, 1, 0});
+    date_is(oes_date_of_day(2953), (const uint32_t[12]){0, 8, 12, 1, 1, 29, 14, 24, 1, 1, 9, 0});
+    date_is(oes_date_of_day(2982), (const uint32_t[12]){0, 9, 1, 0, 1, 30, 43, 25, 1, 1, 9, 0});
+    date_is(oes_date_of_day(3961), (const uint32_t[12]){0, 11, 9, 1, 5, 29, 2, 27, 1, 1, 11, 1});
+    date_is(oes_date_of_day(9863), (const uint32_t[12]){0, 27, 11, 1, 1, 29, 24, 43, 1, 1, 28, 1});
+    date_is(oes_date_of_day(27758), (const uint32_t[12]){0, 76, 10, 1, 30, 30, 39, 32, 1, 1, 76, 1});
+    date_is(oes_date_of_day(27759), (const uint32_t[12]){0, 76, 11, 0, 1, 29, 40, 32, 1, 2, 1, 0});
+    date_is(oes_date_of_day(555179), (const uint32_t[12]){0, 1520, 10, 1, 30, 30, 60, 36, 1, 20, 76, 0});
+    date_is(oes_date_of_day(555180), (const uint32_t[12]){0, 1520, 11, 0, 1, 29, 1, 36, 2, 1, 1, 1});
+    date_is(oes_date_of_day(1665539), (const uint32_t[12]){0, 4560, 10, 1, 30, 30, 60, 16, 3, 20, 76, 0});
+    date_is(oes_date_of_day(1665540), (const uint32_t[12]){0, 4560, 11, 0, 1, 29, 1, 16, 1, 1, 1, 1});
+    date_is(oes_date_of_day(3420557), (const uint32_t[12]){0, 9365, 10, 0, 30, 30, 18, 21, 1, 4, 17, 1});
+    date_is(oes_date_of_day(3420558), (const uint32_t[12]){0, 9365, 11, 0, 1, 30, 19, 21, 1, 4, 18, 0});
+    date_is(oes_date_of_day(3420566), (const uint32_t[12]){0, 9365, 11, 0, 9, 30, 27, 21, 1, 4, 18, 0});
+    date_is(oes_date_of_day(14989859), (const uint32_t[12]){0, 41040, 10, 1, 30, 30, 60, 16, 3, 20, 76, 1});
     date_refused(oes_date_of_day(14989860), 6);
     date_refused(oes_date_of_day(wide(0)), 6);
     date_refused(oes_date_of_day((uint64_t)-1), 6);
@@ -162,8 +176,10 @@ static void dates(void)
     day_is(oes_day_of_date(wide(0), wide(11), false, wide(1)), 1, 0);
     day_is(oes_day_of_date(0, wide(11), false, wide(1)), 2, 0);
     day_is(oes_day_of_date(0, 11, false, wide(1)), 3, 0);
-    date_is(oes_move_date(0, 11, false, 1, 27759), (const uint32_t[8]){0, 76, 11, 0, 1, 29, 40, 32});
-    date_is(oes_move_date(76, 11, false, 1, -27759), (const uint32_t[8]){0, 0, 11, 0, 1, 29, 1, 16});
+    date_is(oes_move_date(0, 11, false, 1, 27759), (const uint32_t[12]){0, 76, 11, 0, 1, 29, 40, 32, 1, 2, 1, 0});
+    date_is(oes_move_date(76, 11, false, 1, -27759), (const uint32_t[12]){0, 0, 11, 0, 1, 29, 1, 16, 1, 1, 1, 0});
+    date_is(oes_move_date(76, 10, true, 30, 27759), (const uint32_t[12]){0, 152, 10, 1, 30, 30, 18, 48, 1, 2, 76, 0});
+    date_is(oes_move_date(76, 10, true, 30, 749493), (const uint32_t[12]){0, 2128, 10, 1, 30, 30, 12, 44, 2, 8, 76, 1});
     date_refused(oes_move_date(0, 11, false, 1, -1), 8);
     date_refused(oes_move_date(0, 11, false, 1, INT64_MIN), 8);
     date_refused(oes_move_date(0, 11, false, 1, INT64_MAX), 8);

@@ -12,8 +12,8 @@ static void date_line(oes_date d)
         return;
     }
     oes_day day = oes_day_of_date(d.year, d.number, d.leap, d.day_of_month);
-    printf("DAY %u %u %u %c %u %u %u %u\n", day.day, d.year, d.number, d.leap ? 'L' : '-', d.day_of_month, d.day_name,
-           d.month_length, d.year_name);
+    printf("DAY %u %u %u %c %u %u %u %u %u %u %u %c\n", day.day, d.year, d.number, d.leap ? 'L' : '-', d.day_of_month, d.day_name,
+           d.month_length, d.year_name, d.ji, d.bu, d.year_in_bu, d.eclipse ? 'E' : '-');
 }
 
 static void show_date(const char *asked, oes_date d)

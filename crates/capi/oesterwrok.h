@@ -23,7 +23,8 @@ extern "C" {
 #endif
 
 /* A date by its civil year, whose name `year_name` is. `number` is the month's, `leap` whether it is the leap month of that
- * number. */
+ * number. `ji`, `bu` and `year_in_bu` are the place of the solstice year in which the day lies, not of `year`. `eclipse` is whether
+ * the month is an eclipse month. */
 typedef struct oes_date {
     uint32_t reason;
     uint32_t year;
@@ -33,6 +34,10 @@ typedef struct oes_date {
     uint32_t month_length;
     uint32_t day_name;
     uint32_t year_name;
+    uint32_t ji;
+    uint32_t bu;
+    uint32_t year_in_bu;
+    bool eclipse;
 } oes_date;
 
 /* A day. */

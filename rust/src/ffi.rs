@@ -75,6 +75,10 @@ answer! {
         month_length: u32,
         day_name: u32,
         year_name: u32,
+        ji: u32,
+        bu: u32,
+        year_in_bu: u32,
+        eclipse: bool,
     }
 }
 

@@ -1,7 +1,8 @@
 //! An independent implementation of the same calls, written from the paper alone and not from the proved code: the cross-check's
 //! other side and the benchmark's. It is plain Rust with floor divisions; it calls nothing of capi.
 //!
-//! A date's year is the civil year; place, leap remainder and terms are of the solstice year, from which the civil year comes.
+//! A date's year is the civil year; place (a date's too), leap remainder and terms are of the solstice year, from which the civil
+//! year comes.
 
 use crate::types::*;
 use std::ops::Range;
@@ -75,6 +76,16 @@ fn solstice_months(year: u64) -> u64 {
     } else {
         12
     }
+}
+
+/// The place of a solstice year: ji, bu and year in the bu, each from 1.
+fn place_of_year(year: u64) -> (u32, u32, u32) {
+    let elapsed = year - 1;
+    (
+        (elapsed % 4_560 / 1_520 + 1) as u32,
+        (elapsed % 1_520 / 76 + 1) as u32,
+        (elapsed % 76 + 1) as u32,
+    )
 }
 
 /// The solstice year that a month lies in: the last with 235 × (year − 1) / 19 below n + 1.
@@ -160,11 +171,14 @@ fn check_day(day: u64) -> Result<(), Reason> {
 
 // Dates and moves.
 
-/// The date of a day that is in range.
+/// The date of a day that is in range. Inlined, so that a search works out no more of it than it looks at.
+#[inline]
 fn date_at(day: u64) -> Date {
     let n = month_of_day(day);
     let month = month_held(n);
-    let year = civil_year(solstice_year_of(n), month.number());
+    let solstice_year = solstice_year_of(n);
+    let year = civil_year(solstice_year, month.number());
+    let (ji, bu, year_in_bu) = place_of_year(solstice_year);
     Date {
         year: year as u32,
         month,
@@ -172,6 +186,10 @@ fn date_at(day: u64) -> Date {
         month_length: month_length(n) as u32,
         day_name: day_name(day),
         year_name: year_name(year),
+        ji,
+        bu,
+        year_in_bu,
+        eclipse: is_eclipse(n),
     }
 }
 
@@ -235,12 +253,12 @@ pub fn move_date(asked: Asked, days: i64) -> Result<Date, Reason> {
 /// As [`crate::solstice_year`].
 pub fn solstice_year(year: u64) -> Result<SolsticeYear, Reason> {
     check_solstice_year(year)?;
-    let elapsed = year - 1;
-    let head_year = elapsed - elapsed % 76 + 1;
+    let (ji, bu, year_in_bu) = place_of_year(year);
+    let head_year = year + 1 - u64::from(year_in_bu);
     Ok(SolsticeYear {
-        ji: (elapsed % 4_560 / 1_520 + 1) as u32,
-        bu: (elapsed % 1_520 / 76 + 1) as u32,
-        year_in_bu: (elapsed % 76 + 1) as u32,
+        ji,
+        bu,
+        year_in_bu,
         head_name: day_name(month_start(solstice_first(head_year))),
         first_month: solstice_first(year) as u32,
         leap_remainder: leap_remainder(year) as u32,

@@ -6,7 +6,7 @@
 //! A year is a civil year, 0 to 41,040. It opens with its month 1 and ends with its month 12 or the leap month after it; year 0
 //! has months 11 and 12 alone, and year 41,040 ends with its leap month 10. Only [`solstice_year`] and [`term`] take the solstice
 //! year, 1 to 41,040, which begins with its month 11. The civil year of a month is its solstice year, one less where its number
-//! is 11 or 12, leap or not.
+//! is 11 or 12, leap or not. A date's ji, bu and year in the bu are of the solstice year in which its day lies.
 //!
 //! ```
 //! use oesterwrok::{day_of_date, date_of_day, Asked, Month, Reason};
@@ -258,6 +258,10 @@ fn date(c: ffi::CDate) -> Date {
         month_length: c.month_length,
         day_name: c.day_name,
         year_name: c.year_name,
+        ji: c.ji,
+        bu: c.bu,
+        year_in_bu: c.year_in_bu,
+        eclipse: c.eclipse,
     }
 }
 

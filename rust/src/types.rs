@@ -148,6 +148,14 @@ pub struct Date {
     pub day_name: u32,
     /// The civil year's name, 1 to 60.
     pub year_name: u32,
+    /// The ji of the solstice year in which the day lies, 1 to 3.
+    pub ji: u32,
+    /// The bu of that solstice year, 1 to 20.
+    pub bu: u32,
+    /// The year in the bu of that solstice year, 1 to 76.
+    pub year_in_bu: u32,
+    /// Whether the day's month is an eclipse month.
+    pub eclipse: bool,
 }
 
 impl Date {

@@ -1,5 +1,5 @@
-//! The paper's known dates, its printed year, its figures of civil years and of the planets, asked of both sides: of capi through
-//! the wrapper, and of the independent one.
+//! The paper's known dates, its printed year, its figures of civil years, of a date's place and eclipse mark and of the planets,
+//! asked of both sides: of capi through the wrapper, and of the independent one.
 
 /// The paper's figures, as tests over the calls of one side.
 macro_rules! paper_of {
@@ -25,6 +25,11 @@ macro_rules! paper_of {
 
             fn place(date: Date) -> (u32, Month, u32, u32) {
                 (date.year, date.month, date.day_of_month, date.day_name)
+            }
+
+            /// What the desk's card shows besides: ji, bu, year in the bu and eclipse mark.
+            fn card(date: Date) -> (u32, u32, u32, bool) {
+                (date.ji, date.bu, date.year_in_bu, date.eclipse)
             }
 
             #[test]
@@ -272,6 +277,81 @@ macro_rules! paper_of {
                 let date = calls::move_date(asked(0, Month::Ordinary(11), 1), 27_759).unwrap();
                 assert_eq!(place(date), (76, Month::Ordinary(11), 1, 40));
                 assert_eq!(date.year_name, 32);
+                assert_eq!(card(date), (1, 2, 1, false));
+            }
+
+            /// The place is that of the solstice year in which the day lies, not of the civil year; the eclipse mark is the
+            /// month's. By hand, on both sides of a bu's head, a ji's, a yuan's, and of the range.
+            #[test]
+            fn cards() {
+                let shown = |day| card(calls::date_of_day(day).unwrap());
+                assert_eq!(shown(0), (1, 1, 1, false));
+                // Leap 10 of civil year 76 closes solstice year 76; 23 x 940, divided by 135, leaves 20.
+                let last_of_bu = calls::date_of_day(27_758).unwrap();
+                assert_eq!(place(last_of_bu), (76, Month::Leap(10), 30, 39));
+                assert_eq!(card(last_of_bu), (1, 1, 76, true));
+                // Month 11 of the same civil year opens solstice year 77.
+                let head_of_bu = calls::date_of_day(27_759).unwrap();
+                assert_eq!(place(head_of_bu), (76, Month::Ordinary(11), 1, 40));
+                assert_eq!(
+                    (head_of_bu.year_name, card(head_of_bu)),
+                    (32, (1, 2, 1, false))
+                );
+                assert_eq!(shown(555_179), (1, 20, 76, false));
+                assert_eq!(shown(555_180), (2, 1, 1, true));
+                assert_eq!(shown(1_665_539), (3, 20, 76, false));
+                assert_eq!(shown(1_665_540), (1, 1, 1, true));
+                assert_eq!(shown(LAST_DAY), (3, 20, 76, true));
+                // Leap months that close a civil year: 12 of year 8, and the month after it; 11 of year 27.
+                assert_eq!(shown(2_953), (1, 1, 9, false));
+                assert_eq!(shown(2_982), (1, 1, 9, false));
+                assert_eq!(shown(9_863), (1, 1, 28, true));
+                // Solstice year 9,366 and its solstice. 115,830 months are 858 times 135, without rest: the eclipse is in the month
+                // already counted, which ends the day before.
+                assert_eq!(shown(3_420_557), (1, 4, 17, true));
+                assert_eq!(shown(3_420_558), (1, 4, 18, false));
+                assert_eq!(shown(3_420_566), (1, 4, 18, false));
+            }
+
+            /// Every date has the place of its solstice year and the eclipse mark of its month, as these are told themselves.
+            #[test]
+            fn cards_of_every_day() {
+                let mut days = 0;
+                for year in 1..=41_040 {
+                    let facts = calls::solstice_year(year).unwrap();
+                    for n in facts.first_month..facts.first_month + facts.months {
+                        let month = calls::month_facts(n.into()).unwrap();
+                        let told = (facts.ji, facts.bu, facts.year_in_bu, month.eclipse);
+                        assert_eq!(days, month.first_day);
+                        for day in days..days + month.month_length {
+                            assert_eq!(card(calls::date_of_day(day.into()).unwrap()), told);
+                        }
+                        days += month.month_length;
+                    }
+                }
+                assert_eq!(days, 14_989_860);
+            }
+
+            /// A move over 27,759 days keeps the year in the bu and puts the bu one on, round twenty, and the ji, round three, when
+            /// the bu passes from 20 to 1. It need not keep the eclipse mark; 749,493 days do. Of every month a day: none is
+            /// shorter than 29.
+            #[test]
+            fn cards_of_moves() {
+                for day in (0..=LAST_DAY - 27_759).step_by(29) {
+                    let from = calls::date_of_day(day).unwrap();
+                    let to = calls::move_date(from.asked(), 27_759).unwrap();
+                    let bu = from.bu % 20 + 1;
+                    let ji = if bu == 1 { from.ji % 3 + 1 } else { from.ji };
+                    assert_eq!((to.ji, to.bu, to.year_in_bu), (ji, bu, from.year_in_bu));
+                    if day + 749_493 <= LAST_DAY {
+                        let far = calls::move_date(from.asked(), 749_493).unwrap();
+                        assert_eq!(far.eclipse, from.eclipse);
+                    }
+                }
+                let last_of_bu = asked(76, Month::Leap(10), 30);
+                let moved = |days| card(calls::move_date(last_of_bu, days).unwrap());
+                assert_eq!(moved(27_759), (1, 2, 76, false));
+                assert_eq!(moved(749_493), (2, 8, 76, true));
             }
 
             /// Any nineteen civil years in a row within 1 to 41,039.

@@ -5,14 +5,15 @@ use mathlib.Core.Path.{_≡_, refl, ap, sym, _∙_, subst}
 use mathlib.Core.Logic.{_↔_}
 use lib.Dec.{leb}
 use mathlib.Core.Bool.{Bool, true, false, false≢true}
-use Rattle.rule.specs.Counts.{SolsticeYearInRange, DayInRange, MonthInRange}
-use Rattle.rule.specs.Rule.{InMonth, termDay, yearTerm, midTermDay, InSolsticeYear, leap, monthNumber, marked, numberOf, solsticeYearOf, InCivilYear}
+use Rattle.rule.specs.Counts.{SolsticeYearInRange, DayInRange, MonthInRange, ji, bu, yearInBu}
+use Rattle.rule.specs.Rule.{InMonth, termDay, yearTerm, midTermDay, InSolsticeYear, leap, monthNumber, marked, numberOf, solsticeYearOf, InCivilYear, eclipse}
 use Rattle.rule.specs.Reasons.{is, within}
-use Rattle.rule.specs.Paper.{MidTerm, NoMidTerm, Numbered, IsMonth}
+use Rattle.rule.specs.Paper.{MidTerm, NoMidTerm, Numbered, IsMonth, IsPlace}
 use Rattle.rule.specs.declared.Month.{Month}
 use Rattle.rule.specs.declared.Month.the-variants.{Ordinary, Leap}
-use Rattle.rule.proofs.Answers.{within-true, at-most}
-use Rattle.rule.proofs.Months.{start-end}
+use Rattle.rule.proofs.Answers.{within-true, at-most, same-test}
+use Rattle.rule.proofs.Eclipses.{eclipse-rule}
+use Rattle.rule.proofs.Months.{start-end, of-day}
 use Rattle.rule.proofs.Terms.{year-mid-term}
 use Rattle.rule.proofs.Years.{of-month, of-month-range}
 use Rattle.rule.proofs.Leap.{holds-next, rises-ordinary, ordinary-year, leap-follows, after-namesake, number-at}
@@ -21,10 +22,17 @@ use Rattle.dates.specs.declared.Date.{Date}
 use Rattle.dates.specs.declared.Dated.the-variants as Dated'
 use Rattle.dates.specs.declared.DayTold.the-variants as DayTold'
 use Rattle.dates.specs.Promises.{DateOfDay, DayOfDate}
-use Rattle.dates.specs.Paper.{IsDate, IsDayOf}
+use Rattle.dates.specs.Paper.{HasPlace, IsDate, IsDayOf}
 use Rattle.dates.proofs.Named.{last-leap}
 use Rattle.dates.proofs.Paper as Dates
+use Rattle.facts.specs.declared.SolsticeYearTold.{SolsticeYearTold}
+use Rattle.facts.specs.declared.SolsticeYearTold.the-variants as Solstice'
+use Rattle.facts.specs.declared.MonthTold.{MonthTold}
+use Rattle.facts.specs.declared.MonthTold.the-variants as Month'
+use Rattle.facts.specs.Facts.{solsticeYear, monthFacts}
 use Rattle.facts.specs.Paper.{termBefore}
+use Rattle.facts.specs.Promises.{SolsticeYearFacts, MonthByCount}
+use Rattle.facts.proofs.Exactly.{solstice-exactly, month-exactly}
 use Rattle.facts.proofs.Given.{two-literally}
 use Rattle.facts.proofs.Paper as Facts
 use Rattle.agreed.specs.Paper as Paper
@@ -142,6 +150,16 @@ month-told : (y : ℕ) (m : Month) (n : ℕ) → (SolsticeYearInRange y × InSol
 month-told y (Ordinary k) n = ordinary-told y n k
 month-told y (Leap k) n = leap-told y n k
 
+-- the number of a month, and the solstice year of one of a civil year
+number-is : (n : ℕ) (m : Month) → IsMonth n m → monthNumber n ≡ numberOf m
+number-is n m a = sym (number-at n) ∙ ap numberOf (Rule.month-is n m a)
+
+solstice-is : (y n : ℕ) (m : Month) → InCivilYear y n → IsMonth n m → InSolsticeYear (solsticeYearOf y (numberOf m)) n
+solstice-is y n m i a = subst (λ k. InSolsticeYear (solsticeYearOf y k) n) (number-is n m a) (i .1)
+
+its-range : (s n : ℕ) → MonthInRange n → InSolsticeYear s n → SolsticeYearInRange s
+its-range s n h own = subst SolsticeYearInRange (of-month s n .0 own) (of-month-range n .0 h)
+
 -- a month of a civil year, by the terms of its solstice year
 civil-told : (y : ℕ) (m : Month) (n : ℕ) → (InCivilYear y n × IsMonth n m) ↔ MonthByTerms termBefore (solsticeYearOf y (numberOf m)) n m
 civil-told y m n = (there, back)
@@ -149,18 +167,13 @@ civil-told y m n = (there, back)
     s : ℕ
     s = solsticeYearOf y (numberOf m)
 
-    number : IsMonth n m → monthNumber n ≡ numberOf m
-    number a = sym (number-at n) ∙ ap numberOf (Rule.month-is n m a)
-
     there : InCivilYear y n × IsMonth n m → MonthByTerms termBefore (solsticeYearOf y (numberOf m)) n m
-    there (i, a) =
-        let own : InSolsticeYear s n = subst (λ k. InSolsticeYear (solsticeYearOf y k) n) (number a) (i .1) in
-        month-told s m n .0 (subst SolsticeYearInRange (of-month s n .0 own) (of-month-range n .0 (i .0)), own, a)
+    there (i, a) = let own = solstice-is y n m i a in month-told s m n .0 (its-range s n (i .0) own, own, a)
 
     back : MonthByTerms termBefore (solsticeYearOf y (numberOf m)) n m → InCivilYear y n × IsMonth n m
     back b =
         let (r, own, a) = month-told s m n .1 b in
-        ((month-there s n r own, subst (λ k. InSolsticeYear (solsticeYearOf y k) n) (sym (number a)) own), a)
+        ((month-there s n r own, subst (λ k. InSolsticeYear (solsticeYearOf y k) n) (sym (number-is n m a)) own), a)
 
 named-told : (y k : ℕ) (l : Bool) (n : ℕ) → (InCivilYear y n × IsMonth n (marked l k)) ↔ MonthByTerms termBefore (solsticeYearOf y k) n (marked l k)
 named-told y k true n = civil-told y (Leap k) n
@@ -176,10 +189,7 @@ date-told d r = (λ p. there (Dates.date-of-day d r .0 p), λ a. Dates.date-of-d
           n = i .n;
           on-its-days = i .on-its-days;
           its-month = civil-told (r .year) (r .month) (i .n) .0 (i .of-its-year, i .its-month);
-          its-day = i .its-day;
-          its-length = i .its-length;
-          its-day-name = i .its-day-name;
-          its-year-name = i .its-year-name;
+          its-rest = i .its-rest;
         }
 
     back : DateByTerms termBefore d r → DayInRange d × IsDate d r
@@ -192,10 +202,7 @@ date-told d r = (λ p. there (Dates.date-of-day d r .0 p), λ a. Dates.date-of-d
             on-its-days = a .on-its-days;
             of-its-year = in-year;
             its-month = month;
-            its-day = a .its-day;
-            its-length = a .its-length;
-            its-day-name = a .its-day-name;
-            its-year-name = a .its-year-name;
+            its-rest = a .its-rest;
           },
         )
 
@@ -234,3 +241,43 @@ dates-as-before =
 
 pub dates-by-terms : Paper.Dates-by-terms
 dates-by-terms told h = subst DatesBy (sym (λ i y k. Facts.term-as-before y k (told y k) (h y k) i)) dates-as-before
+
+-- what is answered for a solstice year and for a month in range
+solstice-given : (y : ℕ) → SolsticeYearInRange y → (a : SolsticeYearTold) → SolsticeYearFacts y a → a ≡ Solstice'.Is (solsticeYear y)
+solstice-given y h a p =
+    Facts.unique-facts .solstice-year y a (Solstice'.Is (solsticeYear y)) p
+    (Facts.solstice-year y (solsticeYear y) .1 (h, solstice-exactly y (h .0) (solsticeYear y) .0 refl))
+
+month-given : (n : ℕ) → MonthInRange n → (a : MonthTold) → MonthByCount n a → a ≡ Month'.Is (monthFacts n)
+month-given n h a p =
+    Facts.unique-facts .month n a (Month'.Is (monthFacts n)) p (Facts.month-by-count n (monthFacts n) .1 (h, month-exactly n (monthFacts n) .0 refl))
+
+pub place-and-mark : Paper.Place-and-mark
+unfolding solsticeYear monthFacts
+place-and-mark d r p =
+    record {
+      place = λ a q. (solsticeYear s, solstice-given s (its-range s n (i .of-its-year .0) own) a q, sym (its .0), sym (its .1), sym (its .2));
+      mark = λ m a on q.
+          let e : n ≡ m = sym (of-day n d .0 (i .on-its-days)) ∙ of-day m d .0 on in
+          (monthFacts m, month-given m (subst MonthInRange e (i .of-its-year .0)) a q, same-test (eclipse m) (r .eclipse) (eclipse-rule m) (subst (λ k. (r .eclipse ≡ true) ↔ (23 * (k + 1) % 135 < 23)) e (i .its-rest .its-eclipse)));
+    }
+  where
+    i : IsDate d r
+    i = Dates.date-of-day d r .0 p .1
+
+    n : ℕ
+    n = i .n
+
+    s : ℕ
+    s = solsticeYearOf (r .year) (numberOf (r .month))
+
+    own : InSolsticeYear s n
+    own = solstice-is (r .year) n (r .month) (i .of-its-year) (i .its-month)
+
+    h : HasPlace n r
+    h = i .its-rest .its-place
+
+    its : (r .ji ≡ ji s) × (r .bu ≡ bu s) × (r .«year_in_bu» ≡ yearInBu s)
+    its =
+        let e : h .y ≡ s = sym (of-month (h .y) n .0 (h .solstice-year)) ∙ of-month s n .0 own in
+        Rule.only-one-place s (h .w) (r .ji) (r .bu) (r .«year_in_bu») (subst (λ y. IsPlace y (h .w) (r .ji) (r .bu) (r .«year_in_bu»)) e (h .place))

@@ -5,7 +5,7 @@ use mathlib.Core.Path.{_≡_}
 use mathlib.Core.Logic.{_↔_}
 use mathlib.Core.Bool.{Bool, true}
 use lib.ListN.{getD}
-use Rattle.rule.specs.Counts.{CivilYearInRange, dayName, yearName}
+use Rattle.rule.specs.Counts.{CivilYearInRange}
 use Rattle.rule.specs.Rule.{monthStart, monthLength, InMonth, marked, numberOf, solsticeYearOf}
 use Rattle.rule.specs.Reasons.{Answer, is, andThen}
 use Rattle.rule.specs.Paper.{numbersInOrder}
@@ -17,10 +17,16 @@ use Rattle.dates.specs.declared.Dated.the-variants as Dated'
 use Rattle.dates.specs.declared.DayTold.the-variants as DayTold'
 use Rattle.dates.specs.Dates.{NumberInRange, DayOfMonthInRange}
 use Rattle.dates.specs.Promises.{DateOfDay, DayOfDate}
-use Rattle.dates.specs.Paper.{NotInYear}
+use Rattle.dates.specs.Paper.{RestOfDate, NotInYear}
+use Rattle.facts.specs.declared.SolsticeYear.{SolsticeYear}
+use Rattle.facts.specs.declared.SolsticeYearTold.{SolsticeYearTold}
+use Rattle.facts.specs.declared.SolsticeYearTold.the-variants as Solstice'
+use Rattle.facts.specs.declared.MonthFacts.{MonthFacts}
+use Rattle.facts.specs.declared.MonthTold.{MonthTold}
+use Rattle.facts.specs.declared.MonthTold.the-variants as Month'
 use Rattle.facts.specs.declared.TermTold.{TermTold}
 use Rattle.facts.specs.Paper.{termBefore}
-use Rattle.facts.specs.Promises.{saidTerm, TermOfYear}
+use Rattle.facts.specs.Promises.{saidTerm, SolsticeYearFacts, MonthByCount, TermOfYear}
 
 -- W2: "Everything that asks for a term now receives both and must be shown unchanged in what it answers." Of a term's own day, and of its
 -- refusals, facts says it (Term-as-before). Here it is said of dates. `term` is what is answered as the day of a solstice year's term.
@@ -49,10 +55,7 @@ pub record DateByTerms (term : ℕ → ℕ → Answer ℕ) (d : ℕ) (r : Date) 
   pub n : ℕ
   pub on-its-days : InMonth n d
   pub its-month : MonthByTerms term (solsticeYearOf (r .year) (numberOf (r .month))) n (r .month)
-  pub its-day : monthStart n + r .«day_of_month» ≡ d + 1
-  pub its-length : monthStart n + r .«month_length» ≡ monthStart (n + 1)
-  pub its-day-name : r .«day_name» ≡ dayName d
-  pub its-year-name : r .«year_name» ≡ yearName (r .year)
+  pub its-rest : RestOfDate n d r
 
 -- the day of a date, by the mid-terms: of the month of that civil year, number and mark there is a day m
 pub record DayByTerms (term : ℕ → ℕ → Answer ℕ) (y k : ℕ) (l : Bool) (m d : ℕ) : Type 0 where
@@ -86,3 +89,13 @@ Dates-as-before = DatesBy termBefore
 abbrev pub Dates-by-terms : Type 0
 Dates-by-terms =
     (told : ℕ → ℕ → TermTold) → ((y k : ℕ) → TermOfYear y k (told y k)) → DatesBy (λ y k. andThen (saidTerm (told y k)) (λ r. is (r .day)))
+
+-- W8: the place of a date is what is answered for its solstice year, and its eclipse mark what is answered for the month in which its day lies
+pub record SameAnswers (d : ℕ) (r : Date) : Type 0 where
+  pub place :
+      (a : SolsticeYearTold) → SolsticeYearFacts (solsticeYearOf (r .year) (numberOf (r .month))) a →
+      (s : SolsticeYear) × (a ≡ Solstice'.Is s) × (s .ji ≡ r .ji) × (s .bu ≡ r .bu) × (s .«year_in_bu» ≡ r .«year_in_bu»)
+  pub mark : (n : ℕ) (a : MonthTold) → InMonth n d → MonthByCount n a → (f : MonthFacts) × (a ≡ Month'.Is f) × (f .eclipse ≡ r .eclipse)
+
+abbrev pub Place-and-mark : Type 0
+Place-and-mark = (d : ℕ) (r : Date) → DateOfDay d (Dated'.Is r) → SameAnswers d r

@@ -29,6 +29,7 @@ ghost use Rattle.told.specs.Answers.{
   nextText,
   pairLine,
   pairText,
+  fieldsOfCard,
   dayLineOf,
   dayText,
   dayLine,
@@ -307,15 +308,27 @@ pub fn answer_pair(planet: u32, out: &mut [u8], at: usize) -> usize
     }
 }
 
-// A `DAY` line: the listing's fields, then the month's length and the year's name.
+// What a card shows besides: ji, bu, year in the bu and the eclipse mark, each after a space.
+fn put_card(d: Date, out: &mut [u8], at: usize) -> usize
+    requires { ⌜ at + 35 ≤ length (now out) ⌝ }
+    ensures { λ r. ⌜ Put 35 (now (out .entry)) at (32 ∷ joined (fieldsOfCard d)) (now (out .exit)) r ⌝ }
+{
+    let to1 = fields::put_next(d.ji as u32, out, at);
+    let to2 = fields::put_next(d.bu as u32, out, to1);
+    let to3 = fields::put_next(d.year_in_bu as u32, out, to2);
+    fields::put_mark(d.eclipse, 69, out, to3)
+}
+
+// A `DAY` line: the listing's fields, then the month's length and the year's name, then what a card shows besides.
 fn put_day_line(day: u32, d: Date, out: &mut [u8], at: usize) -> usize
-    requires { ⌜ at + 83 ≤ length (now out) ⌝ }
-    ensures { λ r. ⌜ Put 83 (now (out .entry)) at (dayLineOf day d) (now (out .exit)) r ⌝ }
+    requires { ⌜ at + 118 ≤ length (now out) ⌝ }
+    ensures { λ r. ⌜ Put 118 (now (out .entry)) at (dayLineOf day d) (now (out .exit)) r ⌝ }
 {
     let to1 = lines::put_day_fields(day, d, out, at);
     let to2 = fields::put_next(d.month_length as u32, out, to1);
     let to3 = fields::put_next(d.year_name as u32, out, to2);
-    fields::put_byte(10, out, to3)
+    let to4 = put_card(d, out, to3);
+    fields::put_byte(10, out, to4)
 }
 
 // The answer to `DAY day`.
@@ -331,8 +344,8 @@ pub fn answer_day(day: u32, out: &mut [u8], at: usize) -> usize
 
 // The `DAY` line of a day in range.
 fn put_day_of(day: u32, out: &mut [u8], at: usize) -> usize
-    requires { ⌜ DayInRange day × (at + 83 ≤ length (now out)) ⌝ }
-    ensures { λ r. ⌜ Put 83 (now (out .entry)) at (dayLine day) (now (out .exit)) r ⌝ }
+    requires { ⌜ DayInRange day × (at + 118 ≤ length (now out)) ⌝ }
+    ensures { λ r. ⌜ Put 118 (now (out .entry)) at (dayLine day) (now (out .exit)) r ⌝ }
 {
     put_day_line(day, dates::date_at(day), out, at)
 }
@@ -402,8 +415,8 @@ fn put_found(n: u32, out: &mut [u8], at: usize) -> usize
 
 // The `DAY` lines of the first n days of a list, which are in range.
 fn put_days(n: usize, days: &[u32], out: &mut [u8], at: usize) -> usize
-    requires { ⌜ (n ≤ length (now days)) × ((i : ℕ) → i < n → DayInRange (getD (now days) i 0)) × (at + 83 * n ≤ length (now out)) ⌝ }
-    ensures { λ r. ⌜ Put (83 * n) (now (out .entry)) at (each dayLine (take n (now (days .entry)))) (now (out .exit)) r ⌝ }
+    requires { ⌜ (n ≤ length (now days)) × ((i : ℕ) → i < n → DayInRange (getD (now days) i 0)) × (at + 118 * n ≤ length (now out)) ⌝ }
+    ensures { λ r. ⌜ Put (118 * n) (now (out .entry)) at (each dayLine (take n (now (days .entry)))) (now (out .exit)) r ⌝ }
 {
     let mut to = at;
     let mut i = 0;
@@ -415,7 +428,7 @@ fn put_days(n: usize, days: &[u32], out: &mut [u8], at: usize) -> usize
 }
 
 // The answer to `SEARCH ..`, into a lent list of days with a place for each day of the longest window, and a buffer with room for
-// a `FOUND` line of 17 bytes and 27,759 `DAY` lines of 83. What the list of days holds afterwards is not promised.
+// a `FOUND` line of 17 bytes and 27,759 `DAY` lines of 118. What the list of days holds afterwards is not promised.
 pub fn answer_search(
     r: Reading,
     first: u32,
@@ -424,8 +437,8 @@ pub fn answer_search(
     out: &mut [u8],
     at: usize,
 ) -> usize
-    requires { ⌜ (places ≤ length (now days)) × (at + 2304014 ≤ length (now out)) ⌝ }
-    ensures { λ b. ⌜ Put 2304014 (now (out .entry)) at (searchText r first last) (now (out .exit)) b ⌝ }
+    requires { ⌜ (places ≤ length (now days)) × (at + 3275579 ≤ length (now out)) ⌝ }
+    ensures { λ b. ⌜ Put 3275579 (now (out .entry)) at (searchText r first last) (now (out .exit)) b ⌝ }
 {
     match reading::search(r, first, last, days) {
         Found::Is(n) => {

@@ -6,24 +6,8 @@ mod printed;
 mod searches;
 mod sheets;
 
-use dates::Date;
 use dates::Dated;
-use dates::DayTold;
 use planets::ConjunctionTold;
-
-// The line of a date, with the day of its own civil year, month, mark and day of month.
-fn day_line(d: Date) {
-    let m = d.month;
-    let number = rule::number_of(m) as u32;
-    let leap = rule::leap_mark(m);
-    match dates::day_of_date(d.year as u32, number, leap, d.day_of_month as u32) {
-        DayTold::Is(day) => {
-            show::field(b"DAY", day as u64);
-            show::date(d);
-        }
-        DayTold::Refused(why) => show::refused(why),
-    }
-}
 
 fn moved(year: u32, number: u32, leap: bool, day_of_month: u32, days: i64) {
     show::field(b"MOVE", year as u64);
@@ -33,7 +17,7 @@ fn moved(year: u32, number: u32, leap: bool, day_of_month: u32, days: i64) {
     show::signed(days);
     show::text(b"\n");
     match moves::move_date(year, number, leap, day_of_month, days) {
-        Dated::Is(d) => day_line(d),
+        Dated::Is(d) => show::dated(d),
         Dated::Refused(why) => show::refused(why),
     }
 }

@@ -6,12 +6,25 @@ use mathlib.Core.Logic.{_↔_, _⊎_, inl, inr}
 use mathlib.Core.Bool.{Bool, true, false, _&&_}
 use lib.Dec.{leb, ltb}
 use borrow.Author.Tests.{le-leb, lt-leb, ltb-true, lt-ltb}
-use Rattle.rule.specs.Counts.{DayInRange, MonthInRange, dayName, yearName}
-use Rattle.rule.specs.Rule.{monthStart, smallRemainder, monthLength, InMonth, monthOfDay, midTermDay, civilYearOfMonth, midTermNumber, marked, monthAt}
+use Rattle.rule.specs.Counts.{DayInRange, MonthInRange, dayName, yearName, ji, bu, yearInBu}
+use Rattle.rule.specs.Rule.{
+  monthStart,
+  smallRemainder,
+  monthLength,
+  InMonth,
+  monthOfDay,
+  midTermDay,
+  solsticeYearOfMonth,
+  civilYearOfMonth,
+  midTermNumber,
+  marked,
+  monthAt,
+  eclipse,
+}
 use Rattle.rule.specs.Reasons.{is, refused, within}
 use Rattle.rule.specs.declared.Month.{Month}
 use Rattle.rule.proofs.Months.{of-day, of-day-low, of-day-high, of-day-range, length-range, length-big, length-small, start-next, start-end}
-use Rattle.rule.proofs.Last.{year-by-last, number-by-last, leap-by-last, ordinary-after, leap-after}
+use Rattle.rule.proofs.Last.{year-by-last, solstice-by-last, number-by-last, leap-by-last, ordinary-after, leap-after}
 use Rattle.rule.proofs.Pairs.{lt-or-le}
 use Rattle.rule.proofs.Answers.{stops, passes, both-true, fails}
 use Rattle.dates.specs.Dates.{dateIn, dateOf, dateAt, numberThere, midTermOf, namedMonth, dayInMonth, dayOfNamed, dayOfDate}
@@ -53,11 +66,27 @@ module _ (d n p l : ℕ) (i : n ≡ monthOfDay d) (a : monthStart n + p ≡ d) (
     day-of-month : p + 1 ≡ d - monthStart n + 1
     day-of-month = omega arith
 
-    pub made : {y t k dn yn : ℕ} {mo : Month} →
-        y ≡ (m + 10) / 12 → t ≡ midTermDay m → k ≡ midTermNumber m → mo ≡ marked (ltb t (d - p)) k → dn ≡ dayName d → yn ≡ yearName y →
-        record { month = mo; year = y; «day_of_month» = p + 1; «month_length» = l; «day_name» = dn; «year_name» = yn } ≡ dateOf d
+    its-solstice-year : {y : ℕ} → y ≡ m / 12 + 1 → y ≡ solsticeYearOfMonth n
+    its-solstice-year h = h ∙ solstice-by-last n m low′ high′
+
+    pub made : {y s t k dn yn j b′ v : ℕ} {mo : Month} {e : Bool} →
+        y ≡ (m + 10) / 12 → s ≡ m / 12 + 1 → t ≡ midTermDay m → k ≡ midTermNumber m → mo ≡ marked (ltb t (d - p)) k → dn ≡ dayName d →
+        yn ≡ yearName y → (j ≡ ji s) × (b′ ≡ bu s) × (v ≡ yearInBu s) → e ≡ eclipse n →
+        record {
+          month = mo;
+          year = y;
+          «day_of_month» = p + 1;
+          «month_length» = l;
+          «day_name» = dn;
+          «year_name» = yn;
+          ji = j;
+          bu = b′;
+          «year_in_bu» = v;
+          eclipse = e;
+        }
+        ≡ dateOf d
     unfolding dateOf dateIn
-    made f g h j k o = cc (i, b, day-of-month, its-year f, j ∙ its-month g h, k, o)
+    made f s g h j k o q e = cc (i, b, day-of-month, its-year f, its-solstice-year s, j ∙ its-month g h, k, o, q .0, q .1, q .2, e)
 
 pub in-month : (n m : ℕ) → m ≤ monthLength n → dayInMonth n m ≡ is (monthStart n + (m - 1))
 unfolding dayInMonth

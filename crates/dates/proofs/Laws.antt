@@ -1,17 +1,18 @@
 -- Laws of the two definitions, `dateOf` and `dayOfDate`, over which the statements are proved. Assumes nothing.
-use Prim.Native.Nat.{ℕ, _+_, _-_, _*_, _≤_, _<_}
+use Prim.Native.Nat.{ℕ, _+_, _-_, _*_, _/_, _≤_, _<_}
 use native.Mathlib.Omega.{arith}
 use mathlib.Core.Path.{_≡_, refl, ap, sym, _∙_, subst}
 use mathlib.Core.Logic.{_↔_, Iff·trans, _⊎_, inl, inr, ⊎-elim}
 use mathlib.Core.Bool.{Bool, true, false}
 use lib.Dec.{leb}
 use borrow.Author.Tests.{leb-false, lt-leb}
-use Rattle.rule.specs.Counts.{CivilYearInRange, DayInRange, MonthInRange, yearName}
+use Rattle.rule.specs.Counts.{CivilYearInRange, DayInRange, MonthInRange, elapsed, yearName, ji, bu, yearInBu}
 use Rattle.rule.specs.Rule.{
   monthStart,
   monthLength,
   InMonth,
   monthOfDay,
+  solsticeYearOfMonth,
   leap,
   monthNumber,
   marked,
@@ -20,6 +21,7 @@ use Rattle.rule.specs.Rule.{
   leapMark,
   civilYearOfMonth,
   InCivilYear,
+  eclipse,
 }
 use Rattle.rule.specs.Reasons.{Answer, is, refused, within, guard}
 use Rattle.rule.specs.Paper.{IsMonth}
@@ -28,11 +30,16 @@ use Rattle.rule.proofs.Months
 use Rattle.rule.proofs.CivilYears.{of-civil, civil-range}
 use Rattle.rule.proofs.Leap as Leaps
 use Rattle.rule.proofs.Pairs.{lt-or-le}
+use Rattle.rule.proofs.Counts.{place, only-ji, only-bu, only-year}
+use Rattle.rule.proofs.Eclipses.{eclipse-rule}
+use Rattle.rule.proofs.Years.{of-month}
 use Rattle.rule.proofs.Paper.{is-month, month-is}
 use Rattle.rule.proofs.Answers.{
   within-true,
   fails,
   holds-where,
+  same-test,
+  exactly,
   same-given,
   Never,
   never-is,
@@ -62,7 +69,7 @@ use Rattle.dates.specs.Dates.{
   dayOfNamed,
   dayOfDate,
 }
-use Rattle.dates.specs.Paper.{IsDate, IsDayOf, AsksFor, NotInYear}
+use Rattle.dates.specs.Paper.{HasPlace, RestOfDate, IsDate, IsDayOf, AsksFor, AgreesWithItsDay, NotInYear}
 use Rattle.dates.proofs.Named
 
 is-date : (d : ℕ) → DayInRange d → IsDate d (dateOf d)
@@ -73,38 +80,61 @@ is-date d h =
       on-its-days = (Months.of-day-low d, Months.of-day-high d);
       of-its-year = of-civil (civilYearOfMonth (monthOfDay d)) (monthOfDay d) .1 (Months.of-day-range d .0 h, refl);
       its-month = is-month (monthOfDay d);
-      its-day = omega (arith, Months.of-day-low d);
-      its-length = sym (Months.start-next (monthOfDay d));
-      its-day-name = refl;
-      its-year-name = refl;
+      its-rest = record {
+        its-day = omega (arith, Months.of-day-low d);
+        its-length = sym (Months.start-next (monthOfDay d));
+        its-day-name = refl;
+        its-year-name = refl;
+        its-place = record { y = s; w = elapsed s / 4560; solstice-year = of-month s (monthOfDay d) .1 refl; place = place s };
+        its-eclipse = eclipse-rule (monthOfDay d);
+      };
     }
+  where
+    s : ℕ
+    s = solsticeYearOfMonth (monthOfDay d)
 
 -- the date of a day is just what the paper says, and nothing else is
-pub date-is : (d : ℕ) (r : Date) → DayInRange d → (dateOf d ≡ r) ↔ IsDate d r
+date-only : (d : ℕ) (r : Date) → IsDate d r → r ≡ dateOf d
 unfolding dateOf dateIn
-date-is d r h = (λ e. subst (IsDate d) e (is-date d h), back)
+date-only d r a =
+    (λ i.
+    record {
+      year = same-year i;
+      month = sym (month-is n (r .month) (a .its-month)) i;
+      «day_of_month» = same-day i;
+      «month_length» = same-length i;
+      «day_name» = rest .its-day-name i;
+      «year_name» = (rest .its-year-name ∙ ap yearName same-year) i;
+      ji = (only-ji (its .y) (its .w) _ _ _ (its .place) ∙ ap ji same-solstice-year) i;
+      bu = (only-bu (its .y) (its .w) _ _ _ (its .place) ∙ ap bu same-solstice-year) i;
+      «year_in_bu» = (only-year (its .y) (its .w) _ _ _ (its .place) ∙ ap yearInBu same-solstice-year) i;
+      eclipse = same-test (r .eclipse) (eclipse n) (rest .its-eclipse) (eclipse-rule n) i;
+    })
+    ∙ ap (λ (m : ℕ). dateIn m d) (sym (Months.of-day n d .0 (a .on-its-days)))
   where
-    back : IsDate d r → dateOf d ≡ r
-    back a =
-        ap (λ (n : ℕ). dateIn n d) (Months.of-day (a .n) d .0 (a .on-its-days))
-        ∙ (λ i.
-        record {
-          year = same-year i;
-          month = month-is (a .n) (r .month) (a .its-month) i;
-          «day_of_month» = same-day i;
-          «month_length» = same-length i;
-          «day_name» = sym (a .its-day-name) i;
-          «year_name» = (ap yearName same-year ∙ sym (a .its-year-name)) i;
-        })
-      where
-        same-year : civilYearOfMonth (a .n) ≡ r .year
-        same-year = of-civil (r .year) (a .n) .0 (a .of-its-year) .1
+    n : ℕ
+    n = a .n
 
-        same-day : d - monthStart (a .n) + 1 ≡ r .«day_of_month»
-        same-day = omega (arith, a .its-day, a .on-its-days .0)
+    rest : RestOfDate n d r
+    rest = a .its-rest
 
-        same-length : monthLength (a .n) ≡ r .«month_length»
-        same-length = omega (arith, a .its-length, Months.start-next (a .n))
+    its : HasPlace n r
+    its = rest .its-place
+
+    same-year : r .year ≡ civilYearOfMonth n
+    same-year = sym (of-civil (r .year) n .0 (a .of-its-year) .1)
+
+    same-solstice-year : its .y ≡ solsticeYearOfMonth n
+    same-solstice-year = sym (of-month (its .y) n .0 (its .solstice-year))
+
+    same-day : r .«day_of_month» ≡ d - monthStart n + 1
+    same-day = omega (arith, rest .its-day, a .on-its-days .0)
+
+    same-length : r .«month_length» ≡ monthLength n
+    same-length = omega (arith, rest .its-length, Months.start-next n)
+
+pub date-is : (d : ℕ) (r : Date) → DayInRange d → (dateOf d ≡ r) ↔ IsDate d r
+date-is d r h = exactly (IsDate d) (dateOf d) (is-date d h) (date-only d) r
 
 -- a day is answered where it is in range, and with its date
 pub dated : (d : ℕ) (r : Date) → (dateAt d ≡ is r) ↔ (DayInRange d × (dateOf d ≡ r))
@@ -217,9 +247,14 @@ back-to-day d h =
       n = a .n;
       of-the-year = a .of-its-year;
       the-month = subst (IsMonth (a .n)) (sym (Leaps.month-again (dateOf d .month))) (a .its-month);
-      the-day = (omega (arith, a .its-day, a .on-its-days .0), omega (arith, a .its-day, a .on-its-days .1, Months.start-next (a .n)));
-      counted = a .its-day;
+      the-day =
+          (omega (arith, a .its-rest .its-day, a .on-its-days .0), omega (arith, a .its-rest .its-day, a .on-its-days .1, Months.start-next (a .n)));
+      counted = a .its-rest .its-day;
     }
+
+-- so the date of a day agrees with its own day
+pub agrees : (d : ℕ) → DayInRange d → AgreesWithItsDay (dateOf d)
+agrees d h = record { day = d; its-own = sym (back-to-day d h); its-date = is-date d h }
 
 -- from a date to its day and back: the day is in range, and its date the one asked for
 pub found-date : (y k : ℕ) (l : Bool) (m d : ℕ) → dayOfDate y k l m ≡ is d → DayInRange d × AsksFor y k l m (dateOf d)

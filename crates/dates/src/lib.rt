@@ -8,7 +8,7 @@ ghost use Rattle.dates.specs.Promises.{saidDay, DateOfDay, DayOfDate};
 use rule::Month;
 use rule::Reason;
 
-// A date of the rule; its year is the civil one.
+// A date of the rule. Its year is the civil one; ji, bu and year in the bu are the place of the solstice year in which the day lies.
 pub struct Date {
     pub month: Month,
     pub year: u16,
@@ -16,6 +16,10 @@ pub struct Date {
     pub month_length: u8,
     pub day_name: u8,
     pub year_name: u8,
+    pub ji: u8,
+    pub bu: u8,
+    pub year_in_bu: u8,
+    pub eclipse: bool,
 }
 
 // The answer for a day: its date, or why it has none.
@@ -30,8 +34,8 @@ pub enum DayTold {
     Refused(Reason),
 }
 
-// The date of a day in range. Civil year, number and mark are those of the last mid-term before the month's end: leap where that is before
-// the month's start. Nothing else makes a date.
+// The date of a day in range. Civil and solstice year, number and mark are those of the last mid-term before the month's end: leap where that
+// is before the month's start. Nothing else makes a date.
 pub fn date_at(day: u32) -> Date
     requires { ⌜ DayInRange day ⌝ }
     ensures { λ r. ⌜ r ≡ dateOf day ⌝ }
@@ -43,6 +47,7 @@ pub fn date_at(day: u32) -> Date
     let last = rule::last_mid_term(start + length);
     let its = rule::civil_year_and_number(last);
     let year = its.year;
+    let place = rule::place_of((last / 12 + 1) as u16);
     let term = rule::term_of(2 * last);
     let leap = term.day < start;
     Date {
@@ -52,6 +57,10 @@ pub fn date_at(day: u32) -> Date
         month_length: length as u8,
         day_name: rule::day_name(day),
         year_name: rule::year_name(year),
+        ji: place.ji,
+        bu: place.bu,
+        year_in_bu: place.year_in_bu,
+        eclipse: rule::is_eclipse(at.month),
     }
 }
 

@@ -1,7 +1,7 @@
 -- What each call gives is exactly what the paper says of it, and nothing else is. Assumes nothing.
 use Prim.Native.Nat.{ℕ, _+_, _-_, _*_, _/_, _≤_, _<_}
 use native.Mathlib.Omega.{arith}
-use mathlib.Core.Path.{_≡_, refl, ap, sym, _∙_, subst}
+use mathlib.Core.Path.{_≡_, refl, ap, sym, _∙_}
 use mathlib.Core.Logic.{_↔_, Iff·trans, ⊎-elim}
 use mathlib.Core.Bool.{Bool, true, false}
 use Rattle.rule.specs.Counts.{CivilYearInRange, elapsed, dayName, ji, bu, yearInBu, headName}
@@ -32,6 +32,7 @@ use Rattle.rule.proofs.Months
 use Rattle.rule.proofs.Years
 use Rattle.rule.proofs.CivilYears.{civil-so-many, civil-end}
 use Rattle.rule.proofs.Civil.{civil-year-opens}
+use Rattle.rule.proofs.Answers.{same-test, exactly}
 use Rattle.rule.proofs.Leap.{at-mark, mark-at, number-at}
 use Rattle.rule.proofs.Pairs.{lt-or-le}
 use Rattle.rule.proofs.Paper as Rule
@@ -44,16 +45,6 @@ use Rattle.facts.specs.Facts.{solsticeYear, leapMonth, yearFacts, monthF
 use Rattle.facts.specs.Paper.{SolsticeYearBegins, YearOpens, IsSolsticeYear, LeapMonthOf, IsYearFacts, IsMonthFacts, IsQuarter}
 use Rattle.facts.proofs.Leaps.{leap-found, leap-none, leap-is}
 use Rattle.facts.proofs.Made.{solstice-year-made, year-made, month-made, quarter-made, term-made}
-
--- x is L, and nothing else is
-exactly : {A : Type 0} (L : A → Type 0) (x : A) → L x → ((a : A) → L a → a ≡ x) → (a : A) → (x ≡ a) ↔ L a
-exactly L x h only a = (λ e. subst L e h, λ l. sym (only a l))
-
--- two tests of the same
-same-test : {P : Type 0} (a b : Bool) → ((a ≡ true) ↔ P) → ((b ≡ true) ↔ P) → a ≡ b
-same-test true b f g = sym (g .1 (f .0 refl))
-same-test false true f g = f .1 (g .0 refl)
-same-test false false f g = refl
 
 -- whole part and rest: of a year's months, a month's days, a quarter's
 year-parts : (y : ℕ) → (19 * solsticeFirstMonth y + leapRemainder y ≡ 235 * elapsed y) × (leapRemainder y < 19)

@@ -74,6 +74,10 @@ fn given_date(d: Date) -> CDate
         month_length: d.month_length as u32,
         day_name: d.day_name as u32,
         year_name: d.year_name as u32,
+        ji: d.ji as u32,
+        bu: d.bu as u32,
+        year_in_bu: d.year_in_bu as u32,
+        eclipse: d.eclipse,
     }
 }
 
@@ -91,6 +95,10 @@ pub fn flat_date(a: Dated) -> CDate
             month_length: 0,
             day_name: 0,
             year_name: 0,
+            ji: 0,
+            bu: 0,
+            year_in_bu: 0,
+            eclipse: false,
         },
     }
 }

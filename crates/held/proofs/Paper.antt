@@ -105,7 +105,7 @@ held-is-enough true room n l h = ap (λ (t : List ℕ). echoed t ++ answerTo t) 
 held-is-enough false room n l h = ap answerTo h ∙ front-is-enough l
 
 -- what is said to what is held, put into the buffer
-pub held-answered : {out out′ : List ℕ} {r : ℕ} (e : Bool) (room : List ℕ) (n : ℕ) → Put 2304216 out 0 (reply e (take (n - 0) room)) out′ r →
+pub held-answered : {out out′ : List ℕ} {r : ℕ} (e : Bool) (room : List ℕ) (n : ℕ) → Put 3275781 out 0 (reply e (take (n - 0) room)) out′ r →
     Answers (reply e) room n out out′
 held-answered {out} e room n p =
     record {

@@ -47,8 +47,8 @@ fn put_echo(echo: bool, line: &[u8], out: &mut [u8]) -> usize
 
 // What is said to a line of 201 bytes at most.
 fn put_said(echo: bool, line: &[u8], days: &mut [u32], out: &mut [u8]) -> usize
-    requires { ⌜ (length (now line) ≤ 201) × (27759 ≤ length (now days)) × (2304216 ≤ length (now out)) ⌝ }
-    ensures { λ r. ⌜ Put 2304216 (now (out .entry)) 0 (reply echo (now (line .entry))) (now (out .exit)) r ⌝ }
+    requires { ⌜ (length (now line) ≤ 201) × (27759 ≤ length (now days)) × (3275781 ≤ length (now out)) ⌝ }
+    ensures { λ r. ⌜ Put 3275781 (now (out .entry)) 0 (reply echo (now (line .entry))) (now (out .exit)) r ⌝ }
 {
     let to = put_echo(echo, line, out);
     queries::answer_line(line, days, out, to)
@@ -56,7 +56,7 @@ fn put_said(echo: bool, line: &[u8], days: &mut [u32], out: &mut [u8]) -> usize
 
 // The line is answered: to what is held the same is said as to the whole (Held-is-enough).
 fn answer_held(echo: bool, line: &[u8], held: usize, days: &mut [u32], out: &mut [u8])
-    requires { ⌜ (held ≤ 201) × (length (now line) ≡ 201) × (27759 ≤ length (now days)) × (2304216 ≤ length (now out)) ⌝ }
+    requires { ⌜ (held ≤ 201) × (length (now line) ≡ 201) × (27759 ≤ length (now days)) × (3275781 ≤ length (now out)) ⌝ }
     ensures { λ _. ⌜ Answers (reply echo) (now (line .entry)) held (now (out .entry)) (now (out .exit)) ⌝ }
 {
     let n = put_said(echo, &line[0..held], days, out);
@@ -72,7 +72,7 @@ fn take_byte(
     days: &mut [u32],
     out: &mut [u8],
 ) -> usize
-    requires { ⌜ (held ≤ 201) × (length (now line) ≡ 201) × (27759 ≤ length (now days)) × (2304216 ≤ length (now out)) ⌝ }
+    requires { ⌜ (held ≤ 201) × (length (now line) ≡ 201) × (27759 ≤ length (now days)) × (3275781 ≤ length (now out)) ⌝ }
     ensures { λ r. ⌜ Becomes (λ l. lineAfter l b) (now (line .entry)) held (now (line .exit)) r ⌝ }
     ensures { λ _. ⌜ Answers (λ l. saidAt echo l b) (now (line .entry)) held (now (out .entry)) (now (out .exit)) ⌝ }
 {
@@ -92,7 +92,7 @@ fn take_bytes(
     days: &mut [u32],
     out: &mut [u8],
 ) -> usize
-    requires { ⌜ (held ≤ 201) × (length (now line) ≡ 201) × (27759 ≤ length (now days)) × (2304216 ≤ length (now out)) ⌝ }
+    requires { ⌜ (held ≤ 201) × (length (now line) ≡ 201) × (27759 ≤ length (now days)) × (3275781 ≤ length (now out)) ⌝ }
     ensures { λ r. ⌜ Becomes (λ l. lineAfterAll l (now (bytes .entry))) (now (line .entry)) held (now (line .exit)) r ⌝ }
 {
     let mut now_held = held;
@@ -113,7 +113,7 @@ fn take_some(
     days: &mut [u32],
     out: &mut [u8],
 ) -> usize
-    requires { ⌜ (held ≤ 201) × (length (now line) ≡ 201) × (27759 ≤ length (now days)) × (2304216 ≤ length (now out)) ⌝ }
+    requires { ⌜ (held ≤ 201) × (length (now line) ≡ 201) × (27759 ≤ length (now days)) × (3275781 ≤ length (now out)) ⌝ }
     ensures { λ r. ⌜ r ≤ 202 ⌝ }
     ensures { λ r. ⌜ TakesOn (now (bytes .exit)) (now (line .entry)) held (now (line .exit)) r ⌝ }
 {
@@ -127,7 +127,7 @@ fn take_some(
 
 // "A final line without a newline counts", where there is one.
 fn end_input(echo: bool, line: &[u8], held: usize, days: &mut [u32], out: &mut [u8])
-    requires { ⌜ (held ≤ 201) × (length (now line) ≡ 201) × (27759 ≤ length (now days)) × (2304216 ≤ length (now out)) ⌝ }
+    requires { ⌜ (held ≤ 201) × (length (now line) ≡ 201) × (27759 ≤ length (now days)) × (3275781 ≤ length (now out)) ⌝ }
     ensures { λ _. ⌜ Answers (saidAtEnd echo) (now (line .entry)) held (now (out .entry)) (now (out .exit)) ⌝ }
 {
     if 0 < held {
@@ -137,7 +137,7 @@ fn end_input(echo: bool, line: &[u8], held: usize, days: &mut [u32], out: &mut [
 
 // The whole input. A loop needs a number that falls: no input has 2 to the 64th parts.
 fn answer_all(echo: bool, bytes: &mut [u8], line: &mut [u8], days: &mut [u32], out: &mut [u8])
-    requires { ⌜ (length (now line) ≡ 201) × (27759 ≤ length (now days)) × (2304216 ≤ length (now out)) ⌝ }
+    requires { ⌜ (length (now line) ≡ 201) × (27759 ≤ length (now days)) × (3275781 ≤ length (now out)) ⌝ }
 {
     let mut held = 0;
     let mut turns = u64::MAX;
@@ -152,9 +152,9 @@ fn answer_all(echo: bool, bytes: &mut [u8], line: &mut [u8], days: &mut [u32], o
     }
 }
 
-// Room for a line that is echoed, of 202 bytes, and the longest answer: a `FOUND` line of 17 and 27,759 `DAY` lines of 83.
-fn room() -> [u8; 2304216] {
-    [0u8; 2304216]
+// Room for a line that is echoed, of 202 bytes, and the longest answer: a `FOUND` line of 17 and 27,759 `DAY` lines of 118.
+fn room() -> [u8; 3275781] {
+    [0u8; 3275781]
 }
 
 // A place for each day of the longest window.

@@ -1,17 +1,21 @@
 -- Demand 3, proved, each statement under its name in small letters. Assumes nothing.
-use Prim.Native.Nat.{ℕ, _+_, _-_, _≤_}
+use Prim.Native.Nat.{ℕ, _+_, _-_, _/_, _≤_, _<_}
 use native.Mathlib.Omega.{arith}
-use mathlib.Core.Path.{_≡_, refl, ap, sym, _∙_, subst₂}
-use mathlib.Core.Logic.{_↔_, Iff·trans, eq-comm}
+use mathlib.Core.Path.{_≡_, refl, ap, sym, _∙_, subst, subst₂}
+use mathlib.Core.Logic.{_↔_, Iff·trans, eq-comm, ⊎-elim}
 use mathlib.Core.Bool.{Bool, true, false}
 use lib.Dec.{leb}
 use lib.IntN.{ℤ, pos, negsuc, _+ℤ_, +ℤ-assoc}
 use borrow.Author.Tests.{leb-true, leb-false}
-use Rattle.rule.specs.Counts.{DayInRange, dayName, yearName}
-use Rattle.rule.specs.Rule.{monthStart, monthLength, monthOfDay, civilYearOfMonth, monthAt, numberOf, leapMark}
+use Rattle.rule.specs.Counts.{DayInRange, dayName, yearName, ji, bu, yearInBu}
+use Rattle.rule.specs.Rule.{monthStart, monthLength, monthOfDay, solsticeYearOfMonth, civilYearOfMonth, monthAt, numberOf, leapMark}
+use Rattle.rule.specs.Paper.{further}
 use Rattle.rule.specs.Reasons.{Answer, is, refused, refused-with, reasonNumber, reasonOf}
 use Rattle.rule.specs.declared.Reason.{Reason}
 use Rattle.rule.proofs.Months
+use Rattle.rule.proofs.Years
+use Rattle.rule.proofs.Pairs.{lt-or-le}
+use Rattle.rule.proofs.Paper.{eclipses-kept}
 use Rattle.rule.proofs.CivilYears
 use Rattle.rule.proofs.Counts
 use Rattle.rule.proofs.Leap as Leaps
@@ -21,8 +25,10 @@ use Rattle.dates.specs.declared.Dated.{Dated}
 use Rattle.dates.specs.Dates.{dateIn, dateOf, dayOfDate}
 use Rattle.dates.specs.Promises.{saidDate}
 use Rattle.dates.proofs.Cases
+use Rattle.dates.proofs.Cases.{firstOfBu2}
 use Rattle.dates.proofs.Days
-use Rattle.dates.proofs.Laws.{ownDay, back-to-day}
+use Rattle.dates.specs.Paper.{AgreesWithItsDay}
+use Rattle.dates.proofs.Laws.{ownDay, back-to-day, agrees}
 use Rattle.dates.proofs.Paper.{dated-once}
 use Rattle.moves.specs.Moves.{landed, moved}
 use Rattle.moves.specs.Paper as Paper
@@ -135,6 +141,44 @@ moves-add y k l m a b date second whole p q s =
     ∙ sym (Landing.moved-found y k l m (a +ℤ b) (w .0) (w .1))
     ∙ sym s)
 
+-- the two dates of a date moved by nought and by n: those of a day and of the day n later
+two-dates : (y k : ℕ) (l : Bool) (m n : ℕ) (r s : Date) → is r ≡ moved y k l m (pos 0) → is s ≡ moved y k l m (pos n) →
+    (d : ℕ) × (dateOf d ≡ r) × (dateOf (d + n) ≡ s)
+two-dates y k l m n r s p q =
+    let v = answered y k l m (pos 0) r (sym p) in
+    let w = answered y k l m (pos n) s (sym q) in
+    let here : Landed (pos (v .0 + 0)) r = v .2 in
+    let there : Landed (pos (w .0 + n)) s = w .2 in
+    let f : v .0 ≡ w .0 = let g : _≡_ {A = Answer ℕ} (is (v .0)) (is (w .0)) = sym (v .1) ∙ w .1 in cc in
+    let a : v .0 + 0 ≡ here .e = let g : pos (v .0 + 0) ≡ pos (here .e) = here .there in cc in
+    let b : w .0 + n ≡ there .e = let g : pos (w .0 + n) ≡ pos (there .e) = there .there in cc in
+    (here .e, sym (here .date), ap dateOf {x = here .e + n} (omega arith) ∙ sym (there .date))
+
+-- bu b and ji j where the bu goes one on, to c and h
+module _ (b c j h : ℕ) (rb : (1 ≤ b) × (b ≤ 20)) (rj : (1 ≤ j) × (j ≤ 3)) (e : c ≡ further 20 1 b) (f : h ≡ further 3 ((b - 1 + 1) / 20) j) where
+  another : ¬ (further 3 1 j ≡ j)
+  another g = omega (arith, rj, g)
+
+  stays : b < 20 → h ≡ j
+  stays few = let q : (b - 1 + 1) / 20 ≡ 0 = omega (arith, few) in f ∙ ap (λ (i : ℕ). further 3 i j) q ∙ omega (arith, rj)
+
+  goes-on : 20 ≤ b → (b ≡ 20) × (c ≡ 1) × (h ≡ further 3 1 j)
+  goes-on last =
+      let q : (b - 1 + 1) / 20 ≡ 1 = omega (arith, last, rb) in
+      (omega (arith, last, rb), omega (arith, last, rb, e), f ∙ ap (λ (i : ℕ). further 3 i j) q)
+
+  one-bu-on : ((h ≡ further 3 1 j) ↔ ((b ≡ 20) × (c ≡ 1))) × ((h ≡ j) ↔ ((b ≡ 20) × (c ≡ 1) → ⊥))
+  one-bu-on = (
+    (
+      λ g. ⊎-elim (λ few. absurd (another (sym g ∙ stays few))) (λ last. (goes-on last .0, goes-on last .1)) (lt-or-le b 20),
+      λ w. goes-on (omega (arith, w .0)) .2,
+    ),
+    (
+      λ g w. another (sym (goes-on (omega (arith, w .0)) .2) ∙ g),
+      λ out. ⊎-elim stays (λ last. absurd (out (goes-on last .0, goes-on last .1))) (lt-or-le b 20),
+    ),
+  )
+
 -- the date 27,759 days later
 later : (d : ℕ) → SeventySixLater (dateOf d) (dateOf (d + 27759))
 unfolding dateOf dateIn
@@ -149,21 +193,62 @@ later d =
           ap (λ (n : ℕ). yearName (civilYearOfMonth n)) e
           ∙ ap yearName (CivilYears.civil-shift 1 (monthOfDay d))
           ∙ Counts.year-name-further 1 (civilYearOfMonth (monthOfDay d));
+      year-in-bu = ap yearInBu f ∙ Counts.year-in-bu-kept 1 y pos-y;
+      bu = bu-on;
+      ji-on = on .0;
+      ji-stays = on .1;
     }
   where
     e : monthOfDay (d + 27759) ≡ monthOfDay d + 940
     e = Months.of-day-shift 1 d
 
+    y : ℕ
+    y = solsticeYearOfMonth (monthOfDay d)
+
+    z : ℕ
+    z = solsticeYearOfMonth (monthOfDay (d + 27759))
+
+    f : z ≡ y + 76
+    f = ap solsticeYearOfMonth e ∙ Years.of-month-shift 1 (monthOfDay d)
+
+    pos-y : 1 ≤ y
+    pos-y = Years.of-month y (monthOfDay d) .1 refl .0
+
+    bu-on : bu z ≡ further 20 1 (bu y)
+    bu-on = ap bu f ∙ Counts.bu-further 1 y pos-y
+
+    on : ((ji z ≡ further 3 1 (ji y)) ↔ ((bu y ≡ 20) × (bu z ≡ 1))) × ((ji z ≡ ji y) ↔ ((bu y ≡ 20) × (bu z ≡ 1) → ⊥))
+    on =
+        one-bu-on (bu y) (bu z) (ji y) (ji z) (Counts.place y .bu-range) (Counts.place y .ji-range) bu-on
+        (ap ji f ∙ Counts.ji-further 1 y pos-y)
+
 pub law-of-76 : Paper.Law-of-76
-law-of-76 y k l m r s p q =
-    let v = answered y k l m (pos 0) r (sym p) in
-    let w = answered y k l m (pos 27759) s (sym q) in
-    let here : Landed (pos (v .0 + 0)) r = v .2 in
-    let there : Landed (pos (w .0 + 27759)) s = w .2 in
-    let f : v .0 ≡ w .0 = let g : _≡_ {A = Answer ℕ} (is (v .0)) (is (w .0)) = sym (v .1) ∙ w .1 in cc in
-    let a : v .0 + 0 ≡ here .e = let g : pos (v .0 + 0) ≡ pos (here .e) = here .there in cc in
-    let b : w .0 + 27759 ≡ there .e = let g : pos (w .0 + 27759) ≡ pos (there .e) = there .there in cc in
-    subst₂ SeventySixLater (sym (here .date)) (ap dateOf {x = here .e + 27759} (omega arith) ∙ sym (there .date)) (later (here .e))
+law-of-76 y k l m r s p q = let w = two-dates y k l m 27759 r s p q in subst₂ SeventySixLater (w .1) (w .2) (later (w .0))
+
+pub eclipse-mark-kept : Paper.Eclipse-mark-kept
+unfolding dateOf dateIn
+eclipse-mark-kept y k l m r s p q =
+    let w = two-dates y k l m 749493 r s p q in
+    ap (λ (t : Date). t .eclipse) (sym (w .2)) ∙ eclipses-kept .days (w .0) ∙ ap (λ (t : Date). t .eclipse) (w .1)
+
+pub eclipse-excepted : Paper.Eclipse-excepted
+eclipse-excepted a b p q =
+    record {
+      r = dateOf 27758;
+      s = dateOf 55517;
+      here = dated-once a _ (p ∙ by 0 (omega arith));
+      later = dated-once b _ (q ∙ by 27759 (omega arith));
+      in-one = ap (λ (t : Date). t .eclipse) Cases.date-27758;
+      in-none = Cases.no-eclipse-55517;
+    }
+  where
+    by : (n : ℕ) → DayInRange (27758 + n) → moved 76 10 true 30 (pos n) ≡ is (dateOf (27758 + n))
+    by n h = Landing.moved-found 76 10 true 30 (pos n) 27758 Cases.last-of-bu-1 ∙ Landing.lands (27758 + n) h
+
+pub moved-agrees : Paper.Moved-agrees
+moved-agrees y k l m n r p =
+    let at : Landed (pos (answered y k l m n r (sym p) .0) +ℤ n) r = answered y k l m n r (sym p) .2 in
+    subst AgreesWithItsDay (sym (at .date)) (agrees (at .e) (at .inside))
 
 pub unique-move : Paper.Unique-move
 unique-move y k l m n a b p q = dated-once a b (p ∙ sym q)
@@ -181,7 +266,12 @@ wrong-moves =
       wrapping-on = λ r h.
           given-not (moved 41040 10 true 30 (pos 1)) r 8 (sym h)
           (Landing.moved-found 41040 10 true 30 (pos 1) 14989859 Cases.last-date ∙ Landing.lands-out 14989860 (omega arith));
+      ji-with-every-bu = λ r h g. omega (arith, ap (λ (s : Date). s .ji) (a-bu-on r h), g);
+      place-of-the-civil-year = λ r h g. omega (arith, ap (λ (s : Date). s .bu) (a-bu-on r h), g);
     }
   where
     by : (n : ℕ) → DayInRange (0 + n) → moved 0 11 false 1 (pos n) ≡ is (dateOf (0 + n))
     by n h = Landing.moved-found 0 11 false 1 (pos n) 0 Cases.first-date ∙ Landing.lands (0 + n) h
+
+    a-bu-on : (r : Date) → is r ≡ moved 0 11 false 1 (pos 27759) → r ≡ firstOfBu2
+    a-bu-on r h = let e : is r ≡ is (dateOf 27759) = h ∙ by 27759 (omega arith) in let f : r ≡ dateOf 27759 = cc in f ∙ Cases.date-27759

@@ -16,6 +16,7 @@ use Rattle.dates.specs.declared.Dated.{Dated}
 use Rattle.dates.specs.declared.Dated.the-variants as Dated'
 use Rattle.dates.specs.declared.DayTold.the-variants as DayTold'
 use Rattle.dates.specs.Promises.{DateOfDay, DayOfDate}
+use Rattle.dates.specs.Paper.{AgreesWithItsDay}
 use Rattle.moves.specs.Moves.{MoveDate}
 
 -- "For a date in range, a move by n days gives demand 2's date for the day n later, and is refused only if that day is out of
@@ -45,15 +46,24 @@ Moves-add =
     MoveDate y k l m (a +ℤ b) whole →
     second ≡ whole
 
+-- "the bu passes from 20 to 1"
+abbrev pub BuComesRound : Date → Date → Type 0
+BuComesRound r s = (r .bu ≡ 20) × (s .bu ≡ 1)
+
 -- "month, leap mark, day of month and month length agree, the year is 76 more, the day name 39 further and the year name 16
--- further round sixty"
+-- further round sixty"; W8: the list "gains the year in the bu; the bu goes one on, round twenty, and the ji goes one on, round three, when
+-- the bu passes from 20 to 1", and else it stays
 pub record SeventySixLater (r s : Date) : Type 0 where
   pub month : s .month ≡ r .month
   pub day-of-month : s .«day_of_month» ≡ r .«day_of_month»
   pub month-length : s .«month_length» ≡ r .«month_length»
   pub year : s .year ≡ r .year + 76
-  pub day-name : s .«day_name» ≡ further 39 (r .«day_name»)
-  pub year-name : s .«year_name» ≡ further 16 (r .«year_name»)
+  pub day-name : s .«day_name» ≡ further 60 39 (r .«day_name»)
+  pub year-name : s .«year_name» ≡ further 60 16 (r .«year_name»)
+  pub year-in-bu : s .«year_in_bu» ≡ r .«year_in_bu»
+  pub bu : s .bu ≡ further 20 1 (r .bu)
+  pub ji-on : (s .ji ≡ further 3 1 (r .ji)) ↔ BuComesRound r s
+  pub ji-stays : (s .ji ≡ r .ji) ↔ (BuComesRound r s → ⊥)
 
 -- "Where a date and the date 27,759 days later are both in range": the law of 76 years, over the call's own answers
 abbrev pub Law-of-76 : Type 0
@@ -61,15 +71,40 @@ Law-of-76 =
     (y k : ℕ) (l : Bool) (m : ℕ) (r s : Date) →
     MoveDate y k l m (pos 0) (Dated'.Is r) → MoveDate y k l m (pos 27759) (Dated'.Is s) → SeventySixLater r s
 
+-- "the eclipse mark is excepted": year 76, leap 10, day 30 is in an eclipse month, and the date 27,759 days later is in none
+pub record Excepted (a b : Dated) : Type 0 where
+  pub r : Date
+  pub s : Date
+  pub here : a ≡ Dated'.Is r
+  pub later : b ≡ Dated'.Is s
+  pub in-one : r .eclipse ≡ true
+  pub in-none : s .eclipse ≡ false
+
+abbrev pub Eclipse-excepted : Type 0
+Eclipse-excepted = (a b : Dated) → MoveDate 76 10 true 30 (pos 0) a → MoveDate 76 10 true 30 (pos 27759) b → Excepted a b
+
+-- "It is kept over 749,493 days", where a date and the date so much later are both in range
+abbrev pub Eclipse-mark-kept : Type 0
+Eclipse-mark-kept =
+    (y k : ℕ) (l : Bool) (m : ℕ) (r s : Date) →
+    MoveDate y k l m (pos 0) (Dated'.Is r) → MoveDate y k l m (pos 749493) (Dated'.Is s) → s .eclipse ≡ r .eclipse
+
+-- "every record handed out anywhere must agree with its own day" (W8)
+abbrev pub Moved-agrees : Type 0
+Moved-agrees = (y k : ℕ) (l : Bool) (m : ℕ) (n : ℤ) (r : Date) → MoveDate y k l m n (Dated'.Is r) → AgreesWithItsDay r
+
 -- the promise leaves one answer
 abbrev pub Unique-move : Type 0
 Unique-move = (y k : ℕ) (l : Bool) (m : ℕ) (n : ℤ) (a b : Dated) → MoveDate y k l m n a → MoveDate y k l m n b → a ≡ b
 
 -- wrong versions, each shut out at a named input: one that refuses all; one that never moves, a move of the first date by 0 and
 -- by 27,759 having one answer; one that wraps: "Day −1 does not exist: moving there is reason 8", nor does a day after the last, whose
--- date is year 41,040, leap 10, day 30
+-- date is year 41,040, leap 10, day 30; one that puts the ji on with every bu, or gives a date the place of its civil year: 27,759 days after
+-- the first date the ji is not yet 2, and the bu, in civil year 76, no longer 1
 pub record Wrong-moves : Type 0 where
   pub refusing-all : (why : Reason) → MoveDate 0 11 false 1 (pos 0) (Dated'.Refused why) → ⊥
   pub never-moving : (a : Dated) → MoveDate 0 11 false 1 (pos 0) a → MoveDate 0 11 false 1 (pos 27759) a → ⊥
   pub wrapping-back : (r : Date) → MoveDate 0 11 false 1 (negsuc 0) (Dated'.Is r) → ⊥
   pub wrapping-on : (r : Date) → MoveDate 41040 10 true 30 (pos 1) (Dated'.Is r) → ⊥
+  pub ji-with-every-bu : (r : Date) → MoveDate 0 11 false 1 (pos 27759) (Dated'.Is r) → r .ji ≡ 2 → ⊥
+  pub place-of-the-civil-year : (r : Date) → MoveDate 0 11 false 1 (pos 27759) (Dated'.Is r) → r .bu ≡ 1 → ⊥

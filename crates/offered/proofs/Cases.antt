@@ -25,6 +25,10 @@ pub last-day :
       «month_length» = 30;
       «day_name» = 60;
       «year_name» = 16;
+      ji = 3;
+      bu = 20;
+      «year_in_bu» = 76;
+      eclipse = true;
     }
 unfolding dates-computed
 last-day = refl
@@ -40,6 +44,10 @@ pub day-after-the-last :
       «month_length» = 0;
       «day_name» = 0;
       «year_name» = 0;
+      ji = 0;
+      bu = 0;
+      «year_in_bu» = 0;
+      eclipse = false;
     }
 unfolding dateAt
 day-after-the-last = refl

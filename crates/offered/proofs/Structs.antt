@@ -62,6 +62,10 @@ refusals-flat =
           month-length = refl;
           day-name = refl;
           year-name = refl;
+          ji = refl;
+          bu = refl;
+          year-in-bu = refl;
+          eclipse = refl;
         },
       );
       day = λ k. (refl, record { day = refl });
@@ -134,6 +138,10 @@ dateFrom r =
       «month_length» = r .«month_length»;
       «day_name» = r .«day_name»;
       «year_name» = r .«year_name»;
+      ji = r .ji;
+      bu = r .bu;
+      «year_in_bu» = r .«year_in_bu»;
+      eclipse = r .eclipse;
     }
 
 abbrev solsticeFrom : CSolstice → SolsticeYear

@@ -49,6 +49,10 @@ givenDate d =
       «month_length» = d .«month_length»;
       «day_name» = d .«day_name»;
       «year_name» = d .«year_name»;
+      ji = d .ji;
+      bu = d .bu;
+      «year_in_bu» = d .«year_in_bu»;
+      eclipse = d .eclipse;
     }
 
 abbrev pub noDate : ℕ → CDate
@@ -62,6 +66,10 @@ noDate k =
       «month_length» = 0;
       «day_name» = 0;
       «year_name» = 0;
+      ji = 0;
+      bu = 0;
+      «year_in_bu» = 0;
+      eclipse = false;
     }
 
 abbrev pub flatDate : Answer Date → CDate

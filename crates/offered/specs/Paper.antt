@@ -251,6 +251,17 @@ C-term = (y k : ℕ) (r : CTerm) → CTermOf y k r → r .reason ≡ 0 → IsTer
 abbrev pub C-term-as-before : Type 0
 C-term-as-before = (y k : ℕ) (r : CTerm) → CTermOf y k r → flatDay (termBefore y k) ≡ record { reason = r .reason; day = r .day }
 
+-- W8: "every record handed out anywhere must agree with its own day": the four things that a date is asked for by lead to a day, and the
+-- date of that day is the record itself
+pub record CAgrees (r : CDate) : Type 0 where
+  pub day : ℕ
+  pub its-own : CDayOfDate (r .year) (r .number) (r .leap) (r .«day_of_month») (givenDay day)
+  pub its-date : CDateOfDay day r
+
+pub record C-dates-agree : Type 0 where
+  pub date-of-day : (d : ℕ) (r : CDate) → CDateOfDay d r → r .reason ≡ 0 → CAgrees r
+  pub move-date : (y k : ℕ) (l : Bool) (m : ℕ) (n : ℤ) (r : CDate) → CMoveDate y k l m n r → r .reason ≡ 0 → CAgrees r
+
 -- reason 0 says that the call answers, and nothing else does, since the paper's reasons start at 1; the struct is then that answer
 abbrev pub ZeroPrint : (ℕ → List ℕ → CLength → List ℕ → Type 0) → (ℕ → List ℕ → HowMany → List ℕ → Type 0) → Type 0
 ZeroPrint C P =

@@ -65,6 +65,10 @@ pub record BareDate (r : CDate) : Type 0 where
   pub month-length : r .«month_length» ≡ 0
   pub day-name : r .«day_name» ≡ 0
   pub year-name : r .«year_name» ≡ 0
+  pub ji : r .ji ≡ 0
+  pub bu : r .bu ≡ 0
+  pub year-in-bu : r .«year_in_bu» ≡ 0
+  pub eclipse : r .eclipse ≡ false
 
 pub record BareDay (r : CDay) : Type 0 where
   pub day : r .day ≡ 0

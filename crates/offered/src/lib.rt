@@ -2,7 +2,8 @@
 // its struct, what the eighteen calls promise, and statements with their proofs. No code: answers are laid flat in the crate `flat`, and
 // the calls are the crate `capi`. So an edit of a definition is refused without checking those again.
 
-// A date. `number` is the month's, `leap` whether it is the leap month of that number.
+// A date. `number` is the month's, `leap` whether it is the leap month of that number, `year` the civil one; ji, bu and year in the bu are
+// the place of the solstice year in which the day lies.
 #[repr(C)]
 pub struct CDate {
     pub reason: u32,
@@ -13,6 +14,10 @@ pub struct CDate {
     pub month_length: u32,
     pub day_name: u32,
     pub year_name: u32,
+    pub ji: u32,
+    pub bu: u32,
+    pub year_in_bu: u32,
+    pub eclipse: bool,
 }
 
 // A day.

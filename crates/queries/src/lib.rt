@@ -66,16 +66,16 @@ fn reading_of(s: Slip) -> Reading
 
 // The answer to a search by a slip.
 fn answer_slip(s: Slip, first: u32, last: u32, days: &mut [u32], out: &mut [u8], at: usize) -> usize
-    requires { ⌜ (27759 ≤ length (now days)) × (at + 2304014 ≤ length (now out)) ⌝ }
-    ensures { λ b. ⌜ Put 2304014 (now (out .entry)) at (searchText (readingOf s) first last) (now (out .exit)) b ⌝ }
+    requires { ⌜ (27759 ≤ length (now days)) × (at + 3275579 ≤ length (now out)) ⌝ }
+    ensures { λ b. ⌜ Put 3275579 (now (out .entry)) at (searchText (readingOf s) first last) (now (out .exit)) b ⌝ }
 {
     answers::answer_search(reading_of(s), first, last, days, out, at)
 }
 
 // The answer to a query, which a line of 200 bytes at most asks.
 fn answer(q: Query, line: &[u8], days: &mut [u32], out: &mut [u8], at: usize) -> usize
-    requires { ⌜ (length (now line) ≤ 200) × (27759 ≤ length (now days)) × (at + 2304014 ≤ length (now out)) ⌝ }
-    ensures { λ r. ⌜ Put 2304014 (now (out .entry)) at (answered (now (line .entry)) q) (now (out .exit)) r ⌝ }
+    requires { ⌜ (length (now line) ≤ 200) × (27759 ≤ length (now days)) × (at + 3275579 ≤ length (now out)) ⌝ }
+    ensures { λ r. ⌜ Put 3275579 (now (out .entry)) at (answered (now (line .entry)) q) (now (out .exit)) r ⌝ }
 {
     match q {
         Query::Unreadable => put_unreadable(out, at),
@@ -98,8 +98,8 @@ fn answer(q: Query, line: &[u8], days: &mut [u32], out: &mut [u8], at: usize) ->
 // The answer to a line, its newlines included, from a place of the buffer on: where it ends. The lent list of days is used by
 // searches; what it holds afterwards is not promised.
 pub fn answer_line(line: &[u8], days: &mut [u32], out: &mut [u8], at: usize) -> usize
-    requires { ⌜ (27759 ≤ length (now days)) × (at + 2304014 ≤ length (now out)) ⌝ }
-    ensures { λ r. ⌜ Put 2304014 (now (out .entry)) at (answerTo (now (line .entry))) (now (out .exit)) r ⌝ }
+    requires { ⌜ (27759 ≤ length (now days)) × (at + 3275579 ≤ length (now out)) ⌝ }
+    ensures { λ r. ⌜ Put 3275579 (now (out .entry)) at (answerTo (now (line .entry))) (now (out .exit)) r ⌝ }
 {
     if 200 < line.len() {
         return put_unreadable(out, at);

@@ -52,6 +52,10 @@ number-of n = refl
 solstice-year : (n : ℕ) → InSolsticeYear (solsticeYearOfMonth n) n
 solstice-year n = of-month (solsticeYearOfMonth n) n .1 refl
 
+-- twelve mid-terms a solstice year: the last before a month's end says the month's
+pub solstice-count : (n : ℕ) → (midTermsBefore (n + 1) - 1) / 12 + 1 ≡ solsticeYearOfMonth n
+solstice-count n = let i = solstice-year n in omega (arith, i .0, up-to-its-end (solsticeYearOfMonth n) n i)
+
 -- twelve numbers a civil year, one for each mid-term: 11 of year 0 for the first of all, then 12, then 1 of year 1
 pub civil-count : (n : ℕ) → 12 * civilYearOfMonth n + monthNumber n ≡ midTermsBefore (n + 1) + 10
 unfolding civilYearOfMonth

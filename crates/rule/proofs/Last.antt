@@ -1,13 +1,23 @@
--- The last mid-term before a month's end says the month's civil year and number, and whether it is leap. Assumes nothing.
+-- The last mid-term before a month's end says the month's civil and solstice years and its number, and whether it is leap. Assumes nothing.
 use Prim.Native.Nat.{ℕ, _+_, _/_, _≤_, _<_}
 use native.Mathlib.Omega.{arith}
 use mathlib.Core.Path.{_≡_, refl, ap, sym, _∙_}
 use mathlib.Core.Bool.{Bool, true, false}
 use lib.Dec.{ltb}
 use borrow.Author.Tests.{lt-ltb, le-ltb}
-use Rattle.rule.specs.Rule.{monthStart, InMonth, midTermDay, midTermsBefore, leap, midTermNumber, monthNumber, civilYearOfMonth}
+use Rattle.rule.specs.Rule.{
+  monthStart,
+  InMonth,
+  midTermDay,
+  midTermsBefore,
+  solsticeYearOfMonth,
+  leap,
+  midTermNumber,
+  monthNumber,
+  civilYearOfMonth,
+}
 use Rattle.rule.proofs.Leap.{before-iff, before-mono, before-step, holds-next, leap-stays, ordinary-rises, stays-leap, rises-ordinary, number-range}
-use Rattle.rule.proofs.CivilYears.{civil-count}
+use Rattle.rule.proofs.CivilYears.{civil-count, solstice-count}
 
 module _ (n m : ℕ) (low : midTermDay m < monthStart (n + 1)) (high : monthStart (n + 1) ≤ midTermDay (m + 1)) where
   all-before : midTermsBefore (n + 1) ≡ m + 1
@@ -31,6 +41,9 @@ module _ (n m : ℕ) (low : midTermDay m < monthStart (n + 1)) (high : monthStar
 
   pub year-by-last : (m + 10) / 12 ≡ civilYearOfMonth n
   year-by-last = omega (arith, all-before, civil-count n, number-range n)
+
+  pub solstice-by-last : m / 12 + 1 ≡ solsticeYearOfMonth n
+  solstice-by-last = omega (arith, all-before, solstice-count n)
 
 -- and the month after one that holds mid-term m is leap exactly where the next mid-term does not come before its end
 module _ (n m : ℕ) (h : InMonth n (midTermDay m)) where

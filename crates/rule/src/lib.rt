@@ -153,15 +153,16 @@ pub fn year_name(year: u16) -> u8
     ((year as u32 + 15) % 60 + 1) as u8
 }
 
-// The place of a solstice year, from its elapsed years.
+// The place of a solstice year, from its elapsed years: whole bu of 76, of which twenty are a ji, and three ji go round.
 pub fn place_of(year: u16) -> Place
     requires { ⌜ SolsticeYearInRange year ⌝ }
     ensures { λ r. ⌜ (r .ji ≡ ji year) × (r .bu ≡ bu year) × (r .«year_in_bu» ≡ yearInBu year) ⌝ }
 {
     let elapsed = year - 1;
+    let bus = elapsed / 76;
     Place {
-        ji: (elapsed % 4560 / 1520 + 1) as u8,
-        bu: (elapsed % 1520 / 76 + 1) as u8,
+        ji: (bus / 20 % 3 + 1) as u8,
+        bu: (bus % 20 + 1) as u8,
         year_in_bu: (elapsed % 76 + 1) as u8,
     }
 }

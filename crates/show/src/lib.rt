@@ -1,5 +1,6 @@
 // What `beside` and `uses` print with, on standard output, in the desk's words and order.
 use dates::Date;
+use dates::DayTold;
 use moves::Way;
 use planets::Conjunction;
 use planets::Phase;
@@ -48,6 +49,15 @@ pub fn mark(leap: bool) {
     }
 }
 
+// `E` for an eclipse month, `-` for another.
+pub fn eclipse(there: bool) {
+    if there {
+        text(b" E");
+    } else {
+        text(b" -");
+    }
+}
+
 // A month: its number and its mark.
 pub fn month(m: Month) {
     next(rule::number_of(m) as u64);
@@ -67,7 +77,7 @@ pub fn refused(why: Reason) {
     text(b"\n");
 }
 
-// What a `DAY` line has after the day.
+// What the desk's `DAY` line has after the day.
 pub fn date(d: Date) {
     let m = d.month;
     next(d.year as u64);
@@ -76,7 +86,25 @@ pub fn date(d: Date) {
     next(d.day_name as u64);
     next(d.month_length as u64);
     next(d.year_name as u64);
+    next(d.ji as u64);
+    next(d.bu as u64);
+    next(d.year_in_bu as u64);
+    eclipse(d.eclipse);
     text(b"\n");
+}
+
+// The `DAY` line of a date that a call has answered, with the day of its own civil year, month, mark and day of month.
+pub fn dated(d: Date) {
+    let m = d.month;
+    let number = rule::number_of(m) as u32;
+    let leap = rule::leap_mark(m);
+    match dates::day_of_date(d.year as u32, number, leap, d.day_of_month as u32) {
+        DayTold::Is(day) => {
+            field(b"DAY", day as u64);
+            date(d);
+        }
+        DayTold::Refused(why) => refused(why),
+    }
 }
 
 // What a conjunction's line ends with: day, parts, divisor, phase.

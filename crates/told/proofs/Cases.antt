@@ -167,7 +167,7 @@ unfolding pairText pairLine pairAt refusing
 no-pair = refl
 
 -- the last day of year 11's month 134, and a day that is none
-pub last-of-134 : dayText 3985 ≡ inLines (word "DAY 3985 11 9 L 29 26 29 27" ∷ [])
+pub last-of-134 : dayText 3985 ≡ inLines (word "DAY 3985 11 9 L 29 26 29 27 1 1 11 E" ∷ [])
 unfolding dayText dateAt day-lines
 last-of-134 = refl
 
@@ -175,8 +175,13 @@ pub no-day : dayText 14989860 ≡ inLines (word "REFUSED 6 day count outside the
 unfolding dayText dayLineOf dateAt refusing
 no-day = refl
 
+-- the day before that of known date 11 (W8): the last of bu 1, of an eclipse month
+pub last-of-bu-1 : dayText 27758 ≡ inLines (word "DAY 27758 76 10 L 30 39 30 32 1 1 76 E" ∷ [])
+unfolding dayText dateAt day-lines
+last-of-bu-1 = refl
+
 -- known dates 8 and 9: year 11 has leap 9, of 29 days, and no leap 8
-pub leap-9 : dateText 11 9 true 1 ≡ inLines (word "DAY 3957 11 9 L 1 58 29 27" ∷ [])
+pub leap-9 : dateText 11 9 true 1 ≡ inLines (word "DAY 3957 11 9 L 1 58 29 27 1 1 11 E" ∷ [])
 unfolding dates
 leap-9 = refl
 
@@ -193,13 +198,13 @@ pub no-number : dateText 0 5 true 1 ≡ inLines (word "REFUSED 16 no such month 
 unfolding dates refusing
 no-number = refl
 
--- known date 11: day 0 moved by 27,759
-pub seventy-six-on : moveText 0 11 false 1 (pos 27759) ≡ inLines (word "DAY 27759 76 11 - 1 40 29 32" ∷ [])
+-- known date 11: day 0 moved by 27,759, into bu 2
+pub seventy-six-on : moveText 0 11 false 1 (pos 27759) ≡ inLines (word "DAY 27759 76 11 - 1 40 29 32 1 2 1 -" ∷ [])
 unfolding moveText moved dates
 seventy-six-on = refl
 
 -- 30 days after day 1 of year 11's ordinary month 9 comes its leap month 9
-pub into-leap-9 : moveText 11 9 false 1 (pos 30) ≡ inLines (word "DAY 3957 11 9 L 1 58 29 27" ∷ [])
+pub into-leap-9 : moveText 11 9 false 1 (pos 30) ≡ inLines (word "DAY 3957 11 9 L 1 58 29 27 1 1 11 E" ∷ [])
 unfolding moveText moved dates
 into-leap-9 = refl
 
@@ -209,7 +214,7 @@ unfolding moveText moved dates refusing
 one-back = refl
 
 -- known date 2: days 28 and 29, all unread; and of them the one that is day 1 of its month
-pub two-found : searchText allUnread 28 29 ≡ inLines (word "FOUND 2" ∷ word "DAY 28 0 11 - 29 29 29 16" ∷ word "DAY 29 0 12 - 1 30 30 16" ∷ [])
+pub two-found : searchText allUnread 28 29 ≡ inLines (word "FOUND 2" ∷ word "DAY 28 0 11 - 29 29 29 16 1 1 1 -" ∷ word "DAY 29 0 12 - 1 30 30 16 1 1 1 -" ∷ [])
 unfolding searches
 two-found = refl
 
@@ -224,7 +229,7 @@ firstOfMonth =
       «first_name» = Unread;
     }
 
-pub one-found : searchText firstOfMonth 28 29 ≡ inLines (word "FOUND 1" ∷ word "DAY 29 0 12 - 1 30 30 16" ∷ [])
+pub one-found : searchText firstOfMonth 28 29 ≡ inLines (word "FOUND 1" ∷ word "DAY 29 0 12 - 1 30 30 16 1 1 1 -" ∷ [])
 unfolding searches
 one-found = refl
 

@@ -26,7 +26,7 @@ use Rattle.planets.specs.Planets.{conjunctionAt, nextAt, pairAt}
 use Rattle.reading.specs.declared.Reading.{Reading}
 use Rattle.reading.specs.Readings.{windowDays, fitting}
 use Rattle.reading.specs.Search.{searchAt}
-use Rattle.fields.specs.Fields.{word, decimal, lined, each}
+use Rattle.fields.specs.Fields.{word, decimal, mark, lined, each, letterE}
 use Rattle.penned.specs.Lines.{fieldsOfMonth, fieldsOfYear, fieldsOfDay, wordsOf}
 
 -- the words of the reason with number k (Paper, Words-of-a-number)
@@ -123,9 +123,13 @@ pairLine r = lined (word "PAIR" ∷ decimal (r .years) ∷ decimal (r .conjuncti
 unfoldable pub pairText : ℕ → List ℕ
 pairText p = told pairLine (pairAt p)
 
--- `DAY day`: `DAY day year number mark day-of-month day-name month-length year-name`
+-- what a card shows besides (W8): `ji bu year-in-bu eclipse`, the mark "`E` or `-`"
+abbrev pub fieldsOfCard : Date → List (List ℕ)
+fieldsOfCard r = decimal (r .ji) ∷ decimal (r .bu) ∷ decimal (r .«year_in_bu») ∷ (mark (r .eclipse) letterE ∷ []) ∷ []
+
+-- `DAY day`: `DAY day year number mark day-of-month day-name month-length year-name ji bu year-in-bu eclipse`
 unfoldable pub dayLineOf : ℕ → Date → List ℕ
-dayLineOf d r = lined (fieldsOfDay d r ++ (decimal (r .«month_length») ∷ decimal (r .«year_name») ∷ []))
+dayLineOf d r = lined (fieldsOfDay d r ++ (decimal (r .«month_length») ∷ decimal (r .«year_name») ∷ fieldsOfCard r))
 
 unfoldable pub dayText : ℕ → List ℕ
 dayText d = told (dayLineOf d) (dateAt d)

@@ -21,6 +21,7 @@ use Rattle.rule.specs.Rule.{
   solsticeFirstMonth,
   leapRemainder,
   monthsInSolsticeYear,
+  solsticeYearOfMonth,
   civilFirstMonth,
   monthsInCivilYear,
   InCivilYear,
@@ -160,7 +161,8 @@ Pair-line-literally =
     (p : ℕ) → Planet p →
     pairText p ≡ (word "PAIR " ++ (decimal (numbersOf p .years) ++ (32 ∷ decimal (numbersOf p .conjunctions)))) ++ (10 ∷ [])
 
--- "`DAY day year number mark day-of-month day-name month-length year-name`"
+-- "`DAY day year number mark day-of-month day-name month-length year-name ji bu year-in-bu eclipse` (`E` or `-`)": the place is that of the
+-- month's solstice year
 abbrev pub Day-line-literally : Type 0
 Day-line-literally =
     (d : ℕ) →
@@ -171,7 +173,11 @@ Day-line-literally =
     ++ (32 ∷ mark (leap (monthOfDay d)) letterL ∷ 32 ∷ (decimal (d - monthStart (monthOfDay d) + 1)
     ++ (32 ∷ (decimal (dayName d)
     ++ (32 ∷ (decimal (monthLength (monthOfDay d))
-    ++ (32 ∷ decimal (yearName (civilYearOfMonth (monthOfDay d))))))))))))))))
+    ++ (32 ∷ (decimal (yearName (civilYearOfMonth (monthOfDay d)))
+    ++ (32 ∷ (decimal (ji (solsticeYearOfMonth (monthOfDay d)))
+    ++ (32 ∷ (decimal (bu (solsticeYearOfMonth (monthOfDay d)))
+    ++ (32 ∷ (decimal (yearInBu (solsticeYearOfMonth (monthOfDay d)))
+    ++ (32 ∷ mark (eclipse (monthOfDay d)) letterE ∷ [])))))))))))))))))))))
     ++ (10 ∷ [])
 
 abbrev pub Line-of-a-day : Type 0

@@ -29,7 +29,7 @@ fn two(word: &[u8], a: u32, b: u64) {
     end();
 }
 
-// Day to date: which date has this day?
+// Day to date: which date has this day? The record has the place of its solstice year and its month's eclipse mark too.
 fn date_of_day(day: u32) {
     match dates::date_of_day(day) {
         Dated::Is(date) => day_line(day, date),
@@ -70,17 +70,9 @@ fn move_date(year: u32, number: u32, leap: bool, day_of_month: u32, days: i64) {
     show::signed(days);
     end();
     match moves::move_date(year, number, leap, day_of_month, days) {
-        Dated::Is(date) => day_of(date),
+        Dated::Is(date) => show::dated(date),
         Dated::Refused(why) => show::refused(why),
     }
-}
-
-// The day of a date that a call has answered.
-fn day_of(date: Date) {
-    let month = date.month;
-    let number = rule::number_of(month) as u32;
-    let leap = rule::leap_mark(month);
-    day_of_date(date.year as u32, number, leap, date.day_of_month as u32);
 }
 
 // The place of a solstice year: ji, bu, year in bu, its bu's head name; its first month, leap remainder, and how many months.
@@ -139,20 +131,12 @@ fn month_facts(n: u32) {
             show::month(month);
             show::next(f.first_name as u64);
             show::next(f.month_length as u64);
-            eclipse(f.eclipse);
+            show::eclipse(f.eclipse);
             show::next(f.first_day as u64);
             show::next(f.small_remainder as u64);
             end();
         }
         MonthTold::Refused(why) => show::refused(why),
-    }
-}
-
-fn eclipse(there: bool) {
-    if there {
-        show::text(b" E");
-    } else {
-        show::text(b" -");
     }
 }
 
@@ -290,7 +274,7 @@ fn print_month(n: u32) {
     printed(lines::print_month(n, &mut buffer), &buffer);
 }
 
-// A `DAY` line. 61 bytes always hold it.
+// The listing's `DAY` line. 61 bytes always hold it.
 fn print_day(day: u32) {
     show::line(b"PRINT DAY", day as u64);
     let mut buffer = [0u8; 61];

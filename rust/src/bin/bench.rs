@@ -219,9 +219,10 @@ fn repeat(times: u64, mut call: impl FnMut() -> u64) -> u64 {
 /// One number out of every field of a date.
 fn sum_of_date(date: Date) -> u64 {
     let month = date.month.number() + u32::from(date.month.is_leap());
-    u64::from(
-        date.year + month + date.day_of_month + date.month_length + date.day_name + date.year_name,
-    )
+    let days = date.day_of_month + date.month_length;
+    let names = date.day_name + date.year_name;
+    let place = date.ji + date.bu + date.year_in_bu;
+    u64::from(date.year + month + days + names + place + u32::from(date.eclipse))
 }
 
 /// A search, of either side.

@@ -10,7 +10,7 @@ use Rattle.answers.proofs.put_days.Statement.{statement}
 use Rattle.answers.proofs.put_days.Tie as tie
 
 abbrev Inv-loop : tie.InvT-loop
-Inv-loop n days out₀ at to₀ i₀ out to i = (i ≤ n) × Put (83 * i) out₀ at (each dayLine (take i days)) out to
+Inv-loop n days out₀ at to₀ i₀ out to i = (i ≤ n) × Put (118 * i) out₀ at (each dayLine (take i days)) out to
 
 abbrev μ-loop : tie.MeasureT-loop
 μ-loop n days out₀ at to₀ i₀ out to i = n - i

@@ -152,6 +152,8 @@ fn moves(asked: Asked, tally: &mut Tally) {
         -29,
         27_759,
         -27_759,
+        749_493,
+        -749_493,
         range,
         -range,
         i64::MAX,

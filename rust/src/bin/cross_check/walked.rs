@@ -1,6 +1,6 @@
 //! A third way, which shares no formula with the other two: the months walked from the origin as a clerk does it, month by month
-//! and mid-term by mid-term, and with them the years. The solstice year goes on by one at each ordinary month of number 11, the
-//! civil year at each ordinary month of number 1.
+//! and mid-term by mid-term, and with them the years. The solstice year goes on by one at each ordinary month of number 11, and its
+//! place with it, the civil year at each ordinary month of number 1. The eclipses go on by 23 parts of 135 a month.
 
 use crate::tally::{part, Piece, Row, Tally, PIECES};
 use crate::{DAYS, MONTHS, YEARS};
@@ -10,13 +10,25 @@ use std::ops::Range;
 /// On how many days civil year and solstice year differ: the figure of the issue that asks for civil years.
 const DIFFERENT_DAYS: u64 = 2_487_240;
 
+/// The date of day 0.
+const DAY_0: Asked = Asked {
+    year: 0,
+    number: 11,
+    leap: false,
+    day_of_month: 1,
+};
+
 /// The rows of the walk.
 pub fn rows() -> Vec<Row> {
     vec![
         every_month("every day to its date and back, walked", days_of_month),
+        every_month("every date by a move from day 0, walked", moves_to_month),
         one_piece("every civil year's facts, walked", civil_years),
         one_piece("every number of every civil year, walked", numbers_of_years),
-        one_piece("every solstice year's months, walked", solstice_years),
+        one_piece(
+            "every solstice year's place and months, walked",
+            solstice_years,
+        ),
         one_piece("the days whose two years differ, counted", different_days),
     ]
 }
@@ -33,18 +45,48 @@ struct Walked {
     civil_year: u64,
     year_name: u32,
     solstice_year: u64,
+    place: Place,
+    eclipse: bool,
 }
 
-/// The months in their order, the rest of the month in parts of 940, and the next mid-term's day and parts of 32.
+/// The place of a solstice year.
+#[derive(Clone, Copy, Debug, PartialEq)]
+struct Place {
+    ji: u32,
+    bu: u32,
+    year_in_bu: u32,
+}
+
+impl Place {
+    /// The next year's: after year 76 comes year 1 of the next bu, after bu 20 bu 1 of the next ji, after ji 3 ji 1.
+    fn go_on(&mut self) {
+        self.year_in_bu += 1;
+        if self.year_in_bu > 76 {
+            self.year_in_bu = 1;
+            self.bu += 1;
+        }
+        if self.bu > 20 {
+            self.bu = 1;
+            self.ji += 1;
+        }
+        if self.ji > 3 {
+            self.ji = 1;
+        }
+    }
+}
+
+/// The months in their order, the rest of the month in parts of 940, the next mid-term's day and parts of 32, and the parts of 135
+/// of an eclipse.
 struct Walk {
     next: Walked,
     rest: u64,
     mid_term: (u64, u64),
+    eclipse_parts: u32,
 }
 
 impl Walk {
-    /// At the origin new moon and solstice meet at midnight; the month before it would be a month 10. Civil year 0, name 16, has
-    /// begun by then.
+    /// At the origin new moon and solstice meet at midnight; the month before it would be a month 10, of the last year of a yuan.
+    /// Civil year 0, name 16, has begun by then. The count of eclipses starts there.
     fn new() -> Walk {
         Walk {
             next: Walked {
@@ -57,9 +99,16 @@ impl Walk {
                 civil_year: 0,
                 year_name: 16,
                 solstice_year: 0,
+                place: Place {
+                    ji: 3,
+                    bu: 20,
+                    year_in_bu: 76,
+                },
+                eclipse: false,
             },
             rest: 0,
             mid_term: (0, 0),
+            eclipse_parts: 0,
         }
     }
 }
@@ -91,11 +140,18 @@ impl Iterator for Walk {
             };
             if month.number == 11 {
                 month.solstice_year += 1;
+                month.place.go_on();
             }
             if month.number == 1 {
                 month.civil_year += 1;
                 month.year_name = name_after(month.year_name, 1);
             }
+        }
+        // A month adds 23 parts of 135; a count without rest belongs to the month already counted.
+        self.eclipse_parts += 23;
+        month.eclipse = self.eclipse_parts >= 135;
+        if month.eclipse {
+            self.eclipse_parts -= 135;
         }
         let walked = *month;
         month.count += 1;
@@ -135,10 +191,10 @@ fn one_piece(what: &'static str, compare: fn(&mut Tally)) -> Row {
     }
 }
 
-fn days_of_month(month: Walked, tally: &mut Tally) {
+/// The days of a month and their dates.
+fn dates_of(month: Walked) -> impl Iterator<Item = (u64, Date)> {
     let mut day_name = month.first_name;
-    for place in 0..month.length {
-        let day = month.first_day + place;
+    (0..month.length).map(move |place| {
         let date = Date {
             year: month.civil_year as u32,
             month: Month::new(month.number, month.leap),
@@ -146,14 +202,33 @@ fn days_of_month(month: Walked, tally: &mut Tally) {
             month_length: month.length as u32,
             day_name,
             year_name: month.year_name,
+            ji: month.place.ji,
+            bu: month.place.bu,
+            year_in_bu: month.place.year_in_bu,
+            eclipse: month.eclipse,
         };
+        day_name = name_after(day_name, 1);
+        (month.first_day + place, date)
+    })
+}
+
+fn days_of_month(month: Walked, tally: &mut Tally) {
+    for (day, date) in dates_of(month) {
         tally.compare(capi::date_of_day(day), Ok(date), || {
             format!("date_of_day {day}, walked to")
         });
         tally.compare(capi::day_of_date(date.asked()), Ok(day as u32), || {
             format!("day_of_date {:?}, walked to", date.asked())
         });
-        day_name = name_after(day_name, 1);
+    }
+}
+
+fn moves_to_month(month: Walked, tally: &mut Tally) {
+    for (day, date) in dates_of(month) {
+        let answer = capi::move_date(DAY_0, day as i64);
+        tally.compare(answer, Ok(date), || {
+            format!("move_date of day 0 by {day}, walked to")
+        });
     }
 }
 
@@ -212,10 +287,18 @@ fn numbers_of_years(tally: &mut Tally) {
 
 fn solstice_years(tally: &mut Tally) {
     for (year, months) in by_years(1, |month| month.solstice_year) {
-        let answer = capi::solstice_year(year).map(|facts| (facts.first_month, facts.months));
-        let walked = (months[0].count as u32, months.len() as u32);
+        let answer = capi::solstice_year(year).map(|facts| {
+            let place = Place {
+                ji: facts.ji,
+                bu: facts.bu,
+                year_in_bu: facts.year_in_bu,
+            };
+            (place, facts.first_month, facts.months)
+        });
+        let first = months[0];
+        let walked = (first.place, first.count as u32, months.len() as u32);
         tally.compare(answer, Ok(walked), || {
-            format!("first month and months of solstice_year {year}, walked to")
+            format!("place, first month and months of solstice_year {year}, walked to")
         });
     }
 }
