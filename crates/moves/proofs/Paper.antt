@@ -25,9 +25,8 @@ use Rattle.dates.specs.declared.Dated.{Dated}
 use Rattle.dates.specs.Dates.{dateIn, dateOf, dayOfDate}
 use Rattle.dates.specs.Promises.{saidDate}
 use Rattle.dates.proofs.Cases
-use Rattle.dates.proofs.Cases.{firstOfBu2}
 use Rattle.dates.proofs.Days
-use Rattle.dates.specs.Paper.{AgreesWithItsDay}
+use Rattle.dates.specs.Paper.{AgreesWithItsDay, firstOfBu2}
 use Rattle.dates.proofs.Laws.{ownDay, back-to-day, agrees}
 use Rattle.dates.proofs.Paper.{dated-once}
 use Rattle.moves.specs.Moves.{landed, moved}

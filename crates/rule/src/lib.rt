@@ -153,17 +153,20 @@ pub fn year_name(year: u16) -> u8
     ((year as u32 + 15) % 60 + 1) as u8
 }
 
-// The place of a solstice year, from its elapsed years: whole bu of 76, of which twenty are a ji, and three ji go round.
+// The place of a solstice year, from its elapsed years in parts of which 2 to the 32nd are a yuan, and 941,879 a year (4,560 times so many are
+// a little more): thirds of a yuan, twentieths of a ji, 76ths of a bu. So no division is needed.
 pub fn place_of(year: u16) -> Place
     requires { ⌜ SolsticeYearInRange year ⌝ }
     ensures { λ r. ⌜ (r .ji ≡ ji year) × (r .bu ≡ bu year) × (r .«year_in_bu» ≡ yearInBu year) ⌝ }
 {
     let elapsed = year - 1;
-    let bus = elapsed / 76;
+    let jis = 3 * (941879 * (elapsed as u64) % 4294967296);
+    let bus = 20 * (jis % 4294967296);
+    let years = 76 * (bus % 4294967296);
     Place {
-        ji: (bus / 20 % 3 + 1) as u8,
-        bu: (bus % 20 + 1) as u8,
-        year_in_bu: (elapsed % 76 + 1) as u8,
+        ji: (jis / 4294967296 + 1) as u8,
+        bu: (bus / 4294967296 + 1) as u8,
+        year_in_bu: (years / 4294967296 + 1) as u8,
     }
 }
 
@@ -378,12 +381,13 @@ pub fn month_at(n: u32) -> Month
     marked(is_leap(n), month_number(n))
 }
 
-// Whether a month is an eclipse month; a count without remainder belongs to the month already counted.
+// Whether a month is an eclipse month; a count without remainder belongs to the month already counted. In parts of which 2 to the 32nd are one
+// eclipse a month adds 731,735,169 (135 times so many are a little more than 23): it is one where that made a whole.
 pub fn is_eclipse(n: u32) -> bool
     requires { ⌜ MonthInRange n ⌝ }
     ensures { λ r. ⌜ r ≡ eclipse n ⌝ }
 {
-    23 * (n + 1) % 135 < 23
+    731735169 * (n as u64 + 1) % 4294967296 < 731735169
 }
 
 // The printed list of a bu. That its 940 numerals follow the month rule is computed here, once for all.
