@@ -114,20 +114,19 @@ static void bytes_same(int line, const void *got, const void *want, size_t n)
 /* A number whose low 32 bits are n: never in range. */
 static uint64_t wide(uint64_t n) { return (UINT64_C(1) << 32) + n; }
 
-static void date_is(oes_date d, const uint32_t want[12])
+static void date_is(int line, oes_date d, const uint32_t want[12])
 {
+    static const char *const names[12] = {"reason",   "year",      "number", "leap", "day_of_month", "month_length",
+                                          "day_name", "year_name", "ji",     "bu",   "year_in_bu",   "eclipse"};
     const uint32_t got[12] = {d.reason,   d.year,      d.number, d.leap, d.day_of_month, d.month_length,
                               d.day_name, d.year_name, d.ji,     d.bu,   d.year_in_bu,   d.eclipse};
     for (int i = 0; i < 12; i++) {
-        SAME(got[i], want[i]);
+        same(line, names[i], got[i], want[i]);
     }
 }
 
-static void date_refused(oes_date d, uint32_t reason)
-{
-    const uint32_t want[12] = {reason};
-    date_is(d, want);
-}
+#define DATE_IS(d, ...) date_is(__LINE__, (d), (const uint32_t[12]){__VA_ARGS__})
+#define DATE_REFUSED(d, reason) DATE_IS((d), (reason))
 
 static void day_is(oes_day d, uint32_t reason, uint32_t day)
 {
@@ -142,27 +141,27 @@ static void day_is(oes_day d, uint32_t reason, uint32_t day)
  * moved over 27,759 days, which do not keep its eclipse mark, and over 749,493, which do. */
 static void dates(void)
 {
-    date_is(oes_date_of_day(0), (const uint32_t[12]){0, 0, 11, 0, 1, 29, 1, 16, 1, 1, 1, 0});
-    date_is(oes_date_of_day(28), (const uint32_t[12]){0, 0, 11, 0, 29, 29, 29, 16, 1, 1, 1, 0});
-    date_is(oes_date_of_day(29), (const uint32_t[12]){0, 0, 12, 0, 1, 30, 30, 16, 1, 1, 1, 0});
-    date_is(oes_date_of_day(59), (const uint32_t[12]){0, 1, 1, 0, 1, 29, 60, 17, 1, 1, 1, 0});
-    date_is(oes_date_of_day(2953), (const uint32_t[12]){0, 8, 12, 1, 1, 29, 14, 24, 1, 1, 9, 0});
-    date_is(oes_date_of_day(2982), (const uint32_t[12]){0, 9, 1, 0, 1, 30, 43, 25, 1, 1, 9, 0});
-    date_is(oes_date_of_day(3961), (const uint32_t[12]){0, 11, 9, 1, 5, 29, 2, 27, 1, 1, 11, 1});
-    date_is(oes_date_of_day(9863), (const uint32_t[12]){0, 27, 11, 1, 1, 29, 24, 43, 1, 1, 28, 1});
-    date_is(oes_date_of_day(27758), (const uint32_t[12]){0, 76, 10, 1, 30, 30, 39, 32, 1, 1, 76, 1});
-    date_is(oes_date_of_day(27759), (const uint32_t[12]){0, 76, 11, 0, 1, 29, 40, 32, 1, 2, 1, 0});
-    date_is(oes_date_of_day(555179), (const uint32_t[12]){0, 1520, 10, 1, 30, 30, 60, 36, 1, 20, 76, 0});
-    date_is(oes_date_of_day(555180), (const uint32_t[12]){0, 1520, 11, 0, 1, 29, 1, 36, 2, 1, 1, 1});
-    date_is(oes_date_of_day(1665539), (const uint32_t[12]){0, 4560, 10, 1, 30, 30, 60, 16, 3, 20, 76, 0});
-    date_is(oes_date_of_day(1665540), (const uint32_t[12]){0, 4560, 11, 0, 1, 29, 1, 16, 1, 1, 1, 1});
-    date_is(oes_date_of_day(3420557), (const uint32_t[12]){0, 9365, 10, 0, 30, 30, 18, 21, 1, 4, 17, 1});
-    date_is(oes_date_of_day(3420558), (const uint32_t[12]){0, 9365, 11, 0, 1, 30, 19, 21, 1, 4, 18, 0});
-    date_is(oes_date_of_day(3420566), (const uint32_t[12]){0, 9365, 11, 0, 9, 30, 27, 21, 1, 4, 18, 0});
-    date_is(oes_date_of_day(14989859), (const uint32_t[12]){0, 41040, 10, 1, 30, 30, 60, 16, 3, 20, 76, 1});
-    date_refused(oes_date_of_day(14989860), 6);
-    date_refused(oes_date_of_day(wide(0)), 6);
-    date_refused(oes_date_of_day((uint64_t)-1), 6);
+    DATE_IS(oes_date_of_day(0), 0, 0, 11, 0, 1, 29, 1, 16, 1, 1, 1, 0);
+    DATE_IS(oes_date_of_day(28), 0, 0, 11, 0, 29, 29, 29, 16, 1, 1, 1, 0);
+    DATE_IS(oes_date_of_day(29), 0, 0, 12, 0, 1, 30, 30, 16, 1, 1, 1, 0);
+    DATE_IS(oes_date_of_day(59), 0, 1, 1, 0, 1, 29, 60, 17, 1, 1, 1, 0);
+    DATE_IS(oes_date_of_day(2953), 0, 8, 12, 1, 1, 29, 14, 24, 1, 1, 9, 0);
+    DATE_IS(oes_date_of_day(2982), 0, 9, 1, 0, 1, 30, 43, 25, 1, 1, 9, 0);
+    DATE_IS(oes_date_of_day(3961), 0, 11, 9, 1, 5, 29, 2, 27, 1, 1, 11, 1);
+    DATE_IS(oes_date_of_day(9863), 0, 27, 11, 1, 1, 29, 24, 43, 1, 1, 28, 1);
+    DATE_IS(oes_date_of_day(27758), 0, 76, 10, 1, 30, 30, 39, 32, 1, 1, 76, 1);
+    DATE_IS(oes_date_of_day(27759), 0, 76, 11, 0, 1, 29, 40, 32, 1, 2, 1, 0);
+    DATE_IS(oes_date_of_day(555179), 0, 1520, 10, 1, 30, 30, 60, 36, 1, 20, 76, 0);
+    DATE_IS(oes_date_of_day(555180), 0, 1520, 11, 0, 1, 29, 1, 36, 2, 1, 1, 1);
+    DATE_IS(oes_date_of_day(1665539), 0, 4560, 10, 1, 30, 30, 60, 16, 3, 20, 76, 0);
+    DATE_IS(oes_date_of_day(1665540), 0, 4560, 11, 0, 1, 29, 1, 16, 1, 1, 1, 1);
+    DATE_IS(oes_date_of_day(3420557), 0, 9365, 10, 0, 30, 30, 18, 21, 1, 4, 17, 1);
+    DATE_IS(oes_date_of_day(3420558), 0, 9365, 11, 0, 1, 30, 19, 21, 1, 4, 18, 0);
+    DATE_IS(oes_date_of_day(3420566), 0, 9365, 11, 0, 9, 30, 27, 21, 1, 4, 18, 0);
+    DATE_IS(oes_date_of_day(14989859), 0, 41040, 10, 1, 30, 30, 60, 16, 3, 20, 76, 1);
+    DATE_REFUSED(oes_date_of_day(14989860), 6);
+    DATE_REFUSED(oes_date_of_day(wide(0)), 6);
+    DATE_REFUSED(oes_date_of_day((uint64_t)-1), 6);
     day_is(oes_day_of_date(0, 11, false, 1), 0, 0);
     day_is(oes_day_of_date(0, 12, false, 1), 0, 29);
     day_is(oes_day_of_date(1, 12, false, 1), 0, 383);
@@ -176,21 +175,21 @@ static void dates(void)
     day_is(oes_day_of_date(wide(0), wide(11), false, wide(1)), 1, 0);
     day_is(oes_day_of_date(0, wide(11), false, wide(1)), 2, 0);
     day_is(oes_day_of_date(0, 11, false, wide(1)), 3, 0);
-    date_is(oes_move_date(0, 11, false, 1, 27759), (const uint32_t[12]){0, 76, 11, 0, 1, 29, 40, 32, 1, 2, 1, 0});
-    date_is(oes_move_date(76, 11, false, 1, -27759), (const uint32_t[12]){0, 0, 11, 0, 1, 29, 1, 16, 1, 1, 1, 0});
-    date_is(oes_move_date(76, 10, true, 30, 27759), (const uint32_t[12]){0, 152, 10, 1, 30, 30, 18, 48, 1, 2, 76, 0});
-    date_is(oes_move_date(76, 10, true, 30, 749493), (const uint32_t[12]){0, 2128, 10, 1, 30, 30, 12, 44, 2, 8, 76, 1});
-    date_refused(oes_move_date(0, 11, false, 1, -1), 8);
-    date_refused(oes_move_date(0, 11, false, 1, INT64_MIN), 8);
-    date_refused(oes_move_date(0, 11, false, 1, INT64_MAX), 8);
-    date_refused(oes_move_date(wide(0), 11, false, 1, 0), 1);
+    DATE_IS(oes_move_date(0, 11, false, 1, 27759), 0, 76, 11, 0, 1, 29, 40, 32, 1, 2, 1, 0);
+    DATE_IS(oes_move_date(76, 11, false, 1, -27759), 0, 0, 11, 0, 1, 29, 1, 16, 1, 1, 1, 0);
+    DATE_IS(oes_move_date(76, 10, true, 30, 27759), 0, 152, 10, 1, 30, 30, 18, 48, 1, 2, 76, 0);
+    DATE_IS(oes_move_date(76, 10, true, 30, 749493), 0, 2128, 10, 1, 30, 30, 12, 44, 2, 8, 76, 1);
+    DATE_REFUSED(oes_move_date(0, 11, false, 1, -1), 8);
+    DATE_REFUSED(oes_move_date(0, 11, false, 1, INT64_MIN), 8);
+    DATE_REFUSED(oes_move_date(0, 11, false, 1, INT64_MAX), 8);
+    DATE_REFUSED(oes_move_date(wide(0), 11, false, 1, 0), 1);
 }
 
 static void date_asked_refused(uint64_t year, uint64_t number, bool leap, uint64_t day_of_month, uint32_t reason)
 {
     day_is(oes_day_of_date(year, number, leap, day_of_month), reason, 0);
-    date_refused(oes_move_date(year, number, leap, day_of_month, 0), reason);
-    date_refused(oes_move_date(year, number, leap, day_of_month, INT64_MIN), reason);
+    DATE_REFUSED(oes_move_date(year, number, leap, day_of_month, 0), reason);
+    DATE_REFUSED(oes_move_date(year, number, leap, day_of_month, INT64_MIN), reason);
 }
 
 /* A month number that the civil year has not, 16: after 1, 2 and 3, before 4 and 5, and before a move's 8. */

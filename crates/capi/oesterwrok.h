@@ -23,8 +23,8 @@ extern "C" {
 #endif
 
 /* A date by its civil year, whose name `year_name` is. `number` is the month's, `leap` whether it is the leap month of that
- * number. `ji`, `bu` and `year_in_bu` are the place of the solstice year in which the day lies, not of `year`. `eclipse` is whether
- * the month is an eclipse month. */
+ * number. `ji`, `bu` and `year_in_bu` (1 to 3, 1 to 20, 1 to 76) are the place of the solstice year in which the day lies, not of
+ * `year`. `eclipse` is whether the month is an eclipse month. */
 typedef struct oes_date {
     uint32_t reason;
     uint32_t year;
@@ -188,7 +188,7 @@ oes_sheet_counts oes_read_sheet(const uint8_t *bytes, size_t bytes_length, uint1
 oes_length oes_write_sheet(const uint16_t *years, size_t years_count, const uint32_t *months, size_t months_count,
                            const uint32_t *days, size_t days_count, uint8_t *out, size_t out_bytes);
 
-/* A year's block and a day's line are by the civil year. */
+/* A year's block and a day's line are by the civil year. The line of a day is the listing's, which ends with the day name. */
 oes_length oes_print_year(uint64_t year, uint8_t *out, size_t out_bytes);
 oes_length oes_print_month_line(uint64_t month, uint8_t *out, size_t out_bytes);
 oes_length oes_print_month(uint64_t month, uint8_t *out, size_t out_bytes);

@@ -6,7 +6,8 @@
 //! A year is a civil year, 0 to 41,040. It opens with its month 1 and ends with its month 12 or the leap month after it; year 0
 //! has months 11 and 12 alone, and year 41,040 ends with its leap month 10. Only [`solstice_year`] and [`term`] take the solstice
 //! year, 1 to 41,040, which begins with its month 11. The civil year of a month is its solstice year, one less where its number
-//! is 11 or 12, leap or not. A date's ji, bu and year in the bu are of the solstice year in which its day lies.
+//! is 11 or 12, leap or not. A date's ji, bu and year in the bu are of the solstice year in which its day lies, its eclipse mark
+//! is its month's.
 //!
 //! ```
 //! use oesterwrok::{day_of_date, date_of_day, Asked, Month, Reason};
@@ -242,7 +243,7 @@ pub fn print_month(month: u64, out: &mut [u8]) -> Result<usize, Reason> {
     Ok(ffi::print_month(month, out).told()?.length)
 }
 
-/// Prints a day's `DAY` line, with its civil year. Reasons 6, 12.
+/// Prints a day's `DAY` line as the listing has it, with its civil year, up to the day name. Reasons 6, 12.
 #[inline]
 pub fn print_day(day: u64, out: &mut [u8]) -> Result<usize, Reason> {
     Ok(ffi::print_day(day, out).told()?.length)

@@ -23,7 +23,7 @@ macro_rules! paper_of {
                 }
             }
 
-            fn place(date: Date) -> (u32, Month, u32, u32) {
+            fn date_and_name(date: Date) -> (u32, Month, u32, u32) {
                 (date.year, date.month, date.day_of_month, date.day_name)
             }
 
@@ -35,7 +35,7 @@ macro_rules! paper_of {
             #[test]
             fn first_days() {
                 assert_eq!(
-                    place(calls::date_of_day(0).unwrap()),
+                    date_and_name(calls::date_of_day(0).unwrap()),
                     (0, Month::Ordinary(11), 1, 1)
                 );
                 assert_eq!(calls::date_of_day(0).unwrap().year_name, 16);
@@ -43,11 +43,11 @@ macro_rules! paper_of {
                 assert_eq!(calls::day_of_date(origin), Ok(0));
                 assert_eq!(calls::move_date(origin, -1), Err(Reason::MoveEnds));
                 assert_eq!(
-                    place(calls::date_of_day(29).unwrap()),
+                    date_and_name(calls::date_of_day(29).unwrap()),
                     (0, Month::Ordinary(12), 1, 30)
                 );
                 assert_eq!(
-                    place(calls::date_of_day(28).unwrap()),
+                    date_and_name(calls::date_of_day(28).unwrap()),
                     (0, Month::Ordinary(11), 29, 29)
                 );
             }
@@ -55,7 +55,7 @@ macro_rules! paper_of {
             #[test]
             fn last_day() {
                 let date = calls::date_of_day(LAST_DAY).unwrap();
-                assert_eq!(place(date), (41_040, Month::Leap(10), 30, 60));
+                assert_eq!(date_and_name(date), (41_040, Month::Leap(10), 30, 60));
                 assert_eq!(calls::day_of_date(date.asked()), Ok(LAST_DAY as u32));
                 assert_eq!(calls::date_of_day(LAST_DAY + 1), Err(Reason::DayCount));
             }
@@ -105,13 +105,13 @@ macro_rules! paper_of {
             #[test]
             fn leap_months_that_close_a_year() {
                 let leap_eleven = calls::date_of_day(9_863).unwrap();
-                assert_eq!(place(leap_eleven), (27, Month::Leap(11), 1, 24));
+                assert_eq!(date_and_name(leap_eleven), (27, Month::Leap(11), 1, 24));
                 assert_eq!(leap_eleven.year_name, 43);
                 let leap_twelve = calls::date_of_day(2_953).unwrap();
-                assert_eq!(place(leap_twelve), (8, Month::Leap(12), 1, 14));
+                assert_eq!(date_and_name(leap_twelve), (8, Month::Leap(12), 1, 14));
                 assert_eq!(calls::day_of_date(leap_twelve.asked()), Ok(2_953));
                 let next = calls::date_of_day(2_982).unwrap();
-                assert_eq!(place(next), (9, Month::Ordinary(1), 1, 43));
+                assert_eq!(date_and_name(next), (9, Month::Ordinary(1), 1, 43));
             }
 
             /// The months of civil years 1 to 41,039 bear 1 to 12 in order, a leap month after its namesake; each month lies in one
@@ -202,7 +202,7 @@ macro_rules! paper_of {
                 let month = calls::month_facts(115_830).unwrap();
                 assert_eq!((month.first_day, month.first_name), (3_420_558, 19));
                 let first = calls::date_of_day(3_420_558).unwrap();
-                assert_eq!(place(first), (9_365, Month::Ordinary(11), 1, 19));
+                assert_eq!(date_and_name(first), (9_365, Month::Ordinary(11), 1, 19));
                 assert_eq!(first.year_name, 21);
                 assert_eq!(calls::year_facts(9_365).unwrap().name, 21);
                 assert_eq!(calls::year_facts(9_366).unwrap().name, 22);
@@ -213,7 +213,10 @@ macro_rules! paper_of {
                 );
                 let solstice = u64::from(calls::term(9_366, 0).unwrap().day);
                 assert_eq!(
-                    (solstice, place(calls::date_of_day(solstice).unwrap())),
+                    (
+                        solstice,
+                        date_and_name(calls::date_of_day(solstice).unwrap())
+                    ),
                     (3_420_566, (9_365, Month::Ordinary(11), 9, 27))
                 );
             }
@@ -275,7 +278,7 @@ macro_rules! paper_of {
             #[test]
             fn a_bu_later() {
                 let date = calls::move_date(asked(0, Month::Ordinary(11), 1), 27_759).unwrap();
-                assert_eq!(place(date), (76, Month::Ordinary(11), 1, 40));
+                assert_eq!(date_and_name(date), (76, Month::Ordinary(11), 1, 40));
                 assert_eq!(date.year_name, 32);
                 assert_eq!(card(date), (1, 2, 1, false));
             }
@@ -288,11 +291,11 @@ macro_rules! paper_of {
                 assert_eq!(shown(0), (1, 1, 1, false));
                 // Leap 10 of civil year 76 closes solstice year 76; 23 x 940, divided by 135, leaves 20.
                 let last_of_bu = calls::date_of_day(27_758).unwrap();
-                assert_eq!(place(last_of_bu), (76, Month::Leap(10), 30, 39));
+                assert_eq!(date_and_name(last_of_bu), (76, Month::Leap(10), 30, 39));
                 assert_eq!(card(last_of_bu), (1, 1, 76, true));
                 // Month 11 of the same civil year opens solstice year 77.
                 let head_of_bu = calls::date_of_day(27_759).unwrap();
-                assert_eq!(place(head_of_bu), (76, Month::Ordinary(11), 1, 40));
+                assert_eq!(date_and_name(head_of_bu), (76, Month::Ordinary(11), 1, 40));
                 assert_eq!(
                     (head_of_bu.year_name, card(head_of_bu)),
                     (32, (1, 2, 1, false))

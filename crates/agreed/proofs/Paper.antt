@@ -8,7 +8,7 @@ use mathlib.Core.Bool.{Bool, true, false, false≢true}
 use Rattle.rule.specs.Counts.{SolsticeYearInRange, DayInRange, MonthInRange, ji, bu, yearInBu}
 use Rattle.rule.specs.Rule.{InMonth, termDay, yearTerm, midTermDay, InSolsticeYear, leap, monthNumber, marked, numberOf, solsticeYearOf, InCivilYear, eclipse}
 use Rattle.rule.specs.Reasons.{is, within}
-use Rattle.rule.specs.Paper.{MidTerm, NoMidTerm, Numbered, IsMonth, IsPlace}
+use Rattle.rule.specs.Paper.{MidTerm, NoMidTerm, Numbered, IsMonth, IsPlace, EclipseMonth}
 use Rattle.rule.specs.declared.Month.{Month}
 use Rattle.rule.specs.declared.Month.the-variants.{Ordinary, Leap}
 use Rattle.rule.proofs.Answers.{within-true, at-most, same-test}
@@ -189,7 +189,7 @@ date-told d r = (λ p. there (Dates.date-of-day d r .0 p), λ a. Dates.date-of-d
           n = i .n;
           on-its-days = i .on-its-days;
           its-month = civil-told (r .year) (r .month) (i .n) .0 (i .of-its-year, i .its-month);
-          its-rest = i .its-rest;
+          besides = i .besides;
         }
 
     back : DateByTerms termBefore d r → DayInRange d × IsDate d r
@@ -202,7 +202,7 @@ date-told d r = (λ p. there (Dates.date-of-day d r .0 p), λ a. Dates.date-of-d
             on-its-days = a .on-its-days;
             of-its-year = in-year;
             its-month = month;
-            its-rest = a .its-rest;
+            besides = a .besides;
           },
         )
 
@@ -259,7 +259,8 @@ place-and-mark d r p =
       place = λ a q. (solsticeYear s, solstice-given s (its-range s n (i .of-its-year .0) own) a q, sym (its .0), sym (its .1), sym (its .2));
       mark = λ m a on q.
           let e : n ≡ m = sym (of-day n d .0 (i .on-its-days)) ∙ of-day m d .0 on in
-          (monthFacts m, month-given m (subst MonthInRange e (i .of-its-year .0)) a q, same-test (eclipse m) (r .eclipse) (eclipse-rule m) (subst (λ k. (r .eclipse ≡ true) ↔ (23 * (k + 1) % 135 < 23)) e (i .its-rest .its-eclipse)));
+          let said = subst (λ k. (r .eclipse ≡ true) ↔ EclipseMonth k) e (i .besides .its-eclipse) in
+          (monthFacts m, month-given m (subst MonthInRange e (i .of-its-year .0)) a q, same-test (eclipse m) (r .eclipse) (eclipse-rule m) said);
     }
   where
     i : IsDate d r
@@ -274,8 +275,8 @@ place-and-mark d r p =
     own : InSolsticeYear s n
     own = solstice-is (r .year) n (r .month) (i .of-its-year) (i .its-month)
 
-    h : HasPlace n r
-    h = i .its-rest .its-place
+    h : HasPlace n (r .ji) (r .bu) (r .«year_in_bu»)
+    h = i .besides .its-place
 
     its : (r .ji ≡ ji s) × (r .bu ≡ bu s) × (r .«year_in_bu» ≡ yearInBu s)
     its =

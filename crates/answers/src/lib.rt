@@ -308,7 +308,7 @@ pub fn answer_pair(planet: u32, out: &mut [u8], at: usize) -> usize
     }
 }
 
-// What a card shows besides: ji, bu, year in the bu and the eclipse mark, each after a space.
+// What the card shows of a date: ji, bu, year in the bu and the eclipse mark, each after a space.
 fn put_card(d: Date, out: &mut [u8], at: usize) -> usize
     requires { ⌜ at + 35 ≤ length (now out) ⌝ }
     ensures { λ r. ⌜ Put 35 (now (out .entry)) at (32 ∷ joined (fieldsOfCard d)) (now (out .exit)) r ⌝ }
@@ -319,7 +319,7 @@ fn put_card(d: Date, out: &mut [u8], at: usize) -> usize
     fields::put_mark(d.eclipse, 69, out, to3)
 }
 
-// A `DAY` line: the listing's fields, then the month's length and the year's name, then what a card shows besides.
+// A `DAY` line: the listing's fields, then the month's length and the year's name, then what the card shows.
 fn put_day_line(day: u32, d: Date, out: &mut [u8], at: usize) -> usize
     requires { ⌜ at + 118 ≤ length (now out) ⌝ }
     ensures { λ r. ⌜ Put 118 (now (out .entry)) at (dayLineOf day d) (now (out .exit)) r ⌝ }

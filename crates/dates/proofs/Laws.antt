@@ -69,7 +69,7 @@ use Rattle.dates.specs.Dates.{
   dayOfNamed,
   dayOfDate,
 }
-use Rattle.dates.specs.Paper.{HasPlace, RestOfDate, IsDate, IsDayOf, AsksFor, AgreesWithItsDay, NotInYear}
+use Rattle.dates.specs.Paper.{HasPlace, Besides, IsDate, IsDayOf, AsksFor, AgreesWith, NotInYear}
 use Rattle.dates.proofs.Named
 
 is-date : (d : ℕ) → DayInRange d → IsDate d (dateOf d)
@@ -80,7 +80,7 @@ is-date d h =
       on-its-days = (Months.of-day-low d, Months.of-day-high d);
       of-its-year = of-civil (civilYearOfMonth (monthOfDay d)) (monthOfDay d) .1 (Months.of-day-range d .0 h, refl);
       its-month = is-month (monthOfDay d);
-      its-rest = record {
+      besides = record {
         its-day = omega (arith, Months.of-day-low d);
         its-length = sym (Months.start-next (monthOfDay d));
         its-day-name = refl;
@@ -115,10 +115,10 @@ date-only d r a =
     n : ℕ
     n = a .n
 
-    rest : RestOfDate n d r
-    rest = a .its-rest
+    rest : Besides n d r
+    rest = a .besides
 
-    its : HasPlace n r
+    its : HasPlace n (r .ji) (r .bu) (r .«year_in_bu»)
     its = rest .its-place
 
     same-year : r .year ≡ civilYearOfMonth n
@@ -248,13 +248,13 @@ back-to-day d h =
       of-the-year = a .of-its-year;
       the-month = subst (IsMonth (a .n)) (sym (Leaps.month-again (dateOf d .month))) (a .its-month);
       the-day =
-          (omega (arith, a .its-rest .its-day, a .on-its-days .0), omega (arith, a .its-rest .its-day, a .on-its-days .1, Months.start-next (a .n)));
-      counted = a .its-rest .its-day;
+          (omega (arith, a .besides .its-day, a .on-its-days .0), omega (arith, a .besides .its-day, a .on-its-days .1, Months.start-next (a .n)));
+      counted = a .besides .its-day;
     }
 
--- so the date of a day agrees with its own day
-pub agrees : (d : ℕ) → DayInRange d → AgreesWithItsDay (dateOf d)
-agrees d h = record { day = d; its-own = sym (back-to-day d h); its-date = is-date d h }
+-- so the date of a day agrees with it
+pub agrees : (d : ℕ) → DayInRange d → AgreesWith d (dateOf d)
+agrees d h = record { its-own = sym (back-to-day d h); its-date = is-date d h }
 
 -- from a date to its day and back: the day is in range, and its date the one asked for
 pub found-date : (y k : ℕ) (l : Bool) (m d : ℕ) → dayOfDate y k l m ≡ is d → DayInRange d × AsksFor y k l m (dateOf d)

@@ -8,7 +8,8 @@ ghost use Rattle.dates.specs.Promises.{saidDay, DateOfDay, DayOfDate};
 use rule::Month;
 use rule::Reason;
 
-// A date of the rule. Its year is the civil one; ji, bu and year in the bu are the place of the solstice year in which the day lies.
+// A date of the rule. Its year is the civil one; ji, bu and year in the bu are the place of the solstice year in which the day lies; `eclipse`
+// is whether its month is an eclipse month.
 pub struct Date {
     pub month: Month,
     pub year: u16,
@@ -34,7 +35,7 @@ pub enum DayTold {
     Refused(Reason),
 }
 
-// The date of a day in range. Civil and solstice year, number and mark are those of the last mid-term before the month's end: leap where that
+// The date of a day in range. Civil and solstice year, number and leap mark are those of the last mid-term before the month's end: leap where that
 // is before the month's start. Nothing else makes a date.
 pub fn date_at(day: u32) -> Date
     requires { ⌜ DayInRange day ⌝ }

@@ -8,7 +8,7 @@ use lib.Dec.{leb}
 use Rattle.rule.specs.Counts.{SolsticeYearInRange, CivilYearInRange, MonthInRange, elapsed, dayName, yearName}
 use Rattle.rule.specs.Rule.{monthStart, solsticeFirstMonth, InCivilYear}
 use Rattle.rule.specs.Reasons.{Answer, is, guard, within, andThen}
-use Rattle.rule.specs.Paper.{IsPlace, IsTerm, NoMidTerm, IsMonth}
+use Rattle.rule.specs.Paper.{IsPlace, IsTerm, NoMidTerm, IsMonth, EclipseMonth}
 use Rattle.rule.specs.declared.Month.the-variants.{Ordinary, Leap}
 use Rattle.rule.specs.declared.Quarter.{Quarter}
 use Rattle.rule.specs.declared.Term.{Term}
@@ -74,7 +74,7 @@ Year-facts = (y : ℕ) (f : YearFacts) → YearOwnFacts y (Year'.Is f) ↔ (Civi
 
 -- what the facts of month n are: ordinary or leap, with its number; "Month n starts on day 27,759 × n divided by 940, whole part; the
 -- rest is its small remainder. Its length runs to the next start. It is 30 exactly when the remainder is 441 or more, else 29."; the
--- name of its first day; "an eclipse month exactly when 23 × (n + 1), divided by 135, leaves less than 23"
+-- name of its first day; whether it is an eclipse month
 pub record IsMonthFacts (n : ℕ) (f : MonthFacts) : Type 0 where
   pub its-month : IsMonth n (f .month)
   pub starts : 940 * f .«first_day» + f .«small_remainder» ≡ 27759 * n
@@ -83,7 +83,7 @@ pub record IsMonthFacts (n : ℕ) (f : MonthFacts) : Type 0 where
   pub thirty : (f .«month_length» ≡ 30) ↔ (441 ≤ f .«small_remainder»)
   pub twenty-nine : (f .«month_length» ≡ 29) ↔ (f .«small_remainder» < 441)
   pub its-name : f .«first_name» ≡ dayName (f .«first_day»)
-  pub its-eclipse : (f .eclipse ≡ true) ↔ (23 * (n + 1) % 135 < 23)
+  pub its-eclipse : (f .eclipse ≡ true) ↔ EclipseMonth n
 
 abbrev pub Month-by-count : Type 0
 Month-by-count = (n : ℕ) (f : MonthFacts) → MonthByCount n (Month'.Is f) ↔ (MonthInRange n × IsMonthFacts n f)

@@ -108,7 +108,7 @@ pub fn put_year(year: u16, out: &mut [u8], at: usize) -> usize
     put_months(f.first_month, f.months as u32, out, to2)
 }
 
-// The seven fields of a `DAY` line.
+// The seven fields of the listing's `DAY` line.
 pub fn put_day_fields(day: u32, d: Date, out: &mut [u8], at: usize) -> usize
     requires { ⌜ at + 60 ≤ length (now out) ⌝ }
     ensures { λ r. ⌜ Put 60 (now (out .entry)) at (joined (fieldsOfDay day d)) (now (out .exit)) r ⌝ }
@@ -122,7 +122,7 @@ pub fn put_day_fields(day: u32, d: Date, out: &mut [u8], at: usize) -> usize
     fields::put_next(d.day_name as u32, out, to5)
 }
 
-// A `DAY` line.
+// The listing's `DAY` line.
 pub fn put_day(day: u32, out: &mut [u8], at: usize) -> usize
     requires { ⌜ DayInRange day × (at + 61 ≤ length (now out)) ⌝ }
     ensures { λ r. ⌜ Put 61 (now (out .entry)) at (dayItem day) (now (out .exit)) r ⌝ }
@@ -188,7 +188,7 @@ pub fn print_month(n: u32, out: &mut [u8]) -> HowMany
     hand_over(&space[..to], out)
 }
 
-// A `DAY` line into a lent buffer: reason 6, then 12.
+// The listing's `DAY` line into a lent buffer: reason 6, then 12.
 pub fn print_day(day: u32, out: &mut [u8]) -> HowMany
     ensures { λ r. ⌜ PrintDay day (now (out .entry)) r (now (out .exit)) ⌝ }
 {

@@ -26,7 +26,7 @@ use Rattle.dates.specs.Dates.{dateIn, dateOf, dayOfDate}
 use Rattle.dates.specs.Promises.{saidDate}
 use Rattle.dates.proofs.Cases
 use Rattle.dates.proofs.Days
-use Rattle.dates.specs.Paper.{AgreesWithItsDay, firstOfBu2}
+use Rattle.dates.specs.Paper.{AgreesWith}
 use Rattle.dates.proofs.Laws.{ownDay, back-to-day, agrees}
 use Rattle.dates.proofs.Paper.{dated-once}
 use Rattle.moves.specs.Moves.{landed, moved}
@@ -247,7 +247,7 @@ eclipse-excepted a b p q =
 pub moved-agrees : Paper.Moved-agrees
 moved-agrees y k l m n r p =
     let at : Landed (pos (answered y k l m n r (sym p) .0) +ℤ n) r = answered y k l m n r (sym p) .2 in
-    subst AgreesWithItsDay (sym (at .date)) (agrees (at .e) (at .inside))
+    (at .e, subst (AgreesWith (at .e)) (sym (at .date)) (agrees (at .e) (at .inside)))
 
 pub unique-move : Paper.Unique-move
 unique-move y k l m n a b p q = dated-once a b (p ∙ sym q)
@@ -265,12 +265,15 @@ wrong-moves =
       wrapping-on = λ r h.
           given-not (moved 41040 10 true 30 (pos 1)) r 8 (sym h)
           (Landing.moved-found 41040 10 true 30 (pos 1) 14989859 Cases.last-date ∙ Landing.lands-out 14989860 (omega arith));
-      ji-with-every-bu = λ r h g. omega (arith, ap (λ (s : Date). s .ji) (a-bu-on r h), g);
-      place-of-the-civil-year = λ r h g. omega (arith, ap (λ (s : Date). s .bu) (a-bu-on r h), g);
+      ji-left = λ r h g. omega (arith, its-ji 1444 11 false 1 527421 Cases.first-of-bu-20 (omega arith) r h, Cases.ji-555180, g);
+      ji-not-round = λ r h g. omega (arith, its-ji 4560 10 true 30 1665539 Cases.last-of-a-yuan (omega arith) r h, Cases.ji-1693298, g);
     }
   where
     by : (n : ℕ) → DayInRange (0 + n) → moved 0 11 false 1 (pos n) ≡ is (dateOf (0 + n))
     by n h = Landing.moved-found 0 11 false 1 (pos n) 0 Cases.first-date ∙ Landing.lands (0 + n) h
 
-    a-bu-on : (r : Date) → is r ≡ moved 0 11 false 1 (pos 27759) → r ≡ firstOfBu2
-    a-bu-on r h = let e : is r ≡ is (dateOf 27759) = h ∙ by 27759 (omega arith) in let f : r ≡ dateOf 27759 = cc in f ∙ Cases.date-27759
+    its-ji : (y k : ℕ) (l : Bool) (m d : ℕ) → dayOfDate y k l m ≡ is d → d ≤ 14962100 → (r : Date) → is r ≡ moved y k l m (pos 27759) → r .ji ≡ dateOf (d + 27759) .ji
+    its-ji y k l m d e i r h =
+        let f : is r ≡ is (dateOf (d + 27759)) = h ∙ Landing.moved-found y k l m (pos 27759) d e ∙ Landing.lands (d + 27759) (omega arith) in
+        let g : r ≡ dateOf (d + 27759) = cc in
+        ap (λ (s : Date). s .ji) g

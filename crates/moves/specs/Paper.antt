@@ -1,4 +1,4 @@
--- Demand 3, as statements. proofs/Paper.antt proves each under the same name in small letters.
+-- Demand 3, with what W8 adds to it, as statements. proofs/Paper.antt proves each under the same name in small letters.
 -- Assumes nothing.
 use Prim.Native.Nat.{ℕ, _+_}
 use mathlib.Core.Path.{_≡_}
@@ -16,7 +16,7 @@ use Rattle.dates.specs.declared.Dated.{Dated}
 use Rattle.dates.specs.declared.Dated.the-variants as Dated'
 use Rattle.dates.specs.declared.DayTold.the-variants as DayTold'
 use Rattle.dates.specs.Promises.{DateOfDay, DayOfDate}
-use Rattle.dates.specs.Paper.{AgreesWithItsDay}
+use Rattle.dates.specs.Paper.{AgreesWith}
 use Rattle.moves.specs.Moves.{MoveDate}
 
 -- "For a date in range, a move by n days gives demand 2's date for the day n later, and is refused only if that day is out of
@@ -71,7 +71,7 @@ Law-of-76 =
     (y k : ℕ) (l : Bool) (m : ℕ) (r s : Date) →
     MoveDate y k l m (pos 0) (Dated'.Is r) → MoveDate y k l m (pos 27759) (Dated'.Is s) → SeventySixLater r s
 
--- "the eclipse mark is excepted": year 76, leap 10, day 30 is in an eclipse month, and the date 27,759 days later is in none
+-- one date in an eclipse month, and another that is in none
 pub record Excepted (a b : Dated) : Type 0 where
   pub r : Date
   pub s : Date
@@ -80,6 +80,7 @@ pub record Excepted (a b : Dated) : Type 0 where
   pub in-one : r .eclipse ≡ true
   pub in-none : s .eclipse ≡ false
 
+-- "the eclipse mark is excepted": such are year 76, leap 10, day 30, and the date 27,759 days later
 abbrev pub Eclipse-excepted : Type 0
 Eclipse-excepted = (a b : Dated) → MoveDate 76 10 true 30 (pos 0) a → MoveDate 76 10 true 30 (pos 27759) b → Excepted a b
 
@@ -91,7 +92,7 @@ Eclipse-mark-kept =
 
 -- "every record handed out anywhere must agree with its own day" (W8)
 abbrev pub Moved-agrees : Type 0
-Moved-agrees = (y k : ℕ) (l : Bool) (m : ℕ) (n : ℤ) (r : Date) → MoveDate y k l m n (Dated'.Is r) → AgreesWithItsDay r
+Moved-agrees = (y k : ℕ) (l : Bool) (m : ℕ) (n : ℤ) (r : Date) → MoveDate y k l m n (Dated'.Is r) → (d : ℕ) × AgreesWith d r
 
 -- the promise leaves one answer
 abbrev pub Unique-move : Type 0
@@ -99,12 +100,12 @@ Unique-move = (y k : ℕ) (l : Bool) (m : ℕ) (n : ℤ) (a b : Dated) → MoveD
 
 -- wrong versions, each shut out at a named input: one that refuses all; one that never moves, a move of the first date by 0 and
 -- by 27,759 having one answer; one that wraps: "Day −1 does not exist: moving there is reason 8", nor does a day after the last, whose
--- date is year 41,040, leap 10, day 30; one that puts the ji on with every bu, or gives a date the place of its civil year: 27,759 days after
--- the first date the ji is not yet 2, and the bu, in civil year 76, no longer 1
+-- date is year 41,040, leap 10, day 30; one that leaves the ji where the bu comes round, from year 1,444, month 11, which opens bu 20 of ji 1;
+-- one that puts it on to 4, from year 4,560, leap 10, with which ji 3 ends
 pub record Wrong-moves : Type 0 where
   pub refusing-all : (why : Reason) → MoveDate 0 11 false 1 (pos 0) (Dated'.Refused why) → ⊥
   pub never-moving : (a : Dated) → MoveDate 0 11 false 1 (pos 0) a → MoveDate 0 11 false 1 (pos 27759) a → ⊥
   pub wrapping-back : (r : Date) → MoveDate 0 11 false 1 (negsuc 0) (Dated'.Is r) → ⊥
   pub wrapping-on : (r : Date) → MoveDate 41040 10 true 30 (pos 1) (Dated'.Is r) → ⊥
-  pub ji-with-every-bu : (r : Date) → MoveDate 0 11 false 1 (pos 27759) (Dated'.Is r) → r .ji ≡ 2 → ⊥
-  pub place-of-the-civil-year : (r : Date) → MoveDate 0 11 false 1 (pos 27759) (Dated'.Is r) → r .bu ≡ 1 → ⊥
+  pub ji-left : (r : Date) → MoveDate 1444 11 false 1 (pos 27759) (Dated'.Is r) → r .ji ≡ 1 → ⊥
+  pub ji-not-round : (r : Date) → MoveDate 4560 10 true 30 (pos 27759) (Dated'.Is r) → r .ji ≡ 4 → ⊥

@@ -123,7 +123,7 @@ use Rattle.offered.specs.Paper.{CAgrees}
 use Rattle.offered.proofs.Sound as Sound
 use Rattle.offered.proofs.Sound.{Sound, given, numbered, none-is-0}
 use Rattle.offered.proofs.Texts.{text-said, unwritten, year-11, line-134, month-134, day-0}
-use Rattle.dates.specs.Paper.{AgreesWithItsDay}
+use Rattle.dates.specs.Paper.{AgreesWith}
 use Rattle.dates.proofs.Computing.{dates-computed}
 use Rattle.dates.proofs.Laws.{found-date}
 use Rattle.dates.proofs.Paper as Dates
@@ -443,21 +443,27 @@ c-term-as-before y k r p =
     day-of (refused-with n m) = refl
 
 -- what agrees with its own day agrees laid flat
-agrees-flat : (x : Date) (r : CDate) → AgreesWithItsDay x → r ≡ givenDate x → CAgrees r
-agrees-flat x r a e =
-    subst CAgrees (sym e)
+agrees-flat : (d : ℕ) (x : Date) (r : CDate) → AgreesWith d x → r ≡ givenDate x → CAgrees d r
+agrees-flat d x r a e =
+    let i = a .its-date in
+    subst (CAgrees d) (sym e)
     record {
-      day = a .day;
       its-own = ap flatDay (a .its-own);
-      its-date = ap flatDate (Dates.date-of-day (a .day) x .1 (found-date _ _ _ _ (a .day) (sym (a .its-own)) .0, a .its-date));
+      its-date = ap flatDate (Dates.date-of-day d x .1 (found-date _ _ _ _ d (sym (a .its-own)) .0, i));
+      n = i .n;
+      on-its-days = i .on-its-days;
+      its-place = i .besides .its-place;
+      its-eclipse = i .besides .its-eclipse;
     }
 
 pub c-dates-agree : Paper.C-dates-agree
 c-dates-agree =
     record {
-      date-of-day = λ d r p e. let (x, t, f) = reason-0-iff-answered .date-of-day d r p .0 e in agrees-flat x r (Dates.date-agrees d x t) f;
+      date-of-day = λ d r p e. let (x, t, f) = reason-0-iff-answered .date-of-day d r p .0 e in agrees-flat d x r (Dates.date-agrees d x t) f;
       move-date = λ y k l m n r p e.
-          let (x, t, f) = reason-0-iff-answered .move-date y k l m n r p .0 e in agrees-flat x r (Moves.moved-agrees y k l m n x t) f;
+          let (x, t, f) = reason-0-iff-answered .move-date y k l m n r p .0 e in
+          let (d, a) = Moves.moved-agrees y k l m n x t in
+          (d, agrees-flat d x r a f);
     }
 
 -- an answer that is given is no refusal, and no other is said alike

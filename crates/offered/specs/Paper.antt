@@ -7,8 +7,9 @@ use mathlib.Core.Bool.{Bool, true, false}
 use mathlib.Core.List.{List, [], _∷_}
 use lib.IntN.{ℤ, pos}
 use lib.ListN.{length, getD, replicate}
+use Rattle.rule.specs.Rule.{InMonth}
 use Rattle.rule.specs.Reasons.{is}
-use Rattle.rule.specs.Paper.{IsTerm}
+use Rattle.rule.specs.Paper.{IsTerm, EclipseMonth}
 use Rattle.rule.specs.declared.Quarter.{Quarter}
 use Rattle.rule.specs.declared.Term.{Term}
 use Rattle.dates.specs.declared.Date.{Date}
@@ -17,6 +18,7 @@ use Rattle.dates.specs.declared.Dated.the-variants as Dated'
 use Rattle.dates.specs.declared.DayTold.{DayTold}
 use Rattle.dates.specs.declared.DayTold.the-variants as DayTold'
 use Rattle.dates.specs.Promises.{saidDate, saidDay, DateOfDay, DayOfDate}
+use Rattle.dates.specs.Paper.{HasPlace}
 use Rattle.moves.specs.Moves.{MoveDate}
 use Rattle.facts.specs.declared.SolsticeYear.{SolsticeYear}
 use Rattle.facts.specs.declared.SolsticeYearTold.{SolsticeYearTold}
@@ -251,16 +253,20 @@ C-term = (y k : ℕ) (r : CTerm) → CTermOf y k r → r .reason ≡ 0 → IsTer
 abbrev pub C-term-as-before : Type 0
 C-term-as-before = (y k : ℕ) (r : CTerm) → CTermOf y k r → flatDay (termBefore y k) ≡ record { reason = r .reason; day = r .day }
 
--- W8: "every record handed out anywhere must agree with its own day": the four things that a date is asked for by lead to a day, and the
--- date of that day is the record itself
-pub record CAgrees (r : CDate) : Type 0 where
-  pub day : ℕ
-  pub its-own : CDayOfDate (r .year) (r .number) (r .leap) (r .«day_of_month») (givenDay day)
-  pub its-date : CDateOfDay day r
+-- W8: "every record handed out anywhere must agree with its own day": the four things that a date is asked for by lead to day d, and the date
+-- of that day is the record itself; and its own four more are the place of its month's solstice year and whether that month, n, is an eclipse
+-- month
+pub record CAgrees (d : ℕ) (r : CDate) : Type 0 where
+  pub its-own : CDayOfDate (r .year) (r .number) (r .leap) (r .«day_of_month») (givenDay d)
+  pub its-date : CDateOfDay d r
+  pub n : ℕ
+  pub on-its-days : InMonth n d
+  pub its-place : HasPlace n (r .ji) (r .bu) (r .«year_in_bu»)
+  pub its-eclipse : (r .eclipse ≡ true) ↔ EclipseMonth n
 
 pub record C-dates-agree : Type 0 where
-  pub date-of-day : (d : ℕ) (r : CDate) → CDateOfDay d r → r .reason ≡ 0 → CAgrees r
-  pub move-date : (y k : ℕ) (l : Bool) (m : ℕ) (n : ℤ) (r : CDate) → CMoveDate y k l m n r → r .reason ≡ 0 → CAgrees r
+  pub date-of-day : (d : ℕ) (r : CDate) → CDateOfDay d r → r .reason ≡ 0 → CAgrees d r
+  pub move-date : (y k : ℕ) (l : Bool) (m : ℕ) (n : ℤ) (r : CDate) → CMoveDate y k l m n r → r .reason ≡ 0 → (d : ℕ) × CAgrees d r
 
 -- reason 0 says that the call answers, and nothing else does, since the paper's reasons start at 1; the struct is then that answer
 abbrev pub ZeroPrint : (ℕ → List ℕ → CLength → List ℕ → Type 0) → (ℕ → List ℕ → HowMany → List ℕ → Type 0) → Type 0

@@ -3,7 +3,7 @@
 // the calls are the crate `capi`. So an edit of a definition is refused without checking those again.
 
 // A date. `number` is the month's, `leap` whether it is the leap month of that number, `year` the civil one; ji, bu and year in the bu are
-// the place of the solstice year in which the day lies.
+// the place of the solstice year in which the day lies, `eclipse` whether the month is an eclipse month.
 #[repr(C)]
 pub struct CDate {
     pub reason: u32,

@@ -123,7 +123,7 @@ pairLine r = lined (word "PAIR" ∷ decimal (r .years) ∷ decimal (r .conjuncti
 unfoldable pub pairText : ℕ → List ℕ
 pairText p = told pairLine (pairAt p)
 
--- what a card shows besides (W8): `ji bu year-in-bu eclipse`, the mark "`E` or `-`"
+-- what the card now shows (W8): `ji bu year-in-bu eclipse`, the mark "`E` or `-`"
 abbrev pub fieldsOfCard : Date → List (List ℕ)
 fieldsOfCard r = decimal (r .ji) ∷ decimal (r .bu) ∷ decimal (r .«year_in_bu») ∷ (mark (r .eclipse) letterE ∷ []) ∷ []
 

@@ -216,8 +216,8 @@ fn repeat(times: u64, mut call: impl FnMut() -> u64) -> u64 {
     (0..times).fold(0, |sum, _| sum.wrapping_add(call()))
 }
 
-/// One number out of every field of a date, each in its place, so that two that are exchanged show. (A plain sum the compiler would read by
-/// 16 bytes at a time, for which the machine waits until the narrower writes of the call are done.)
+/// One number out of every field of a date, turned by three bits before each comes in, so that two that are exchanged show. (For a
+/// plain sum the compiler reads 16 bytes at a time, and the machine waits until capi's narrower writes are done.)
 fn sum_of_date(date: Date) -> u64 {
     let fields = [
         date.month.number(),
@@ -231,7 +231,8 @@ fn sum_of_date(date: Date) -> u64 {
         date.year_in_bu,
         u32::from(date.eclipse),
     ];
-    u64::from(fields.iter().fold(date.year, |sum, field| sum.rotate_left(3) ^ field))
+    let turned = |sum: u32, field: &u32| sum.rotate_left(3) ^ field;
+    u64::from(fields.iter().fold(date.year, turned))
 }
 
 /// A search, of either side.

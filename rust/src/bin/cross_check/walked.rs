@@ -194,11 +194,11 @@ fn one_piece(what: &'static str, compare: fn(&mut Tally)) -> Row {
 /// The days of a month and their dates.
 fn dates_of(month: Walked) -> impl Iterator<Item = (u64, Date)> {
     let mut day_name = month.first_name;
-    (0..month.length).map(move |place| {
+    (0..month.length).map(move |passed| {
         let date = Date {
             year: month.civil_year as u32,
             month: Month::new(month.number, month.leap),
-            day_of_month: place as u32 + 1,
+            day_of_month: passed as u32 + 1,
             month_length: month.length as u32,
             day_name,
             year_name: month.year_name,
@@ -208,7 +208,7 @@ fn dates_of(month: Walked) -> impl Iterator<Item = (u64, Date)> {
             eclipse: month.eclipse,
         };
         day_name = name_after(day_name, 1);
-        (month.first_day + place, date)
+        (month.first_day + passed, date)
     })
 }
 
