@@ -55,7 +55,8 @@ pub record DateByTerms (term : ℕ → ℕ → Answer ℕ) (d : ℕ) (r : Date) 
   pub n : ℕ
   pub on-its-days : InMonth n d
   pub its-month : MonthByTerms term (solsticeYearOf (r .year) (numberOf (r .month))) n (r .month)
-  pub besides : Besides n d r
+  pub besides :
+      Besides n d (r .year) (r .«day_of_month») (r .«month_length») (r .«day_name») (r .«year_name») (r .ji) (r .bu) (r .«year_in_bu») (r .eclipse)
 
 -- the day of a date, by the mid-terms: of the month of that civil year, number and mark there is a day m
 pub record DayByTerms (term : ℕ → ℕ → Answer ℕ) (y k : ℕ) (l : Bool) (m d : ℕ) : Type 0 where
@@ -80,8 +81,8 @@ pub record DatesBy (term : ℕ → ℕ → Answer ℕ) : Type 0 where
       DayOfDate y k l m (DayTold'.Refused NoThirtiethDay)
       ↔ ((n : ℕ) × MonthByTerms term (solsticeYearOf y k) n (marked l k) × (monthLength n ≡ 29) × (m ≡ 30))
 
--- dates are as before in all that a term decides: by what was answered as a term's day before W2 (starts, lengths, names, place and eclipse mark are rule's own
--- definitions, which ask for no term)
+-- dates are as before in all that a term decides: by what was answered as a term's day before W2 (starts, lengths, names, place and eclipse
+-- mark are rule's own definitions, which ask for no term)
 abbrev pub Dates-as-before : Type 0
 Dates-as-before = DatesBy termBefore
 

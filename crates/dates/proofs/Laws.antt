@@ -69,7 +69,7 @@ use Rattle.dates.specs.Dates.{
   dayOfNamed,
   dayOfDate,
 }
-use Rattle.dates.specs.Paper.{HasPlace, Besides, IsDate, IsDayOf, AsksFor, AgreesWith, NotInYear}
+use Rattle.dates.specs.Paper.{HasPlace, IsDate, IsDayOf, AsksFor, AgreesWith, NotInYear}
 use Rattle.dates.proofs.Named
 
 is-date : (d : ℕ) → DayInRange d → IsDate d (dateOf d)
@@ -103,23 +103,20 @@ date-only d r a =
       month = sym (month-is n (r .month) (a .its-month)) i;
       «day_of_month» = same-day i;
       «month_length» = same-length i;
-      «day_name» = rest .its-day-name i;
-      «year_name» = (rest .its-year-name ∙ ap yearName same-year) i;
+      «day_name» = a .besides .its-day-name i;
+      «year_name» = (a .besides .its-year-name ∙ ap yearName same-year) i;
       ji = (only-ji (its .y) (its .w) _ _ _ (its .place) ∙ ap ji same-solstice-year) i;
       bu = (only-bu (its .y) (its .w) _ _ _ (its .place) ∙ ap bu same-solstice-year) i;
       «year_in_bu» = (only-year (its .y) (its .w) _ _ _ (its .place) ∙ ap yearInBu same-solstice-year) i;
-      eclipse = same-test (r .eclipse) (eclipse n) (rest .its-eclipse) (eclipse-rule n) i;
+      eclipse = same-test (r .eclipse) (eclipse n) (a .besides .its-eclipse) (eclipse-rule n) i;
     })
     ∙ ap (λ (m : ℕ). dateIn m d) (sym (Months.of-day n d .0 (a .on-its-days)))
   where
     n : ℕ
     n = a .n
 
-    rest : Besides n d r
-    rest = a .besides
-
     its : HasPlace n (r .ji) (r .bu) (r .«year_in_bu»)
-    its = rest .its-place
+    its = a .besides .its-place
 
     same-year : r .year ≡ civilYearOfMonth n
     same-year = sym (of-civil (r .year) n .0 (a .of-its-year) .1)
@@ -128,10 +125,10 @@ date-only d r a =
     same-solstice-year = sym (of-month (its .y) n .0 (its .solstice-year))
 
     same-day : r .«day_of_month» ≡ d - monthStart n + 1
-    same-day = omega (arith, rest .its-day, a .on-its-days .0)
+    same-day = omega (arith, a .besides .its-day, a .on-its-days .0)
 
     same-length : r .«month_length» ≡ monthLength n
-    same-length = omega (arith, rest .its-length, Months.start-next n)
+    same-length = omega (arith, a .besides .its-length, Months.start-next n)
 
 pub date-is : (d : ℕ) (r : Date) → DayInRange d → (dateOf d ≡ r) ↔ IsDate d r
 date-is d r h = exactly (IsDate d) (dateOf d) (is-date d h) (date-only d) r

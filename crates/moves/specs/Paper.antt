@@ -71,7 +71,7 @@ Law-of-76 =
     (y k : ℕ) (l : Bool) (m : ℕ) (r s : Date) →
     MoveDate y k l m (pos 0) (Dated'.Is r) → MoveDate y k l m (pos 27759) (Dated'.Is s) → SeventySixLater r s
 
--- one date in an eclipse month, and another that is in none
+-- one date with the eclipse mark, and another without
 pub record Excepted (a b : Dated) : Type 0 where
   pub r : Date
   pub s : Date

@@ -452,8 +452,7 @@ agrees-flat d x r a e =
       its-date = ap flatDate (Dates.date-of-day d x .1 (found-date _ _ _ _ d (sym (a .its-own)) .0, i));
       n = i .n;
       on-its-days = i .on-its-days;
-      its-place = i .besides .its-place;
-      its-eclipse = i .besides .its-eclipse;
+      besides = i .besides;
     }
 
 pub c-dates-agree : Paper.C-dates-agree

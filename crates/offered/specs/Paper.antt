@@ -9,7 +9,7 @@ use lib.IntN.{ℤ, pos}
 use lib.ListN.{length, getD, replicate}
 use Rattle.rule.specs.Rule.{InMonth}
 use Rattle.rule.specs.Reasons.{is}
-use Rattle.rule.specs.Paper.{IsTerm, EclipseMonth}
+use Rattle.rule.specs.Paper.{IsTerm}
 use Rattle.rule.specs.declared.Quarter.{Quarter}
 use Rattle.rule.specs.declared.Term.{Term}
 use Rattle.dates.specs.declared.Date.{Date}
@@ -18,7 +18,7 @@ use Rattle.dates.specs.declared.Dated.the-variants as Dated'
 use Rattle.dates.specs.declared.DayTold.{DayTold}
 use Rattle.dates.specs.declared.DayTold.the-variants as DayTold'
 use Rattle.dates.specs.Promises.{saidDate, saidDay, DateOfDay, DayOfDate}
-use Rattle.dates.specs.Paper.{HasPlace}
+use Rattle.dates.specs.Paper.{Besides}
 use Rattle.moves.specs.Moves.{MoveDate}
 use Rattle.facts.specs.declared.SolsticeYear.{SolsticeYear}
 use Rattle.facts.specs.declared.SolsticeYearTold.{SolsticeYearTold}
@@ -253,16 +253,15 @@ C-term = (y k : ℕ) (r : CTerm) → CTermOf y k r → r .reason ≡ 0 → IsTer
 abbrev pub C-term-as-before : Type 0
 C-term-as-before = (y k : ℕ) (r : CTerm) → CTermOf y k r → flatDay (termBefore y k) ≡ record { reason = r .reason; day = r .day }
 
--- W8: "every record handed out anywhere must agree with its own day": the four things that a date is asked for by lead to day d, and the date
--- of that day is the record itself; and its own four more are the place of its month's solstice year and whether that month, n, is an eclipse
--- month
+-- W8: "every record handed out anywhere must agree with its own day": the four things that a date is asked for by lead to day d, the date of
+-- that day is the record itself, and what its fields say besides is as the paper says of month n, on one of whose days d is
 pub record CAgrees (d : ℕ) (r : CDate) : Type 0 where
   pub its-own : CDayOfDate (r .year) (r .number) (r .leap) (r .«day_of_month») (givenDay d)
   pub its-date : CDateOfDay d r
   pub n : ℕ
   pub on-its-days : InMonth n d
-  pub its-place : HasPlace n (r .ji) (r .bu) (r .«year_in_bu»)
-  pub its-eclipse : (r .eclipse ≡ true) ↔ EclipseMonth n
+  pub besides :
+      Besides n d (r .year) (r .«day_of_month») (r .«month_length») (r .«day_name») (r .«year_name») (r .ji) (r .bu) (r .«year_in_bu») (r .eclipse)
 
 pub record C-dates-agree : Type 0 where
   pub date-of-day : (d : ℕ) (r : CDate) → CDateOfDay d r → r .reason ≡ 0 → CAgrees d r
