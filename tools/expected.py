@@ -324,12 +324,25 @@ def printed():
     return out
 
 
+# Drawers of days.
+
+
+def drawer(desk, days, room):
+    """The answer for a drawer into so many records: how many were filled, and their lines; or its reason, that of a day with its place."""
+    outside = [place for place, day in enumerate(days) if not 0 <= day < DAYS]
+    if len(days) > 4096 or len(days) > room:
+        return [refused(10 if len(days) > 4096 else 12)]
+    return [refused(6), f"AT {outside[0]}"] if outside else [f"FILLED {len(days)}", *(line for d in days for line in desk.day(d))]
+
+
 # The example for C, crates/capi/example.c: of a refusal its number alone, since C has no words of the reasons.
 
 
 def example(desk):
     out = echoed(desk, """DAY 14989859,DAY 14989860,DATE 0 12 - 1,DATE 11 8 L 1,DATE 11 9 L 30,MOVE 0 11 - 1 27759,MOVE 0 11 - 1 -1,PLACE 9366,MONTH 115830,QUARTER 115830 2,TERM 9366 0,YEAR 11,CONJUNCTION 4 11826,NEXT 4 3453334""".split(","))
     row, sheet = "27 9 ? 1 ? ? 3600 4000", write_sheet(([11], [], []), 8)
+    for days, room in (([DAYS - 1, 29, 3957], 3), ([29, DAYS, 3957], 3), ([DAYS - 1, 29, 3957], 2)):
+        out += [f"DRAWER{spaced(days)} INTO {room}", *drawer(desk, days, room)]
     for room in (1, 2):
         answer, days = found(desk, row, room)
         out += [f"SEARCH {row} INTO {room}", *answer, *(line for d in days for line in desk.day(d))]

@@ -24,6 +24,9 @@ AT(oes_date, eclipse, 44);
 SIZE(oes_date, 48);
 AT(oes_day, day, 4);
 SIZE(oes_day, 8);
+AT(oes_filled, count, 4);
+AT(oes_filled, place, 8);
+SIZE(oes_filled, 12);
 AT(oes_solstice, ji, 4);
 AT(oes_solstice, bu, 8);
 AT(oes_solstice, year_in_bu, 12);
@@ -114,12 +117,19 @@ static void bytes_same(int line, const void *got, const void *want, size_t n)
 /* A number whose low 32 bits are n: never in range. */
 static uint64_t wide(uint64_t n) { return (UINT64_C(1) << 32) + n; }
 
+static void fields_of(oes_date d, uint32_t got[12])
+{
+    const uint32_t fields[12] = {d.reason,   d.year,      d.number, d.leap, d.day_of_month, d.month_length,
+                                 d.day_name, d.year_name, d.ji,     d.bu,   d.year_in_bu,   d.eclipse};
+    memcpy(got, fields, sizeof fields);
+}
+
 static void date_is(int line, oes_date d, const uint32_t want[12])
 {
     static const char *const names[12] = {"reason",   "year",      "number", "leap", "day_of_month", "month_length",
                                           "day_name", "year_name", "ji",     "bu",   "year_in_bu",   "eclipse"};
-    const uint32_t got[12] = {d.reason,   d.year,      d.number, d.leap, d.day_of_month, d.month_length,
-                              d.day_name, d.year_name, d.ji,     d.bu,   d.year_in_bu,   d.eclipse};
+    uint32_t got[12];
+    fields_of(d, got);
     for (int i = 0; i < 12; i++) {
         same(line, names[i], got[i], want[i]);
     }
@@ -213,6 +223,127 @@ static void numbers_of_a_year(void)
     date_asked_refused(41040, 0, true, 0, 2);
     date_asked_refused(41041, 11, false, 1, 1);
     date_asked_refused(wide(41040), 11, false, 1, 1);
+}
+
+/* The most days of a drawer, and how many records stand before what is lent. */
+enum { MOST = 4096, BEFORE = 3 };
+
+/* Room for a full drawer and some more, with records before it and behind it; and what stood there before a call. */
+static oes_date records[BEFORE + MOST + 8];
+static oes_date stood[BEFORE + MOST + 8];
+
+/* Every byte a canary, but those of a bool, which are 0 or 1. */
+static void put_canaries(void)
+{
+    memset(records, 0xA5, sizeof records);
+    for (size_t i = 0; i < sizeof records / sizeof records[0]; i++) {
+        records[i].leap = i % 2 == 0;
+        records[i].eclipse = i % 3 == 0;
+    }
+    memcpy(stood, records, sizeof stood);
+}
+
+/* Asks for a drawer and holds its answer; and byte by byte that only the first `count` of the records that were lent changed. */
+static void drawer_is(int line, const uint32_t *days, size_t n, size_t places, uint32_t reason, uint32_t count, uint32_t place)
+{
+    put_canaries();
+    oes_filled f = oes_dates(days, n, records + BEFORE, places);
+    same(line, "reason", f.reason, reason);
+    same(line, "count", f.count, count);
+    same(line, "place", f.place, place);
+    bytes_same(line, records, stood, sizeof stood[0] * BEFORE);
+    bytes_same(line, records + BEFORE + count, stood + BEFORE + count, sizeof stood - sizeof stood[0] * (BEFORE + count));
+}
+
+#define DRAWER_FILLED(days, n, places) drawer_is(__LINE__, (days), (n), (places), 0, (n), 0)
+#define DRAWER_REFUSED(days, n, places, reason, place) drawer_is(__LINE__, (days), (n), (places), (reason), 0, (place))
+#define RECORD_IS(i, ...) DATE_IS(records[BEFORE + (i)], __VA_ARGS__)
+
+/* The first and the last day, the first of month 12 of year 0, a day of the leap month of year 11, both sides of the head of bu 2,
+ * and one of them again, as above under dates; into just as many records, and into more. */
+static void drawer(void)
+{
+    const uint32_t days[7] = {14989859, 0, 27759, 27758, 3961, 29, 27759};
+    for (size_t places = 7; places <= 9; places++) {
+        DRAWER_FILLED(days, 7, places);
+        RECORD_IS(0, 0, 41040, 10, 1, 30, 30, 60, 16, 3, 20, 76, 1);
+        RECORD_IS(1, 0, 0, 11, 0, 1, 29, 1, 16, 1, 1, 1, 0);
+        RECORD_IS(2, 0, 76, 11, 0, 1, 29, 40, 32, 1, 2, 1, 0);
+        RECORD_IS(3, 0, 76, 10, 1, 30, 30, 39, 32, 1, 1, 76, 1);
+        RECORD_IS(4, 0, 11, 9, 1, 5, 29, 2, 27, 1, 1, 11, 1);
+        RECORD_IS(5, 0, 0, 12, 0, 1, 30, 30, 16, 1, 1, 1, 0);
+        RECORD_IS(6, 0, 76, 11, 0, 1, 29, 40, 32, 1, 2, 1, 0);
+    }
+    DRAWER_FILLED(days, 1, 2);
+    RECORD_IS(0, 0, 41040, 10, 1, 30, 30, 60, 16, 3, 20, 76, 1);
+    DRAWER_REFUSED(days, 7, 6, 12, 0);
+    DRAWER_REFUSED(days, 7, 0, 12, 0);
+}
+
+/* No day at all is filled into any room; a day that stands behind an empty list does not count. */
+static void empty_drawer(void)
+{
+    const uint32_t behind[1] = {14989860};
+    DRAWER_FILLED(behind, 0, 0);
+    DRAWER_FILLED(behind, 0, 1);
+    DRAWER_FILLED(behind, 0, MOST);
+}
+
+/* Days out of range at the first place, at the last, between, and several, of which the first counts; 12 comes before them. */
+static void bad_days(void)
+{
+    const uint32_t first[3] = {14989860, 29, 0};
+    const uint32_t between[3] = {29, UINT32_MAX, 0};
+    const uint32_t last[3] = {29, 0, UINT32_C(1) << 31};
+    const uint32_t several[4] = {29, 14989861, 0, 14989860};
+    DRAWER_REFUSED(first, 3, 3, 6, 0);
+    DRAWER_REFUSED(first, 1, 1, 6, 0);
+    DRAWER_REFUSED(between, 3, 3, 6, 1);
+    DRAWER_REFUSED(last, 3, 5, 6, 2);
+    DRAWER_REFUSED(several, 4, 4, 6, 1);
+    DRAWER_REFUSED(several + 2, 2, 2, 6, 1);
+    DRAWER_REFUSED(first, 3, 2, 12, 0);
+    DRAWER_REFUSED(several, 4, 3, 12, 0);
+    DRAWER_FILLED(last, 2, 2);
+    RECORD_IS(0, 0, 0, 12, 0, 1, 30, 30, 16, 1, 1, 1, 0);
+    RECORD_IS(1, 0, 0, 11, 0, 1, 29, 1, 16, 1, 1, 1, 0);
+}
+
+/* How many of the first records are what the single call gives for their days. */
+static uint32_t as_by_single_calls(const uint32_t *days, uint32_t n)
+{
+    uint32_t alike = 0;
+    for (uint32_t i = 0; i < n; i++) {
+        uint32_t got[12];
+        uint32_t want[12];
+        fields_of(records[BEFORE + i], got);
+        fields_of(oes_date_of_day(days[i]), want);
+        alike += memcmp(got, want, sizeof got) == 0;
+    }
+    return alike;
+}
+
+/* A full drawer, from day 27,000 on; and a day too many, which comes before 12 and 6; and so many that their low 16 bits are 0 or
+ * those of a full drawer. */
+static void full_drawer(void)
+{
+    static uint32_t days[65536 + MOST];
+    for (uint32_t i = 0; i <= MOST; i++) {
+        days[i] = 27000 + i;
+    }
+    DRAWER_FILLED(days, MOST, MOST);
+    SAME(as_by_single_calls(days, MOST), MOST);
+    DRAWER_REFUSED(days, MOST, MOST - 1, 12, 0);
+    DRAWER_REFUSED(days, MOST + 1, MOST + 1, 10, 0);
+    DRAWER_REFUSED(days, MOST + 1, MOST, 10, 0);
+    DRAWER_REFUSED(days, 65536, MOST, 10, 0);
+    DRAWER_REFUSED(days, 65536 + MOST, MOST, 10, 0);
+    days[MOST - 1] = 14989860;
+    DRAWER_REFUSED(days, MOST, MOST, 6, MOST - 1);
+    DRAWER_REFUSED(days, MOST, MOST - 1, 12, 0);
+    DRAWER_REFUSED(days, MOST + 1, 0, 10, 0);
+    DRAWER_FILLED(days, MOST - 1, MOST);
+    SAME(as_by_single_calls(days, MOST - 1), MOST - 1);
 }
 
 static void solstice_is(oes_solstice s, const uint32_t want[8])
@@ -512,6 +643,10 @@ int main(void)
 {
     dates();
     numbers_of_a_year();
+    drawer();
+    empty_drawer();
+    bad_days();
+    full_drawer();
     facts();
     planets();
     search();

@@ -72,6 +72,39 @@ static void planets(void)
     printf("NEXT 4 3453334\nNEXT %u %u %u %u %c\n", n.k, n.day, n.parts, n.divisor, "-ME"[n.phase]);
 }
 
+/* A drawer of days into so many records, three at most. */
+static void show_drawer(const uint32_t *days, size_t n, size_t places)
+{
+    oes_date records[3] = {{0}};
+    oes_filled f = oes_dates(days, n, records, places);
+    printf("DRAWER");
+    for (size_t i = 0; i < n; i++) {
+        printf(" %u", days[i]);
+    }
+    printf(" INTO %zu\n", places);
+    if (f.reason != 0) {
+        printf("REFUSED %u\n", f.reason);
+        if (f.reason == 6) {
+            printf("AT %u\n", f.place);
+        }
+        return;
+    }
+    printf("FILLED %u\n", f.count);
+    for (uint32_t i = 0; i < f.count; i++) {
+        date_line(records[i]);
+    }
+}
+
+/* Three days at once, in any order; one of them out of range, at place 1; and too few records. */
+static void drawers(void)
+{
+    const uint32_t days[3] = {14989859, 29, 3957};
+    const uint32_t one_outside[3] = {29, 14989860, 3957};
+    show_drawer(days, 3, 3);
+    show_drawer(one_outside, 3, 3);
+    show_drawer(days, 3, 2);
+}
+
 /* A slip of the first day of a month 9, in a civil year of name 27, its leap mark not read: into a list of one place, and of two. */
 static void search(void)
 {
@@ -116,6 +149,7 @@ int main(void)
     dates();
     facts();
     planets();
+    drawers();
     search();
     sheet();
     return 0;

@@ -14,6 +14,7 @@ TYPES = {"uint8_t": "u8", "uint16_t": "u16", "uint32_t": "u32", "uint64_t": "u64
 STRUCTS = {
     "oes_date": "CDate",
     "oes_day": "CDay",
+    "oes_filled": "CFilled",
     "oes_solstice": "CSolstice",
     "oes_year": "CYear",
     "oes_month": "CMonth",

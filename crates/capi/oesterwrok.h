@@ -1,8 +1,9 @@
-/* The calls of Oesterwrok for C: days, dates, facts, planets, searches, sheets and printed lines of the
+/* The calls of Oesterwrok for C: days, dates, drawers, facts, planets, searches, sheets and printed lines of the
  * Quarter-Remainder rule.
  *
  * Every call ends for every input. `reason` is 0 where there is an answer; else it is the paper's number, every other field
- * is 0 (but the total of a search that is refused with 12, which is the true one), and nothing lent was changed.
+ * is 0 (but the total of a search that is refused with 12, which is the true one, and the place of a drawer that is refused
+ * with 6, which is that of its first day out of range), and nothing lent was changed.
  * Numbers are wide enough that no wrong one is taken for another: a negative one is refused like any that is too large.
  * A name is 1 to 60. Lent memory: docs/C.md.
  *
@@ -45,6 +46,14 @@ typedef struct oes_day {
     uint32_t reason;
     uint32_t day;
 } oes_day;
+
+/* How many records of a drawer were filled. `place` is 0, but of a drawer that is refused with 6 the place of the first day out
+ * of range, counted from 0. */
+typedef struct oes_filled {
+    uint32_t reason;
+    uint32_t count;
+    uint32_t place;
+} oes_filled;
 
 /* A solstice year: its place, its bu's head name, its months. */
 typedef struct oes_solstice {
@@ -164,6 +173,10 @@ typedef struct oes_length {
 oes_date oes_date_of_day(uint64_t day);
 oes_day oes_day_of_date(uint64_t year, uint64_t number, bool leap, uint64_t day_of_month);
 oes_date oes_move_date(uint64_t year, uint64_t number, bool leap, uint64_t day_of_month, int64_t days);
+
+/* A whole drawer, at most 4,096 days: record i of `out` is then what oes_date_of_day gives for day i, reason 0 in it. Records
+ * beyond the last day stay as they were. */
+oes_filled oes_dates(const uint32_t *days, size_t days_count, oes_date *out, size_t out_places);
 
 /* By the solstice year. */
 oes_solstice oes_solstice_year(uint64_t year);

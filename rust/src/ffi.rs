@@ -4,8 +4,26 @@
 //! too; a lent slice overlaps no other, since it is borrowed alone; and a `bool` is 0 or 1.
 #![allow(unsafe_code)]
 
-use crate::types::Reason;
+use crate::types::{DateRecord, Reason};
 use std::fmt::Debug;
+
+/// How a refusal is told from an answer, in a struct of the header whose first field is `reason`.
+macro_rules! told {
+    ($name:ident) => {
+        impl Told for $name {
+            fn reason(&self) -> u32 {
+                self.reason
+            }
+
+            fn bare(reason: u32) -> Self {
+                $name {
+                    reason,
+                    ..Self::default()
+                }
+            }
+        }
+    };
+}
 
 /// Declares a struct of the header whose first field is `reason`, and how a refusal is told from an answer.
 macro_rules! answer {
@@ -18,15 +36,7 @@ macro_rules! answer {
             $(pub $field: $kind,)*
         }
 
-        impl Told for $name {
-            fn reason(&self) -> u32 {
-                self.reason
-            }
-
-            fn bare(reason: u32) -> Self {
-                $name { reason, ..Self::default() }
-            }
-        }
+        told!($name);
     };
 }
 
@@ -65,26 +75,17 @@ pub fn known_reason(number: u32) -> Reason {
     Reason::from_number(number).unwrap_or_else(|| panic!("capi gave {number}, which is no reason"))
 }
 
-answer! {
-    /// `oes_date`
-    CDate {
-        year: u32,
-        number: u32,
-        leap: bool,
-        day_of_month: u32,
-        month_length: u32,
-        day_name: u32,
-        year_name: u32,
-        ji: u32,
-        bu: u32,
-        year_in_bu: u32,
-        eclipse: bool,
-    }
-}
+// `oes_date` is `DateRecord`: lists of it are lent by the callers.
+told!(DateRecord);
 
 answer! {
     /// `oes_day`
     CDay { day: u32 }
+}
+
+answer! {
+    /// `oes_filled`
+    CFilled { count: u32, place: u32 }
 }
 
 answer! {
@@ -186,7 +187,7 @@ pub struct CReading {
 // A call that takes no pointer asks nothing of its caller, so it is declared safe. A year is the civil year, but in
 // `oes_solstice_year` and `oes_term`, which take the solstice year.
 unsafe extern "C" {
-    pub safe fn oes_date_of_day(day: u64) -> CDate;
+    pub safe fn oes_date_of_day(day: u64) -> DateRecord;
     pub safe fn oes_day_of_date(year: u64, number: u64, leap: bool, day_of_month: u64) -> CDay;
     pub safe fn oes_move_date(
         year: u64,
@@ -194,7 +195,13 @@ unsafe extern "C" {
         leap: bool,
         day_of_month: u64,
         days: i64,
-    ) -> CDate;
+    ) -> DateRecord;
+    fn oes_dates(
+        days: *const u32,
+        days_count: usize,
+        out: *mut DateRecord,
+        out_places: usize,
+    ) -> CFilled;
     pub safe fn oes_solstice_year(year: u64) -> CSolstice;
     pub safe fn oes_year_facts(year: u64) -> CYear;
     pub safe fn oes_month_facts(month: u64) -> CMonth;
@@ -234,6 +241,14 @@ unsafe extern "C" {
     fn oes_print_month_line(month: u64, out: *mut u8, out_bytes: usize) -> CLength;
     fn oes_print_month(month: u64, out: *mut u8, out_bytes: usize) -> CLength;
     fn oes_print_day(day: u64, out: *mut u8, out_bytes: usize) -> CLength;
+}
+
+/// `oes_dates` over slices.
+#[inline]
+pub fn dates(days: &[u32], out: &mut [DateRecord]) -> CFilled {
+    // SAFETY: each pointer and length are those of one slice; the lent one is borrowed alone. `DateRecord` is laid out as the
+    // header's `oes_date`.
+    unsafe { oes_dates(days.as_ptr(), days.len(), out.as_mut_ptr(), out.len()) }
 }
 
 /// `oes_search` over a slice.

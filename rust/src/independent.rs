@@ -22,6 +22,9 @@ const WINDOW: u64 = 27_759;
 /// The most items that a section of a sheet may have.
 const ITEMS: usize = 1_000;
 
+/// The most days of a drawer.
+const DRAWER: usize = 4_096;
+
 // The rule, over counts that are in range.
 
 /// The name of a day, 1 to 60; day 0 has name 1.
@@ -246,6 +249,32 @@ pub fn move_date(asked: Asked, days: i64) -> Result<Date, Reason> {
         Ok(end) if end < DAYS => Ok(date_at(end)),
         _ => Err(Reason::MoveEnds),
     }
+}
+
+// Drawers of days.
+
+/// The place of the first day that is out of range, where there is one.
+fn first_outside(days: &[u32]) -> Option<u32> {
+    let place = days.iter().position(|&day| check_day(day.into()).is_err());
+    place.map(|place| place as u32)
+}
+
+/// As [`crate::dates`]: each day is looked at before the first record is filled.
+pub fn dates(days: &[u32], out: &mut [DateRecord]) -> Result<u32, DrawerRefused> {
+    let refused = |reason, place| Err(DrawerRefused { reason, place });
+    if days.len() > DRAWER {
+        return refused(Reason::CountAbove, None);
+    }
+    let Some(front) = out.get_mut(..days.len()) else {
+        return refused(Reason::LentTooShort, None);
+    };
+    if let Some(place) = first_outside(days) {
+        return refused(Reason::DayCount, Some(place));
+    }
+    for (record, &day) in front.iter_mut().zip(days) {
+        *record = date_at(day.into()).into();
+    }
+    Ok(days.len() as u32)
 }
 
 // Years, months, quarters and terms.

@@ -9,6 +9,8 @@
 //! is 11 or 12, leap or not. A date's ji, bu and year in the bu are of the solstice year in which its day lies, its eclipse mark
 //! is its month's.
 //!
+//! Many days are dated at once by [`dates`], into a lent list of records.
+//!
 //! ```
 //! use oesterwrok::{day_of_date, date_of_day, Asked, Month, Reason};
 //! let date = date_of_day(29).unwrap();
@@ -31,7 +33,29 @@ pub use types::*;
 /// The date of a day, by the civil year. Reason 6.
 #[inline]
 pub fn date_of_day(day: u64) -> Result<Date, Reason> {
-    ffi::oes_date_of_day(day).told().map(date)
+    record_of_day(day).told().map(|record| record.date())
+}
+
+/// The same as a record: the date, or reason 6 in it and nothing else.
+#[inline]
+pub fn record_of_day(day: u64) -> DateRecord {
+    ffi::oes_date_of_day(day)
+}
+
+/// A whole drawer at once, at most 4,096 days: record i at the front of `out` is what [`record_of_day`] gives for day i. It gives
+/// how many were filled; the rest of `out` is untouched. Reasons 10, 12, 6; with 6 comes the place of the first day out of range.
+///
+/// ```
+/// use oesterwrok::{dates, DateRecord, DrawerRefused, Reason};
+/// let mut drawer = [DateRecord::default(); 3];
+/// assert_eq!(dates(&[29, 27_759], &mut drawer), Ok(2));
+/// assert_eq!((drawer[1].date().year, drawer[1].date().day_name), (76, 40));
+/// let refused = DrawerRefused { reason: Reason::DayCount, place: Some(1) };
+/// assert_eq!(dates(&[29, 14_989_860], &mut drawer), Err(refused));
+/// ```
+#[inline]
+pub fn dates(days: &[u32], out: &mut [DateRecord]) -> Result<u32, DrawerRefused> {
+    filled(ffi::dates(days, out))
 }
 
 /// The day of a date, asked by the civil year. Reasons 1, 2, 3, 16, 4, 5.
@@ -57,7 +81,7 @@ pub fn move_date(asked: Asked, days: i64) -> Result<Date, Reason> {
         day_of_month,
     } = asked;
     let answer = ffi::oes_move_date(year, number, leap, day_of_month, days);
-    answer.told().map(date)
+    answer.told().map(|record| record.date())
 }
 
 /// A solstice year's place in ji and bu, its first month, its leap remainder and how many months it has. Reason 1, outside 1 to
@@ -249,21 +273,20 @@ pub fn print_day(day: u64, out: &mut [u8]) -> Result<usize, Reason> {
     Ok(ffi::print_day(day, out).told()?.length)
 }
 
-/// The date in an answer of capi.
+/// How many records were filled, or why none was. Only reason 6 has a place.
 #[inline]
-fn date(c: ffi::CDate) -> Date {
-    Date {
-        year: c.year,
-        month: Month::new(c.number, c.leap),
-        day_of_month: c.day_of_month,
-        month_length: c.month_length,
-        day_name: c.day_name,
-        year_name: c.year_name,
-        ji: c.ji,
-        bu: c.bu,
-        year_in_bu: c.year_in_bu,
-        eclipse: c.eclipse,
-    }
+fn filled(c: ffi::CFilled) -> Result<u32, DrawerRefused> {
+    let outside = c.reason == Reason::DayCount.number();
+    let rest = ffi::CFilled {
+        place: if outside { 0 } else { c.place },
+        ..c
+    };
+    let told = rest.told().map_err(|reason| DrawerRefused {
+        reason,
+        place: outside.then_some(c.place),
+    })?;
+    assert_eq!(told.place, 0, "capi gave a filled drawer with a place");
+    Ok(told.count)
 }
 
 /// The phase of a number that capi gave.
@@ -327,5 +350,47 @@ mod tests {
     #[should_panic(expected = "a refusal of capi holds something else")]
     fn a_refusal_is_bare() {
         let _ = ffi::CDay { reason: 6, day: 1 }.told();
+    }
+
+    /// The answer of capi for a drawer, by its three fields.
+    fn drawer(reason: u32, count: u32, place: u32) -> Result<u32, DrawerRefused> {
+        filled(ffi::CFilled {
+            reason,
+            count,
+            place,
+        })
+    }
+
+    /// A drawer's place comes with reason 6 alone, be it 0.
+    #[test]
+    fn places_of_drawers() {
+        let refused = |reason, place| Err(DrawerRefused { reason, place });
+        assert_eq!(drawer(0, 0, 0), Ok(0));
+        assert_eq!(drawer(0, 4_096, 0), Ok(4_096));
+        assert_eq!(drawer(6, 0, 0), refused(Reason::DayCount, Some(0)));
+        assert_eq!(drawer(6, 0, 4_095), refused(Reason::DayCount, Some(4_095)));
+        assert_eq!(drawer(10, 0, 0), refused(Reason::CountAbove, None));
+        assert_eq!(drawer(12, 0, 0), refused(Reason::LentTooShort, None));
+    }
+
+    /// A count with a place would be seen.
+    #[test]
+    #[should_panic(expected = "a refusal of capi holds something else")]
+    fn a_drawer_outside_is_not_filled() {
+        let _ = drawer(6, 1, 1);
+    }
+
+    /// A place with another reason would be seen.
+    #[test]
+    #[should_panic(expected = "a refusal of capi holds something else")]
+    fn a_short_drawer_has_no_place() {
+        let _ = drawer(12, 0, 1);
+    }
+
+    /// So would one with a filled drawer.
+    #[test]
+    #[should_panic(expected = "capi gave a filled drawer with a place")]
+    fn a_filled_drawer_has_no_place() {
+        let _ = drawer(0, 2, 1);
     }
 }

@@ -25,7 +25,7 @@ pub enum Reason {
     MoveEnds = 8,
     /// 9: sheet ends before a count or an item is whole.
     SheetEnds = 9,
-    /// 10: a count above its most, which is 1,000 in a sheet.
+    /// 10: a count above its most, which is 1,000 in a sheet and 4,096 in a drawer.
     CountAbove = 10,
     /// 11: bytes after the last section.
     BytesAfter = 11,
@@ -169,6 +169,97 @@ impl Date {
         }
     }
 }
+
+/// A date record: what a drawer is filled with. It is the `oes_date` of the C header, field by field, so that a list of records is
+/// lent as it stands.
+#[repr(C)]
+#[derive(Clone, Copy, Debug, Default, PartialEq, Eq)]
+pub struct DateRecord {
+    /// 0 where the record holds a date; else the paper's number, and every other field is 0.
+    pub reason: u32,
+    /// As in [`Date`], like the fields below.
+    pub year: u32,
+    /// The month's number, 1 to 12.
+    pub number: u32,
+    /// Whether it is the leap month of that number.
+    pub leap: bool,
+    /// The day of the month, 1 to 30.
+    pub day_of_month: u32,
+    /// How many days its month has.
+    pub month_length: u32,
+    /// The day's name.
+    pub day_name: u32,
+    /// The civil year's name.
+    pub year_name: u32,
+    /// The ji.
+    pub ji: u32,
+    /// The bu.
+    pub bu: u32,
+    /// The year in the bu.
+    pub year_in_bu: u32,
+    /// The eclipse mark.
+    pub eclipse: bool,
+}
+
+impl DateRecord {
+    /// The date in a record of reason 0.
+    #[inline]
+    pub fn date(&self) -> Date {
+        Date {
+            year: self.year,
+            month: Month::new(self.number, self.leap),
+            day_of_month: self.day_of_month,
+            month_length: self.month_length,
+            day_name: self.day_name,
+            year_name: self.year_name,
+            ji: self.ji,
+            bu: self.bu,
+            year_in_bu: self.year_in_bu,
+            eclipse: self.eclipse,
+        }
+    }
+}
+
+impl From<Date> for DateRecord {
+    /// The record of a date, reason 0.
+    #[inline]
+    fn from(date: Date) -> DateRecord {
+        DateRecord {
+            reason: 0,
+            year: date.year,
+            number: date.month.number(),
+            leap: date.month.is_leap(),
+            day_of_month: date.day_of_month,
+            month_length: date.month_length,
+            day_name: date.day_name,
+            year_name: date.year_name,
+            ji: date.ji,
+            bu: date.bu,
+            year_in_bu: date.year_in_bu,
+            eclipse: date.eclipse,
+        }
+    }
+}
+
+/// Why a drawer came back.
+#[derive(Clone, Copy, Debug, PartialEq, Eq)]
+pub struct DrawerRefused {
+    /// The reason.
+    pub reason: Reason,
+    /// The place of the first day out of range, counted from 0, told with reason 6 alone.
+    pub place: Option<u32>,
+}
+
+impl fmt::Display for DrawerRefused {
+    fn fmt(&self, f: &mut fmt::Formatter<'_>) -> fmt::Result {
+        match self.place {
+            Some(place) => write!(f, "{} at place {place}", self.reason),
+            None => self.reason.fmt(f),
+        }
+    }
+}
+
+impl std::error::Error for DrawerRefused {}
 
 /// A solstice year, which begins with the month of its winter solstice: its place, its bu's head name and its months.
 #[derive(Clone, Copy, Debug, PartialEq, Eq)]

@@ -1,5 +1,6 @@
-//! Holds what `src/ffi.rs` declares to the C header: every struct with its fields in their order, every call with its arguments.
-//! The cross-check holds the same declarations to the archive, so the header and the archive agree too.
+//! Holds what `src/ffi.rs` declares, and the record of `src/types.rs`, to the C header: every struct with its fields in their order,
+//! every call with its arguments. The cross-check holds the same declarations to the archive, so the header and the archive agree
+//! too.
 
 use std::collections::BTreeMap;
 use std::fs;
@@ -108,7 +109,17 @@ fn header_calls() -> Declared {
         .collect()
 }
 
-/// The structs of `src/ffi.rs` under their C names, and the C name of each Rust one.
+/// The fields of a struct that is written out under `repr(C)`, without what is said of them.
+fn written_out(text: &str, name: &str) -> String {
+    let mut laid_out = text.split("#[repr(C)]\n").skip(1);
+    let found = laid_out.find(|part| between(part, "pub struct ", " {") == name);
+    let part = found.unwrap_or_else(|| panic!("no {name} under repr(C)"));
+    let lines = between(part, "{", "}").lines().map(str::trim);
+    let fields: String = lines.filter(|line| !line.starts_with("///")).collect();
+    parts(&fields.replace("pub ", ""), ',').join(", ")
+}
+
+/// The structs of `src/ffi.rs`, and the record, under their C names, and the C name of each Rust one.
 fn ffi_structs(text: &str) -> (Declared, BTreeMap<String, String>) {
     let (mut structs, mut names) = (Declared::new(), BTreeMap::new());
     for text in text.split("answer! {").skip(1) {
@@ -124,9 +135,14 @@ fn ffi_structs(text: &str) -> (Declared, BTreeMap<String, String>) {
         let fields = parts(between(text, "{", "}"), ',').join(", ");
         structs.insert(c_name, format!("reason: u32, {fields}"));
     }
-    let reading = between(text, "pub struct CReading {", "}").replace("pub ", "");
-    structs.insert("oes_reading".into(), parts(&reading, ',').join(", "));
-    names.insert("CReading".into(), "oes_reading".into());
+    let types = file("src/types.rs");
+    for (text, name, c_name) in [
+        (text, "CReading", "oes_reading"),
+        (&types, "DateRecord", "oes_date"),
+    ] {
+        structs.insert(c_name.into(), written_out(text, name));
+        names.insert(name.into(), c_name.into());
+    }
     (structs, names)
 }
 
@@ -137,7 +153,8 @@ fn ffi_calls(text: &str, names: &BTreeMap<String, String>) -> Declared {
         let (arguments, answer) = after.split_once(") -> ").expect("a call has an answer");
         let arguments = parts(arguments, ',')
             .join(", ")
-            .replace("CReading", "oes_reading");
+            .replace("CReading", &names["CReading"])
+            .replace("DateRecord", &names["DateRecord"]);
         (
             name.to_string(),
             format!("({arguments}) -> {}", names[answer.trim()]),
@@ -152,9 +169,9 @@ fn ffi_calls(text: &str, names: &BTreeMap<String, String>) -> Declared {
 fn ffi_declares_what_the_header_does() {
     let text = file("src/ffi.rs");
     let (structs, names) = ffi_structs(&text);
-    assert_eq!(structs.len(), 14);
+    assert_eq!(structs.len(), 15);
     assert_eq!(structs, header_structs());
     let calls = ffi_calls(&text, &names);
-    assert_eq!(calls.len(), 18);
+    assert_eq!(calls.len(), 19);
     assert_eq!(calls, header_calls());
 }

@@ -1,13 +1,13 @@
-//! The paper's known dates, its printed year, its figures of civil years, of a date's place and eclipse mark and of the planets,
-//! asked of both sides: of capi through the wrapper, and of the independent one.
+//! The paper's known dates, singly and in drawers, its printed year, its figures of civil years, of a date's place and eclipse mark
+//! and of the planets, asked of both sides: of capi through the wrapper, and of the independent one.
 
 /// The paper's figures, as tests over the calls of one side.
 macro_rules! paper_of {
     ($side:ident, $calls:path) => {
         mod $side {
             use oesterwrok::{
-                Asked, Conjunction, Date, LeapMonth, Month, Pair, Phase, Reading, Reason,
-                SearchRefused, SheetCounts, Term, YearFacts,
+                Asked, Conjunction, Date, DateRecord, DrawerRefused, LeapMonth, Month, Pair, Phase,
+                Reading, Reason, SearchRefused, SheetCounts, Term, YearFacts,
             };
             use $calls as calls;
 
@@ -355,6 +355,98 @@ macro_rules! paper_of {
                 let moved = |days| card(calls::move_date(last_of_bu, days).unwrap());
                 assert_eq!(moved(27_759), (1, 2, 76, false));
                 assert_eq!(moved(749_493), (2, 8, 76, true));
+            }
+
+            /// A record as it may stand in a list before it is lent.
+            const STOOD: DateRecord = DateRecord {
+                reason: 7,
+                year: 77,
+                number: 777,
+                leap: true,
+                day_of_month: 7_777,
+                month_length: 77_777,
+                day_name: 777_777,
+                year_name: 7_777_777,
+                ji: 77_777_777,
+                bu: 777_777_777,
+                year_in_bu: u32::MAX,
+                eclipse: true,
+            };
+
+            /// What a drawer gives, and the records that were lent: so many, each as it stood.
+            fn drawer(
+                days: &[u32],
+                places: usize,
+            ) -> (Result<u32, DrawerRefused>, Vec<DateRecord>) {
+                let mut records = vec![STOOD; places];
+                let answer = calls::dates(days, &mut records);
+                (answer, records)
+            }
+
+            /// Holds a drawer to be refused, and its records to be as they stood.
+            fn drawer_refused(days: &[u32], places: usize, reason: Reason, place: Option<u32>) {
+                let answer = Err(DrawerRefused { reason, place });
+                assert_eq!(drawer(days, places), (answer, vec![STOOD; places]));
+            }
+
+            /// The known dates of single days, in any order and one of them twice; the records beyond them stay.
+            #[test]
+            fn a_drawer() {
+                let days = [LAST_DAY as u32, 29, 27_759, 0, 2_953, 29];
+                let (answer, records) = drawer(&days, 8);
+                assert_eq!(answer, Ok(6));
+                assert_eq!(records[6..], [STOOD; 2]);
+                let dates: Vec<Date> = records[..6].iter().map(DateRecord::date).collect();
+                let known = [
+                    ((41_040, Month::Leap(10), 30, 60), (3, 20, 76, true)),
+                    ((0, Month::Ordinary(12), 1, 30), (1, 1, 1, false)),
+                    ((76, Month::Ordinary(11), 1, 40), (1, 2, 1, false)),
+                    ((0, Month::Ordinary(11), 1, 1), (1, 1, 1, false)),
+                    ((8, Month::Leap(12), 1, 14), (1, 1, 9, false)),
+                    ((0, Month::Ordinary(12), 1, 30), (1, 1, 1, false)),
+                ];
+                let lengths_and_years =
+                    [(30, 16), (30, 16), (29, 32), (29, 16), (29, 24), (30, 16)];
+                for (place, date) in dates.into_iter().enumerate() {
+                    assert_eq!((date_and_name(date), card(date)), known[place]);
+                    let told = (date.month_length, date.year_name);
+                    assert_eq!(told, lengths_and_years[place]);
+                    assert_eq!(calls::date_of_day(days[place].into()), Ok(date));
+                    assert_eq!(records[place].reason, 0);
+                    assert_eq!(records[place], DateRecord::from(date));
+                }
+            }
+
+            /// An empty list is filled with nothing, whatever is lent.
+            #[test]
+            fn an_empty_drawer() {
+                for places in [0, 1, 5_000] {
+                    assert_eq!(drawer(&[], places), (Ok(0), vec![STOOD; places]));
+                }
+            }
+
+            /// More than 4,096 days is 10, then too few records 12, then a day out of range 6, with the place of the first one.
+            #[test]
+            fn drawers_refused() {
+                use Reason::{CountAbove, DayCount, LentTooShort};
+                let end = LAST_DAY as u32 + 1;
+                let mut days: Vec<u32> = (0..5_000).collect();
+                assert_eq!(drawer(&days[..4_096], 4_096).0, Ok(4_096));
+                for room in [0, 4_096, 4_097, 5_000] {
+                    drawer_refused(&days[..4_097], room, CountAbove, None);
+                    drawer_refused(&days, room, CountAbove, None);
+                }
+                drawer_refused(&days[..4_096], 4_095, LentTooShort, None);
+                drawer_refused(&days[..1], 0, LentTooShort, None);
+                days[4_095] = u32::MAX;
+                drawer_refused(&days[..4_096], 4_096, DayCount, Some(4_095));
+                assert_eq!(drawer(&days[..4_095], 4_096).0, Ok(4_095));
+                days[7] = end;
+                drawer_refused(&days[..4_096], 4_100, DayCount, Some(7));
+                drawer_refused(&days[..4_096], 4_095, LentTooShort, None);
+                drawer_refused(&days, 0, CountAbove, None);
+                drawer_refused(&[end], 1, DayCount, Some(0));
+                drawer_refused(&[0, end, end + 1], 3, DayCount, Some(1));
             }
 
             /// Any nineteen civil years in a row within 1 to 41,039.

@@ -7,6 +7,7 @@ ghost use Rattle.offered.specs.Promises.{
   fieldOf,
   readingOf,
   CDateOfDay,
+  CFillDates,
   CDayOfDate,
   CMoveDate,
   CSolsticeYear,
@@ -28,6 +29,7 @@ ghost use Rattle.offered.specs.Promises.{
 use offered::CConjunction;
 use offered::CDate;
 use offered::CDay;
+use offered::CFilled;
 use offered::CFound;
 use offered::CLength;
 use offered::CMonth;
@@ -184,6 +186,24 @@ pub extern "C" fn oes_search(reading: CReading, first: u64, last: u64, out: &mut
 {
     let r = reading_of(reading);
     flat::flat_found(reading::search(r, capped::cap(first), capped::cap(last), out))
+}
+
+// A drawer of days: the date of each, at the front of the lent records. What the days of a month share is kept from one day to the next.
+#[no_mangle]
+pub extern "C" fn oes_dates(days: &[u32], out: &mut [CDate]) -> CFilled
+    ensures { λ r. ⌜ CFillDates (now (days .entry)) (now (out .entry)) r (now (out .exit)) ⌝ }
+{
+    let answer = flat::flat_drawer_at(days, out.len());
+    let n = flat::flat_to_fill(answer);
+    let mut shared = flat::flat_shared_at(0);
+    let mut i: usize = 0;
+    while i < n {
+        let day = days[i];
+        shared = flat::flat_shared_for(shared, day);
+        out[i] = flat::flat_date_in(shared, day);
+        i += 1;
+    }
+    answer
 }
 
 // A sheet read.

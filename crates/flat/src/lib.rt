@@ -1,10 +1,13 @@
 // Answers laid flat for C, each into its struct of the crate `offered`. Numbers are widened, nothing is decided here.
 ghost use mathlib.Core.Path.{_≡_};
+ghost use Rattle.rule.specs.Counts.{DayInRange};
 ghost use Rattle.dates.specs.Promises.{saidDate, saidDay};
 ghost use Rattle.facts.specs.Promises.{saidSolsticeYear, saidYear, saidMonth, saidQuarter, saidTerm};
 ghost use Rattle.planets.specs.Planets.{phaseNumber};
 ghost use Rattle.planets.specs.Promises.{saidConjunction, saidNext, saidPair};
 ghost use Rattle.reading.specs.Search.{saidFound};
+ghost use Rattle.drawer.specs.Drawer.{drawerAt, saidFilled};
+ghost use Rattle.drawer.specs.Shared.{OfMonth, Holds};
 ghost use Rattle.sheet.specs.Promises.{saidCounts, saidHowMany};
 ghost use Rattle.offered.specs.Flat.{
   givenDate,
@@ -23,12 +26,15 @@ ghost use Rattle.offered.specs.Flat.{
   flatNext,
   flatPair,
   flatFound,
+  flatFilled,
   flatCounts,
   flatLength,
 };
+ghost use Rattle.offered.specs.Promises.{cDateAt};
 use dates::Date;
 use dates::Dated;
 use dates::DayTold;
+use drawer::Filled;
 use facts::LeapMonth;
 use facts::MonthFacts;
 use facts::MonthTold;
@@ -40,6 +46,7 @@ use facts::YearTold;
 use offered::CConjunction;
 use offered::CDate;
 use offered::CDay;
+use offered::CFilled;
 use offered::CFound;
 use offered::CLength;
 use offered::CMonth;
@@ -365,6 +372,42 @@ pub fn flat_found(a: Found) -> CFound
     }
 }
 
+// The same of a drawer: a refusal with reason 6 says the place of the first day out of range.
+fn flat_filled(a: Filled) -> CFilled
+    ensures { λ r. ⌜ r ≡ flatFilled (saidFilled a) ⌝ }
+{
+    match a {
+        Filled::Is(n) => CFilled {
+            reason: 0,
+            count: n,
+            place: 0,
+        },
+        Filled::BadDay(i) => CFilled {
+            reason: 6,
+            count: 0,
+            place: i,
+        },
+        Filled::Refused(why) => CFilled {
+            reason: rule::reason_number(why) as u32,
+            count: 0,
+            place: 0,
+        },
+    }
+}
+
+pub fn flat_drawer_at(days: &[u32], room: usize) -> CFilled
+    ensures { λ r. ⌜ r ≡ flatFilled (drawerAt (now (days .entry)) room) ⌝ }
+{
+    flat_filled(drawer::drawer_at(days, room))
+}
+
+// How many records are filled: none where the drawer comes back.
+pub fn flat_to_fill(answer: CFilled) -> usize
+    ensures { λ r. ⌜ r ≡ answer .count ⌝ }
+{
+    answer.count as usize
+}
+
 // The same of a sheet's counts.
 pub fn flat_counts(a: SheetCounts) -> CSheetCounts
     ensures { λ r. ⌜ r ≡ flatCounts (saidCounts a) ⌝ }
@@ -399,4 +442,46 @@ pub fn flat_length(a: HowMany) -> CLength
             length: 0,
         },
     }
+}
+
+// What the days of one month share, the date of one of them laid flat (drawer::Shared has it as it is).
+pub struct FlatShared {
+    pub start: u32,
+    pub length: u32,
+    pub date: CDate,
+}
+
+// What the days of a day's month share.
+pub fn flat_shared_at(day: u32) -> FlatShared
+    requires { ⌜ DayInRange day ⌝ }
+    ensures { λ r. ⌜ OfMonth cDateAt (r .start) (r .length) (r .date) × Holds (r .start) (r .length) day ⌝ }
+{
+    let date = dates::date_at(day);
+    FlatShared {
+        start: day + 1 - date.day_of_month as u32,
+        length: date.month_length as u32,
+        date: given_date(date),
+    }
+}
+
+// The same, kept while the day lies in that month.
+pub fn flat_shared_for(kept: FlatShared, day: u32) -> FlatShared
+    requires { ⌜ OfMonth cDateAt (kept .start) (kept .length) (kept .date) × DayInRange day ⌝ }
+    ensures { λ r. ⌜ OfMonth cDateAt (r .start) (r .length) (r .date) × Holds (r .start) (r .length) day ⌝ }
+{
+    if std::num::wrapping_sub_u32(day, kept.start) < kept.length {
+        return kept;
+    }
+    flat_shared_at(day)
+}
+
+// The date of a day, laid flat, from what the days of its month share.
+pub fn flat_date_in(shared: FlatShared, day: u32) -> CDate
+    requires { ⌜ OfMonth cDateAt (shared .start) (shared .length) (shared .date) × Holds (shared .start) (shared .length) day ⌝ }
+    ensures { λ r. ⌜ r ≡ cDateAt day ⌝ }
+{
+    let mut date = shared.date;
+    date.day_of_month = day - shared.start + 1;
+    date.day_name = rule::day_name(day) as u32;
+    date
 }

@@ -38,6 +38,7 @@ use Rattle.reading.specs.declared.Found.{Found}
 use Rattle.reading.specs.declared.Found.the-variants as Found'
 use Rattle.reading.specs.Readings.{inRanges, windowDays, windowHolds, fitting}
 use Rattle.reading.specs.Search.{total, searchAt, saidFound}
+use Rattle.drawer.specs.Drawer.{daysFrom, drawerAt}
 use Rattle.sheet.specs.declared.Counted as Counts
 use Rattle.sheet.specs.declared.SheetCounts.{SheetCounts}
 use Rattle.sheet.specs.declared.SheetCounts.the-variants as Counts'
@@ -59,6 +60,7 @@ use Rattle.offered.specs.declared.CConjunction.{CConjunction}
 use Rattle.offered.specs.declared.CNext.{CNext}
 use Rattle.offered.specs.declared.CPair.{CPair}
 use Rattle.offered.specs.declared.CFound.{CFound}
+use Rattle.offered.specs.declared.CFilled.{CFilled}
 use Rattle.offered.specs.declared.CSheetCounts.{CSheetCounts}
 use Rattle.offered.specs.declared.CLength.{CLength}
 use Rattle.offered.specs.Flat.{
@@ -117,11 +119,12 @@ use Rattle.offered.specs.Structs.{
   BareLength,
 }
 use Rattle.offered.proofs.Structs.{refusals-flat}
-use Rattle.offered.specs.Promises.{readingOf, CPrinted}
+use Rattle.offered.specs.Promises.{readingOf, CDateOfDay, CPrinted}
 use Rattle.offered.specs.Paper as Paper
 use Rattle.offered.specs.Paper.{CAgrees}
 use Rattle.offered.proofs.Sound as Sound
 use Rattle.offered.proofs.Sound.{Sound, given, numbered, none-is-0}
+use Rattle.offered.proofs.Drawers.{reason-of, place-of, drawer-bare, drawer-zero, single-record, record-given, says-the-drawer}
 use Rattle.offered.proofs.Texts.{text-said, unwritten, year-11, line-134, month-134, day-0}
 use Rattle.dates.specs.Paper.{AgreesWith}
 use Rattle.dates.proofs.Computing.{dates-computed}
@@ -153,6 +156,7 @@ unique-exported =
       next = λ n d a b p q. p ∙ sym q;
       pair = λ n a b p q. p ∙ sym q;
       search = λ r first last old a b new other p q. (p .answer ∙ sym (q .answer), p .lent ∙ sym (q .lent));
+      fill-dates = λ days old a b new other p q. (p .answer ∙ sym (q .answer), p .lent ∙ sym (q .lent));
       read-sheet = λ s y m d a b y₁ m₁ d₁ y₂ m₂ d₂ p q.
           (p .answer ∙ sym (q .answer), p .years ∙ sym (q .years), p .months ∙ sym (q .months), p .days ∙ sym (q .days));
       write-sheet = λ y m d o a b o₁ o₂ p q. one-printed p q;
@@ -331,6 +335,7 @@ refusal-is-bare =
       search = λ r first last old a new p h.
           let b = search-bare (readingOf r) first last (length old) (fitting (readingOf r) first (windowDays first last)) old a (p .answer) h in
           (b .0, p .lent ∙ b .1);
+      fill-dates = λ days old r new p. drawer-bare days old r new p;
       read-sheet = λ s y m d r y′ m′ d′ p h.
           let b = counts-bare (readInto s (length y) (length m) (length d)) r (p .answer) h in (
             b .0,
@@ -368,6 +373,7 @@ reason-0-iff-answered =
         λ z. let w = search-zero (readingOf r) first last (length old) a (p .answer) z in (w .0, record { answered = w .1; lent = p .lent }, w .2),
         λ w. ap (λ (x : CFound). x .reason) (w .2),
       );
+      fill-dates = λ days old r new p. drawer-zero days old r new p;
       read-sheet = λ s y m d r y′ m′ d′ p.
           let z = counts-zero (Sound.read-sound s (length y) (length m) (length d)) r (p .answer) in (
             λ e. let w = z .0 e in (w .0, record { answer = w .1; years = p .years; months = p .months; days = p .days }, w .2),
@@ -407,6 +413,7 @@ says-what-the-call-says =
             (w .0, record { answered = w .1; lent = p .lent }, p .answer ∙ sym (ap flatFound (w .1))),
         λ w. record { answer = w .2 ∙ ap flatFound (w .1 .answered); lent = w .1 .lent },
       );
+      fill-dates = λ days old r new held a after e p f. says-the-drawer days old r new p held a after e f;
       read-sheet = λ s y m d r y′ m′ d′.
           let c = counts-said (Sound.read-sound s (length y) (length m) (length d)) r in (
             λ p. let w = c .0 (p .answer) in (w .0, record { answer = w .1; years = p .years; months = p .months; days = p .days }, w .2),
@@ -458,12 +465,17 @@ agrees-flat d x r a e =
 pub c-dates-agree : Paper.C-dates-agree
 c-dates-agree =
     record {
-      date-of-day = λ d r p e. let (x, t, f) = reason-0-iff-answered .date-of-day d r p .0 e in agrees-flat d x r (Dates.date-agrees d x t) f;
+      date-of-day = of-a-day;
       move-date = λ y k l m n r p e.
           let (x, t, f) = reason-0-iff-answered .move-date y k l m n r p .0 e in
           let (d, a) = Moves.moved-agrees y k l m n x t in
           (d, agrees-flat d x r a f);
+      fill-dates = λ days old r new i none p z l. of-a-day (getD days i 0) (getD new i none) (single-record days old r new p z i none l)
+          (record-given days old r new p z i none l);
     }
+  where
+    of-a-day : (d : ℕ) (r : CDate) → CDateOfDay d r → r .reason ≡ 0 → CAgrees d r
+    of-a-day d r p e = let (x, t, f) = reason-0-iff-answered .date-of-day d r p .0 e in agrees-flat d x r (Dates.date-agrees d x t) f
 
 -- an answer that is given is no refusal, and no other is said alike
 module _ {R : Type 0} (reason : R → ℕ) {r s : R} (p : r ≡ s) where
@@ -477,13 +489,17 @@ module _ {R : Type 0} (reason : R → ℕ) {r s : R} (p : r ≡ s) where
 unlike : (i : ℕ) {xs ys : List ℕ} → xs ≡ ys → getD xs i 0 ≢ getD ys i 0 → ⊥
 unlike i e differ = differ (ap (λ (l : List ℕ). getD l i 0) e)
 
+-- two lists of records that differ in a day of month
+unlike-records : (i : ℕ) {xs ys : List CDate} → xs ≡ ys → getD xs i (noDate 0) .«day_of_month» ≢ getD ys i (noDate 0) .«day_of_month» → ⊥
+unlike-records i e differ = differ (ap (λ (l : List CDate). getD l i (noDate 0) .«day_of_month») e)
+
 -- what the named inputs are computed with: on an `unfolding` line such a name brings all that its own line names
 dates : ℕ
 unfolding moved dates-computed
 dates = 0
 
 pub wrong-exported : Paper.Wrong-exported
-unfolding dates facts-computed planets-computed searches-computed reading writing
+unfolding dates facts-computed planets-computed searches-computed drawerAt daysFrom reading writing
 wrong-exported =
     record {
       refusing-days = λ r p. no-refusal (λ (x : CDate). x .reason) p refl;
@@ -511,6 +527,13 @@ wrong-exported =
       first-alone = λ a p. unlike 1 (p .lent) (λ e. let f : _≡_ {A = ℕ} 5 1 = e in omega arith);
       inventing = λ a new p other. other (ap (λ (x : CFound). x .total) (p .answer));
       inventing-at-12 = λ a new p other. other (ap (λ (x : CFound). x .total) (p .answer));
+      refusing-drawers = λ r x new p. no-refusal reason-of (p .answer) refl;
+      filling-no-record = λ r p. unlike-records 0 (p .lent) (λ e. let f : _≡_ {A = ℕ} 1 30 = e in omega arith);
+      first-record-over = λ r x y p. unlike-records 1 (p .lent) (λ e. let f : _≡_ {A = ℕ} 30 1 = e in omega arith);
+      skipping-second = λ r p. unlike-records 1 (p .lent) (λ e. let f : _≡_ {A = ℕ} 1 30 = e in omega arith);
+      last-bad-place = λ r x new p other. other (ap place-of (p .answer));
+      beyond-the-last = λ r p. unlike-records 1 (p .lent) (λ e. let f : _≡_ {A = ℕ} 30 1 = e in omega arith);
+      inventing-a-count = λ r x new p other. other (ap (λ (x : CFilled). x .count) (p .answer));
       reading-none = λ r m d p. unlike 0 (p .years) (λ e. let f : _≡_ {A = ℕ} 0 11 = e in omega arith);
       reading-first-over = λ r m d p. unlike 1 (p .years) (λ e. let f : _≡_ {A = ℕ} 11 12 = e in omega arith);
       reading-first-alone = λ r m d p. unlike 1 (p .years) (λ e. let f : _≡_ {A = ℕ} 0 12 = e in omega arith);

@@ -4,6 +4,7 @@ use mathlib.Core.Path.{_≡_, refl, ap}
 use mathlib.Core.Bool.{Bool, true, false}
 use Rattle.rule.proofs.Leap.{month-again}
 use Rattle.rule.specs.Rule.{marked}
+use Rattle.rule.specs.Reasons.{Answer, is, refused, refused-with}
 use Rattle.rule.specs.declared.Quarter.{Quarter}
 use Rattle.rule.specs.declared.Term.{Term}
 use Rattle.rule.proofs.Answers.{one-to-one}
@@ -19,6 +20,7 @@ use Rattle.planets.specs.declared.Conjunction.{Conjunction}
 use Rattle.planets.specs.declared.Next.{Next}
 use Rattle.planets.specs.declared.Pair.{Pair}
 use Rattle.planets.specs.Planets.{phaseNumber}
+use Rattle.drawer.specs.Drawer.{toFill}
 use Rattle.sheet.specs.declared.Counted.{Counted}
 use Rattle.offered.specs.declared.CDate.{CDate}
 use Rattle.offered.specs.declared.CDay.{CDay}
@@ -46,6 +48,7 @@ use Rattle.offered.specs.Flat.{
   givenNext,
   givenPair,
   givenCounts,
+  flatFilled,
 }
 use Rattle.offered.specs.Structs as Structs
 
@@ -104,6 +107,8 @@ refusals-flat =
       pair = λ k. (refl, record { years = refl; conjunctions = refl });
       found = λ k. (refl, refl);
       too-short = λ k n. (refl, refl);
+      filled = λ k. refl;
+      bad-day = λ k i. refl;
       counts = λ k. (refl, record { years = refl; months = refl; days = refl });
       length = λ k. (refl, record { length = refl });
     }
@@ -214,3 +219,9 @@ nothing-lost =
       counts = one-to-one givenCounts countsFrom (λ c. refl);
       length = λ a b e. ap (λ (r : CLength). r .length) e;
     }
+
+-- how many records an answer laid flat says
+pub count-is : (a : Answer ℕ) → flatFilled a .count ≡ toFill a
+count-is (is n) = refl
+count-is (refused k) = refl
+count-is (refused-with k i) = refl

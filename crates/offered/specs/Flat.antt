@@ -28,6 +28,7 @@ use Rattle.offered.specs.declared.CConjunction.{CConjunction}
 use Rattle.offered.specs.declared.CNext.{CNext}
 use Rattle.offered.specs.declared.CPair.{CPair}
 use Rattle.offered.specs.declared.CFound.{CFound}
+use Rattle.offered.specs.declared.CFilled.{CFilled}
 use Rattle.offered.specs.declared.CSheetCounts.{CSheetCounts}
 use Rattle.offered.specs.declared.CLength.{CLength}
 
@@ -249,6 +250,12 @@ abbrev pub flatFound : Answer ℕ → CFound
 flatFound (is n) = record { reason = 0; total = n }
 flatFound (refused k) = record { reason = k; total = 0 }
 flatFound (refused-with k n) = record { reason = k; total = n }
+
+-- how many records of a drawer were filled: a refusal that says the place of the first day out of range keeps it
+abbrev pub flatFilled : Answer ℕ → CFilled
+flatFilled (is n) = record { reason = 0; count = n; place = 0 }
+flatFilled (refused k) = record { reason = k; count = 0; place = 0 }
+flatFilled (refused-with k i) = record { reason = k; count = 0; place = i }
 
 -- a sheet's three counts
 abbrev pub givenCounts : Counted → CSheetCounts

@@ -1,6 +1,6 @@
 -- What holds of the calls for C, as statements. proofs/Paper.antt proves each under the same name in small letters.
 -- Assumes nothing.
-use Prim.Native.Nat.{ℕ, _+_, _-_, _*_, _≤_}
+use Prim.Native.Nat.{ℕ, _+_, _-_, _*_, _≤_, _<_}
 use mathlib.Core.Path.{_≡_}
 use mathlib.Core.Logic.{_↔_, _≢_}
 use mathlib.Core.Bool.{Bool, true, false}
@@ -18,7 +18,7 @@ use Rattle.dates.specs.declared.Dated.the-variants as Dated'
 use Rattle.dates.specs.declared.DayTold.{DayTold}
 use Rattle.dates.specs.declared.DayTold.the-variants as DayTold'
 use Rattle.dates.specs.Promises.{saidDate, saidDay, DateOfDay, DayOfDate}
-use Rattle.dates.specs.Paper.{Besides}
+use Rattle.dates.specs.Paper.{Besides, lastOfBu1, firstOfBu2}
 use Rattle.moves.specs.Moves.{MoveDate}
 use Rattle.facts.specs.declared.SolsticeYear.{SolsticeYear}
 use Rattle.facts.specs.declared.SolsticeYearTold.{SolsticeYearTold}
@@ -59,6 +59,9 @@ use Rattle.planets.specs.Promises.{saidConjunction, saidNext, saidPair, KthConj
 use Rattle.reading.specs.declared.Found.{Found}
 use Rattle.reading.specs.declared.Found.the-variants as Found'
 use Rattle.reading.specs.Search.{total, saidFound, Searched}
+use Rattle.drawer.specs.declared.Filled.{Filled}
+use Rattle.drawer.specs.Drawer.{saidFilled, FillDates}
+use Rattle.drawer.specs.Paper.{NotTooMany, Roomy, AllInRange, FilledWith}
 use Rattle.sheet.specs.declared.Counted.{Counted}
 use Rattle.sheet.specs.declared.SheetCounts.{SheetCounts}
 use Rattle.sheet.specs.declared.SheetCounts.the-variants as Counts'
@@ -78,6 +81,7 @@ use Rattle.offered.specs.declared.CConjunction.{CConjunction}
 use Rattle.offered.specs.declared.CNext.{CNext}
 use Rattle.offered.specs.declared.CPair.{CPair}
 use Rattle.offered.specs.declared.CFound.{CFound}
+use Rattle.offered.specs.declared.CFilled.{CFilled}
 use Rattle.offered.specs.declared.CSheetCounts.{CSheetCounts}
 use Rattle.offered.specs.declared.CLength.{CLength}
 use Rattle.offered.specs.Flat.{
@@ -102,6 +106,7 @@ use Rattle.offered.specs.Flat.{
   givenPair,
   flatPair,
   flatFound,
+  flatFilled,
   givenCounts,
   flatCounts,
   givenLength,
@@ -119,6 +124,7 @@ use Rattle.offered.specs.Structs.{
   BareNext,
   BarePair,
   BareFound,
+  BareFilled,
   BareCounts,
   BareLength,
 }
@@ -137,6 +143,7 @@ use Rattle.offered.specs.Promises.{
   CNextConjunction,
   CReducedPair,
   CSearch,
+  CFillDates,
   CReadSheet,
   CWriteSheet,
   CPrintYear,
@@ -164,6 +171,9 @@ pub record Unique-exported : Type 0 where
   pub search :
       (r : CReading) (first last : ℕ) (old : List ℕ) (a b : CFound) (new other : List ℕ) →
       CSearch r first last old a new → CSearch r first last old b other → (a ≡ b) × (new ≡ other)
+  pub fill-dates :
+      (days : List ℕ) (old : List CDate) (a b : CFilled) (new other : List CDate) →
+      CFillDates days old a new → CFillDates days old b other → (a ≡ b) × (new ≡ other)
   pub read-sheet :
       (s y m d : List ℕ) (a b : CSheetCounts) (y₁ m₁ d₁ y₂ m₂ d₂ : List ℕ) →
       CReadSheet s y m d a y₁ m₁ d₁ → CReadSheet s y m d b y₂ m₂ d₂ → (a ≡ b) × (y₁ ≡ y₂) × (m₁ ≡ m₂) × (d₁ ≡ d₂)
@@ -194,6 +204,9 @@ pub record Refusal-is-bare : Type 0 where
   pub search :
       (r : CReading) (first last : ℕ) (old : List ℕ) (a : CFound) (new : List ℕ) →
       CSearch r first last old a new → a .reason ≢ 0 → BareFound (total (readingOf r) first last) a × (new ≡ old)
+  pub fill-dates :
+      (days : List ℕ) (old : List CDate) (r : CFilled) (new : List CDate) →
+      CFillDates days old r new → r .reason ≢ 0 → BareFilled days r × (new ≡ old)
   pub read-sheet :
       (s y m d : List ℕ) (r : CSheetCounts) (y′ m′ d′ : List ℕ) →
       CReadSheet s y m d r y′ m′ d′ → r .reason ≢ 0 → BareCounts r × (y′ ≡ y) × (m′ ≡ m) × (d′ ≡ d)
@@ -208,6 +221,12 @@ pub record Refusal-is-bare : Type 0 where
 abbrev pub PrintSaid : (ℕ → List ℕ → CLength → List ℕ → Type 0) → (ℕ → List ℕ → HowMany → List ℕ → Type 0) → Type 0
 PrintSaid C P =
     (x : ℕ) (o : List ℕ) (r : CLength) (o′ : List ℕ) → C x o r o′ ↔ ((a : HowMany) × P x o a o′ × (r ≡ flatLength (saidHowMany a)))
+
+-- of a drawer, whose records have another form: the answer is that of the call, given as many records, and each record that is filled is
+-- that of the call, laid flat
+pub record SaysTheDrawer (days : List ℕ) (r : CFilled) (new : List CDate) (a : Filled) (after : List Date) : Type 0 where
+  pub answer : r ≡ flatFilled (saidFilled a)
+  pub records : (i : ℕ) (none : CDate) (blank : Date) → r .reason ≡ 0 → i < length days → getD new i none ≡ givenDate (getD after i blank)
 
 pub record Says-what-the-call-says : Type 0 where
   pub date-of-day : (d : ℕ) (r : CDate) → CDateOfDay d r ↔ ((a : Dated) × DateOfDay d a × (r ≡ flatDate (saidDate a)))
@@ -234,6 +253,9 @@ pub record Says-what-the-call-says : Type 0 where
       (r : CReading) (first last : ℕ) (old : List ℕ) (a : CFound) (new : List ℕ) →
       CSearch r first last old a new
       ↔ ((f : Found) × Searched (readingOf r) first last old f new × (a ≡ flatFound (saidFound f)))
+  pub fill-dates :
+      (days : List ℕ) (old : List CDate) (r : CFilled) (new : List CDate) (held : List Date) (a : Filled) (after : List Date) →
+      length held ≡ length old → CFillDates days old r new → FillDates days held a after → SaysTheDrawer days r new a after
   pub read-sheet :
       (s y m d : List ℕ) (r : CSheetCounts) (y′ m′ d′ : List ℕ) →
       CReadSheet s y m d r y′ m′ d′ ↔ ((a : SheetCounts) × ReadSheet s y m d a y′ m′ d′ × (r ≡ flatCounts (saidCounts a)))
@@ -266,12 +288,23 @@ pub record CAgrees (d : ℕ) (r : CDate) : Type 0 where
 pub record C-dates-agree : Type 0 where
   pub date-of-day : (d : ℕ) (r : CDate) → CDateOfDay d r → r .reason ≡ 0 → CAgrees d r
   pub move-date : (y k : ℕ) (l : Bool) (m : ℕ) (n : ℤ) (r : CDate) → CMoveDate y k l m n r → r .reason ≡ 0 → (d : ℕ) × CAgrees d r
+  pub fill-dates :
+      (days : List ℕ) (old : List CDate) (r : CFilled) (new : List CDate) (i : ℕ) (none : CDate) →
+      CFillDates days old r new → r .reason ≡ 0 → i < length days → CAgrees (getD days i 0) (getD new i none)
 
 -- reason 0 says that the call answers, and nothing else does, since the paper's reasons start at 1; the struct is then that answer
 abbrev pub ZeroPrint : (ℕ → List ℕ → CLength → List ℕ → Type 0) → (ℕ → List ℕ → HowMany → List ℕ → Type 0) → Type 0
 ZeroPrint C P =
     (x : ℕ) (o : List ℕ) (r : CLength) (o′ : List ℕ) →
     C x o r o′ → (r .reason ≡ 0) ↔ ((n : ℕ) × P x o (HowMany'.Is n) o′ × (r ≡ givenLength n))
+
+-- of a drawer: a good one, all of whose days have what the single call for C gives, as many as are said
+pub record DrawerFilled (days : List ℕ) (old : List CDate) (r : CFilled) (new : List CDate) : Type 0 where
+  pub not-too-many : NotTooMany days
+  pub roomy : Roomy days old
+  pub in-range : AllInRange days
+  pub so-many : r ≡ flatFilled (is (length days))
+  pub filled : FilledWith CDateOfDay days old new
 
 pub record Reason-0-iff-answered : Type 0 where
   pub date-of-day : (d : ℕ) (r : CDate) → CDateOfDay d r → (r .reason ≡ 0) ↔ ((x : Date) × DateOfDay d (Dated'.Is x) × (r ≡ givenDate x))
@@ -304,6 +337,9 @@ pub record Reason-0-iff-answered : Type 0 where
       (r : CReading) (first last : ℕ) (old : List ℕ) (a : CFound) (new : List ℕ) →
       CSearch r first last old a new →
       (a .reason ≡ 0) ↔ ((n : ℕ) × Searched (readingOf r) first last old (Found'.Is n) new × (a ≡ flatFound (is n)))
+  pub fill-dates :
+      (days : List ℕ) (old : List CDate) (r : CFilled) (new : List CDate) →
+      CFillDates days old r new → (r .reason ≡ 0) ↔ DrawerFilled days old r new
   pub read-sheet :
       (s y m d : List ℕ) (r : CSheetCounts) (y′ m′ d′ : List ℕ) →
       CReadSheet s y m d r y′ m′ d′ →
@@ -348,7 +384,7 @@ Unwritten P x n = (o : List ℕ) (r : CLength) → n ≤ length o → getD o 0 0
 
 -- wrong versions, each shut out at a named input: one that refuses all; one date for every day, and a move that never moves; one that
 -- fills nothing, copies a list's first item over the rest or leaves the rest out; an invented total, where the search is answered and
--- where it is refused with 12
+-- where it is refused with 12; and of a drawer what drawer/specs/Paper.antt has as Wrong-drawers, where C can see it
 pub record Wrong-exported : Type 0 where
   pub refusing-days : (r : CDate) → CDateOfDay 0 r → r .reason ≢ 0 → ⊥
   pub refusing-dates : (r : CDay) → CDayOfDate 0 11 false 1 r → r .reason ≢ 0 → ⊥
@@ -375,6 +411,20 @@ pub record Wrong-exported : Type 0 where
   pub first-alone : (a : CFound) → CSearch nothingRead 0 1 (5 ∷ 5 ∷ []) a (0 ∷ 5 ∷ []) → ⊥
   pub inventing : (a : CFound) (new : List ℕ) → CSearch nothingRead 0 0 (5 ∷ []) a new → a .total ≢ 1 → ⊥
   pub inventing-at-12 : (a : CFound) (new : List ℕ) → CSearch nothingRead 0 1 (5 ∷ []) a new → a .total ≢ 2 → ⊥
+  pub refusing-drawers : (r : CFilled) (x : CDate) (new : List CDate) → CFillDates (0 ∷ []) (x ∷ []) r new → r .reason ≢ 0 → ⊥
+  pub filling-no-record : (r : CFilled) → CFillDates (27758 ∷ []) (givenDate firstOfBu2 ∷ []) r (givenDate firstOfBu2 ∷ []) → ⊥
+  pub first-record-over :
+      (r : CFilled) (x y : CDate) →
+      CFillDates (27758 ∷ 27759 ∷ []) (x ∷ y ∷ []) r (givenDate lastOfBu1 ∷ givenDate lastOfBu1 ∷ []) → ⊥
+  pub skipping-second :
+      (r : CFilled) →
+      CFillDates (27758 ∷ 27758 ∷ []) (givenDate firstOfBu2 ∷ givenDate firstOfBu2 ∷ []) r (givenDate lastOfBu1 ∷ givenDate firstOfBu2 ∷ []) → ⊥
+  pub last-bad-place :
+      (r : CFilled) (x : CDate) (new : List CDate) → CFillDates (14989860 ∷ 14989860 ∷ []) (x ∷ x ∷ []) r new → r .place ≢ 0 → ⊥
+  pub beyond-the-last :
+      (r : CFilled) →
+      CFillDates (27758 ∷ []) (givenDate firstOfBu2 ∷ givenDate firstOfBu2 ∷ []) r (givenDate lastOfBu1 ∷ givenDate lastOfBu1 ∷ []) → ⊥
+  pub inventing-a-count : (r : CFilled) (x : CDate) (new : List CDate) → CFillDates (0 ∷ []) (x ∷ []) r new → r .count ≢ 1 → ⊥
   pub reading-none : (r : CSheetCounts) (m d : List ℕ) → CReadSheet sheetOf11 (0 ∷ []) [] [] r (0 ∷ []) m d → ⊥
   pub reading-first-over : (r : CSheetCounts) (m d : List ℕ) → CReadSheet sheetOfTwos (0 ∷ 0 ∷ []) (0 ∷ 0 ∷ []) (0 ∷ 0 ∷ []) r (11 ∷ 11 ∷ []) m d → ⊥
   pub reading-first-alone :

@@ -3,7 +3,7 @@
 use Prim.Native.Nat.{ℕ}
 use mathlib.Core.Path.{_≡_}
 use mathlib.Core.Bool.{Bool, true, false}
-use mathlib.Core.List.{List}
+use mathlib.Core.List.{List, map}
 use lib.IntN.{ℤ}
 use lib.ListN.{length}
 use Rattle.rule.specs.Reasons.{Answer, is, andThen, afterwards}
@@ -16,6 +16,7 @@ use Rattle.reading.specs.declared.Field.the-variants.{Known, Unread}
 use Rattle.reading.specs.declared.Reading.{Reading}
 use Rattle.reading.specs.Readings.{windowDays, fitting}
 use Rattle.reading.specs.Search.{searchAt}
+use Rattle.drawer.specs.Drawer.{drawerAt}
 use Rattle.sheet.specs.Sheet.{readInto, writeInto}
 use Rattle.sheet.specs.Promises.{counted}
 use Rattle.penned.specs.Promises.{yearBlockAt, monthLineAt, monthItemAt, dayItemAt}
@@ -30,6 +31,7 @@ use Rattle.offered.specs.declared.CConjunction.{CConjunction}
 use Rattle.offered.specs.declared.CNext.{CNext}
 use Rattle.offered.specs.declared.CPair.{CPair}
 use Rattle.offered.specs.declared.CFound.{CFound}
+use Rattle.offered.specs.declared.CFilled.{CFilled}
 use Rattle.offered.specs.declared.CSheetCounts.{CSheetCounts}
 use Rattle.offered.specs.declared.CLength.{CLength}
 use Rattle.offered.specs.Flat.{
@@ -44,14 +46,23 @@ use Rattle.offered.specs.Flat.{
   flatNext,
   flatPair,
   flatFound,
+  flatFilled,
   flatCounts,
   flatLength,
 }
 use Rattle.offered.specs.declared.CReading.{CReading}
 
 -- day to date
+abbrev pub cDateAt : ℕ → CDate
+cDateAt d = flatDate (dateAt d)
+
 abbrev pub CDateOfDay : ℕ → CDate → Type 0
-CDateOfDay d r = r ≡ flatDate (dateAt d)
+CDateOfDay d r = r ≡ cDateAt d
+
+-- a drawer of days: the answer, and what the lent records hold then, each the date of its day
+pub record CFillDates (days : List ℕ) (old : List CDate) (r : CFilled) (new : List CDate) : Type 0 where
+  pub answer : r ≡ flatFilled (drawerAt days (length old))
+  pub lent : new ≡ afterwards (drawerAt days (length old)) (λ n. map cDateAt days) old
 
 -- date to day
 abbrev pub CDayOfDate : ℕ → ℕ → Bool → ℕ → CDay → Type 0

@@ -4,6 +4,7 @@ use Prim.Native.Nat.{ℕ}
 use mathlib.Core.Path.{_≡_}
 use mathlib.Core.Logic.{_≢_}
 use mathlib.Core.Bool.{false}
+use mathlib.Core.List.{List}
 use Rattle.rule.specs.Reasons.{refused, refused-with}
 use Rattle.rule.specs.declared.Quarter.{Quarter}
 use Rattle.rule.specs.declared.Term.{Term}
@@ -14,6 +15,7 @@ use Rattle.facts.specs.declared.MonthFacts.{MonthFacts}
 use Rattle.planets.specs.declared.Conjunction.{Conjunction}
 use Rattle.planets.specs.declared.Next.{Next}
 use Rattle.planets.specs.declared.Pair.{Pair}
+use Rattle.drawer.specs.Paper.{FirstBad}
 use Rattle.sheet.specs.declared.Counted.{Counted}
 use Rattle.offered.specs.declared.CDate.{CDate}
 use Rattle.offered.specs.declared.CDay.{CDay}
@@ -26,6 +28,7 @@ use Rattle.offered.specs.declared.CConjunction.{CConjunction}
 use Rattle.offered.specs.declared.CNext.{CNext}
 use Rattle.offered.specs.declared.CPair.{CPair}
 use Rattle.offered.specs.declared.CFound.{CFound}
+use Rattle.offered.specs.declared.CFilled.{CFilled}
 use Rattle.offered.specs.declared.CSheetCounts.{CSheetCounts}
 use Rattle.offered.specs.declared.CLength.{CLength}
 use Rattle.offered.specs.Flat.{
@@ -50,6 +53,7 @@ use Rattle.offered.specs.Flat.{
   givenPair,
   noPair,
   flatFound,
+  flatFilled,
   givenCounts,
   noCounts,
   givenLength,
@@ -137,7 +141,13 @@ pub record BareFound (n : ℕ) (a : CFound) : Type 0 where
   pub other : a .reason ≢ 12 → a .total ≡ 0
   pub twelve : a .reason ≡ 12 → a .total ≡ n
 
--- a refusal has its reason's number, and no other field says anything; where a search says the true total, it is kept
+-- of a drawer: but the place of the first day out of range where it is refused with 6
+pub record BareFilled (days : List ℕ) (r : CFilled) : Type 0 where
+  pub count : r .count ≡ 0
+  pub other : r .reason ≢ 6 → r .place ≡ 0
+  pub six : r .reason ≡ 6 → FirstBad days (r .place)
+
+-- a refusal has its reason's number, and no other field says anything; where a search says the true total, or a drawer a place, it is kept
 pub record Refusals-flat : Type 0 where
   pub date : (k : ℕ) → (noDate k .reason ≡ k) × BareDate (noDate k)
   pub day : (k : ℕ) → (noDay k .reason ≡ k) × BareDay (noDay k)
@@ -151,6 +161,8 @@ pub record Refusals-flat : Type 0 where
   pub pair : (k : ℕ) → (noPair k .reason ≡ k) × BarePair (noPair k)
   pub found : (k : ℕ) → (flatFound (refused k) .reason ≡ k) × (flatFound (refused k) .total ≡ 0)
   pub too-short : (k n : ℕ) → (flatFound (refused-with k n) .reason ≡ k) × (flatFound (refused-with k n) .total ≡ n)
+  pub filled : (k : ℕ) → flatFilled (refused k) ≡ record { reason = k; count = 0; place = 0 }
+  pub bad-day : (k i : ℕ) → flatFilled (refused-with k i) ≡ record { reason = k; count = 0; place = i }
   pub counts : (k : ℕ) → (noCounts k .reason ≡ k) × BareCounts (noCounts k)
   pub length : (k : ℕ) → (noLength k .reason ≡ k) × BareLength (noLength k)
 

@@ -1,5 +1,5 @@
 // What C is offered: one struct for each answer, with the reason in front, and one for a slip; in specs/ how an answer is laid flat into
-// its struct, what the eighteen calls promise, and statements with their proofs. No code: answers are laid flat in the crate `flat`, and
+// its struct, what the nineteen calls promise, and statements with their proofs. No code: answers are laid flat in the crate `flat`, and
 // the calls are the crate `capi`. So an edit of a definition is refused without checking those again.
 
 // A date. `number` is the month's, `leap` whether it is the leap month of that number, `year` the civil one; ji, bu and year in the bu are
@@ -116,6 +116,14 @@ pub struct CPair {
 pub struct CFound {
     pub reason: u32,
     pub total: u32,
+}
+
+// How many records of a drawer were filled; where a day was out of range, the place of the first, counted from 0.
+#[repr(C)]
+pub struct CFilled {
+    pub reason: u32,
+    pub count: u32,
+    pub place: u32,
 }
 
 // How many items each of a sheet's lists has.

@@ -1,7 +1,11 @@
-//! The benchmark: the time of capi, called through the wrapper, beside that of the independent implementation. Both sides get
-//! the same questions and the same lent memory, which is not cleared between calls; the sums of all answers must agree.
+//! The benchmark: the time of capi, called through the wrapper, beside that of the independent implementation; that of a drawer also
+//! beside capi's own single call. Both sides get the same questions and the same lent memory, which is not cleared between calls;
+//! the sums of all answers must agree.
 
-use oesterwrok::{self as capi, independent as own, Asked, Date, Reading, LEAP, ORDINARY};
+use oesterwrok::{
+    self as capi, independent as own, Asked, Date, DateRecord, DrawerRefused, Reading, LEAP,
+    ORDINARY,
+};
 use std::hint::black_box;
 use std::process::ExitCode;
 use std::time::{Duration, Instant};
@@ -12,6 +16,9 @@ const TIME: Duration = Duration::from_millis(1_500);
 
 /// The days of a yuan of 4,560 years.
 const YUAN_DAYS: u64 = 1_665_540;
+
+/// The most days of a drawer.
+const DRAWER: usize = 4_096;
 
 /// The first day of solstice year 9,366 (85 CE in 004), where the windows start, and the days of a full window.
 const FIRST: u64 = 3_420_558;
@@ -41,6 +48,7 @@ fn main() -> ExitCode {
         bars: Vec::new(),
     };
     bench.dates();
+    bench.drawers();
     bench.searches();
     bench.sheets();
     for (what, ratio, most) in &bench.bars {
@@ -130,6 +138,30 @@ impl Bench {
         self.hold("date to day", ratio, DATE_TO_DAY);
     }
 
+    /// A yuan in drawers, its days in order and shuffled.
+    fn drawers(&mut self) {
+        let mut days: Vec<u32> = (0..YUAN_DAYS as u32).collect();
+        self.drawers_of("in order", &days);
+        shuffle(&mut days);
+        self.drawers_of("shuffled", &days);
+    }
+
+    /// Days in drawers, beside capi's single call in a loop into the same records, and beside the independent one's drawers.
+    fn drawers_of(&mut self, order: &str, days: &[u32]) {
+        let mut out = vec![DateRecord::default(); DRAWER];
+        let mut own_out = out.clone();
+        let mut beside = |other: &str, fill: Fill| {
+            self.compare(
+                &format!("a yuan in drawers of 4,096, {order}; {other}"),
+                YUAN_DAYS,
+                || filled(capi::dates, days, &mut out),
+                || filled(fill, days, &mut own_out),
+            );
+        };
+        beside("single call", one_by_one);
+        beside("independent", own::dates);
+    }
+
     /// Searches of a full window, the lent list having a place for each of its days; and one into a list of one place, so that
     /// the days are counted first.
     fn searches(&mut self) {
@@ -207,7 +239,7 @@ fn per_call(time: Duration, calls: u64) -> String {
 }
 
 /// The sum of what a call gives for each item, each hidden from the compiler.
-fn sum_of<T>(items: impl Iterator<Item = T>, call: impl Fn(T) -> u64) -> u64 {
+fn sum_of<T>(items: impl Iterator<Item = T>, mut call: impl FnMut(T) -> u64) -> u64 {
     items.fold(0, |sum, item| sum.wrapping_add(call(black_box(item))))
 }
 
@@ -233,6 +265,44 @@ fn sum_of_date(date: Date) -> u64 {
     ];
     let turned = |sum: u32, field: &u32| sum.rotate_left(3) ^ field;
     u64::from(fields.iter().fold(date.year, turned))
+}
+
+/// A filling of a drawer, of either side.
+type Fill = fn(&[u32], &mut [DateRecord]) -> Result<u32, DrawerRefused>;
+
+/// Fills drawer after drawer, as many as the days need, into the same records; one number out of every field of every record.
+fn filled(fill: Fill, days: &[u32], out: &mut [DateRecord]) -> u64 {
+    sum_of(days.chunks(DRAWER), |drawer| {
+        let count = fill(drawer, out).map_or(0, |count| count as usize);
+        out[..count]
+            .iter()
+            .fold(0, |sum, record| sum.wrapping_add(sum_of_record(record)))
+    })
+}
+
+/// One number out of every field of a record.
+fn sum_of_record(record: &DateRecord) -> u64 {
+    u64::from(record.reason) << 32 | sum_of_date(record.date())
+}
+
+/// Fills records by capi's single call, one by one. Not inlined, as the calls beside it are not.
+#[inline(never)]
+fn one_by_one(days: &[u32], out: &mut [DateRecord]) -> Result<u32, DrawerRefused> {
+    for (record, &day) in out.iter_mut().zip(days) {
+        *record = capi::record_of_day(day.into());
+    }
+    Ok(days.len() as u32)
+}
+
+/// Puts days into an order by chance, always the same: each is exchanged for one before it, drawn by a small source of numbers.
+fn shuffle(days: &mut [u32]) {
+    let mut number: u64 = 85;
+    for last in (1..days.len()).rev() {
+        number = number
+            .wrapping_mul(6_364_136_223_846_793_005)
+            .wrapping_add(1_442_695_040_888_963_407);
+        days.swap(last, (number >> 33) as usize % (last + 1));
+    }
 }
 
 /// A search, of either side.

@@ -2,6 +2,7 @@
 
 use crate::random::Random;
 use crate::tally::Memory;
+use oesterwrok::DateRecord;
 use std::fmt::Debug;
 
 /// How many places stand guard on each side of a lent list.
@@ -44,7 +45,7 @@ impl<T: Canary> Memory for Lent<T> {
     }
 }
 
-/// A kind of number that lent lists hold.
+/// A kind of number that lent lists hold, or a record of them.
 pub trait Canary: Copy + Debug + PartialEq {
     /// A canary value out of a number.
     fn canary(number: u64) -> Self;
@@ -66,5 +67,26 @@ impl Canary for u16 {
 impl Canary for u32 {
     fn canary(number: u64) -> u32 {
         number as u32
+    }
+}
+
+impl Canary for DateRecord {
+    fn canary(number: u64) -> DateRecord {
+        // Every number has its highest bit set, as none of a record that was filled has.
+        let field = |turns: u32| number.rotate_left(5 * turns) as u32 | 1 << 31;
+        DateRecord {
+            reason: field(0),
+            year: field(1),
+            number: field(2),
+            leap: number & 1 == 0,
+            day_of_month: field(3),
+            month_length: field(4),
+            day_name: field(5),
+            year_name: field(6),
+            ji: field(7),
+            bu: field(8),
+            year_in_bu: field(9),
+            eclipse: number & 2 == 0,
+        }
     }
 }

@@ -2,6 +2,7 @@
 //! It prints a table and ends with a non-zero status at any difference.
 
 mod dates;
+mod drawers;
 mod facts;
 mod lent;
 mod lines;
@@ -67,6 +68,7 @@ fn all_rows() -> Vec<Row> {
     rows.extend(sheets::rows(SEED + 40));
     rows.extend(lines::rows(SEED + 50));
     rows.extend(planets::rows(SEED + 60));
+    rows.extend(drawers::rows(SEED + 70));
     rows.extend(walked::rows());
     rows
 }

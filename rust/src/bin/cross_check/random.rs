@@ -29,6 +29,13 @@ impl Random {
         self.below(limit as u64) as usize
     }
 
+    /// Puts a list into an order by chance, each as likely as any other.
+    pub fn shuffle<T>(&mut self, list: &mut [T]) {
+        for last in (1..list.len()).rev() {
+            list.swap(last, self.size(last + 1));
+        }
+    }
+
     /// True once in so many times.
     pub fn one_in(&mut self, times: u64) -> bool {
         self.below(times) == 0

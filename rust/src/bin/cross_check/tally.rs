@@ -1,7 +1,7 @@
 //! Rows of the cross-check and their tallies.
 
 use crate::random::Random;
-use oesterwrok::{Reason, SearchRefused};
+use oesterwrok::{DrawerRefused, Reason, SearchRefused};
 use std::fmt::Debug;
 use std::ops::Range;
 
@@ -99,6 +99,12 @@ impl Memory for () {
     }
 }
 
+impl<M: Memory> Memory for &M {
+    fn first_difference(&self, own: &Self) -> Option<String> {
+        (*self).first_difference(own)
+    }
+}
+
 impl<A: Memory, B: Memory, C: Memory> Memory for (A, B, C) {
     fn first_difference(&self, own: &Self) -> Option<String> {
         let first = self.0.first_difference(&own.0);
@@ -121,6 +127,14 @@ impl<T: PartialEq + Debug> Answer for Result<T, Reason> {
 }
 
 impl Answer for Result<u32, SearchRefused> {
+    fn reason(&self) -> u32 {
+        self.as_ref()
+            .err()
+            .map_or(0, |refused| refused.reason.number())
+    }
+}
+
+impl Answer for Result<u32, DrawerRefused> {
     fn reason(&self) -> u32 {
         self.as_ref()
             .err()

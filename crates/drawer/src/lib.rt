@@ -1,0 +1,133 @@
+// A whole drawer at once: the dates of a list of days, put into a lent list of records. Neighbouring days mostly lie in one month: what its
+// days share is kept from one day to the next, and made new where a day leaves it.
+ghost use mathlib.Core.Path.{_≡_};
+ghost use Prim.Native.Nat.{_≤_};
+ghost use lib.ListN.{length};
+ghost use Rattle.rule.specs.Counts.{DayInRange};
+ghost use Rattle.dates.specs.Dates.{dateOf};
+ghost use Rattle.drawer.specs.Drawer.{allInRange, daysFrom, drawerAt, saidFilled, toFill, FillDates};
+ghost use Rattle.drawer.specs.Shared.{IsShared, Holds};
+use dates::Date;
+use rule::Reason;
+
+// The answer for a drawer: how many records were filled; or the place, counted from 0, of the first day out of range; or why it comes back.
+pub enum Filled {
+    Is(u32),
+    BadDay(u32),
+    Refused(Reason),
+}
+
+// What the days of one month share: its first day, how many they are, and the date of one of them.
+struct Shared {
+    pub start: u32,
+    pub length: u32,
+    pub date: Date,
+}
+
+// Whether all days are in range. It looks at every one, whatever it has found, which is faster than to ask at each.
+fn all_in_range(days: &[u32]) -> bool
+    ensures { λ r. ⌜ r ≡ allInRange (now (days .entry)) ⌝ }
+{
+    let mut good = true;
+    let mut i: usize = 0;
+    while i < days.len() {
+        good = good & (days[i] <= 14989859);
+        i += 1;
+    }
+    good
+}
+
+// The place of the first day out of range, or how many days there are.
+fn first_outside(days: &[u32]) -> Filled
+    requires { ⌜ length (now days) ≤ 4096 ⌝ }
+    ensures { λ r. ⌜ saidFilled r ≡ daysFrom (now (days .entry)) 0 ⌝ }
+{
+    let mut i: usize = 0;
+    while i < days.len() {
+        if 14989859 < days[i] {
+            return Filled::BadDay(i as u32);
+        }
+        i += 1;
+    }
+    Filled::Is(i as u32)
+}
+
+// The answer for a list of days and a lent list with room for so many records.
+pub fn drawer_at(days: &[u32], room: usize) -> Filled
+    ensures { λ r. ⌜ saidFilled r ≡ drawerAt (now (days .entry)) room ⌝ }
+{
+    let n = days.len();
+    if 4096 < n {
+        return Filled::Refused(Reason::CountTooLarge);
+    }
+    if room < n {
+        return Filled::Refused(Reason::LentTooShort);
+    }
+    if all_in_range(days) {
+        return Filled::Is(n as u32);
+    }
+    first_outside(days)
+}
+
+// How many records are filled: none where the drawer comes back.
+fn to_fill(answer: Filled) -> usize
+    ensures { λ r. ⌜ r ≡ toFill (saidFilled answer) ⌝ }
+{
+    match answer {
+        Filled::Is(n) => n as usize,
+        Filled::BadDay(_) => 0,
+        Filled::Refused(_) => 0,
+    }
+}
+
+// What the days of a day's month share, by its date.
+fn shared_at(day: u32) -> Shared
+    requires { ⌜ DayInRange day ⌝ }
+    ensures { λ r. ⌜ IsShared r × Holds (r .start) (r .length) day ⌝ }
+{
+    let date = dates::date_at(day);
+    Shared {
+        start: day + 1 - date.day_of_month as u32,
+        length: date.month_length as u32,
+        date: date,
+    }
+}
+
+// The same, kept while the day lies in that month. (A day before the month's first wraps round to more than its days.)
+fn shared_for(kept: Shared, day: u32) -> Shared
+    requires { ⌜ IsShared kept × DayInRange day ⌝ }
+    ensures { λ r. ⌜ IsShared r × Holds (r .start) (r .length) day ⌝ }
+{
+    if std::num::wrapping_sub_u32(day, kept.start) < kept.length {
+        return kept;
+    }
+    shared_at(day)
+}
+
+// The date of a day from what the days of its month share: day of month and day name are its own.
+fn date_in(shared: Shared, day: u32) -> Date
+    requires { ⌜ IsShared shared × Holds (shared .start) (shared .length) day ⌝ }
+    ensures { λ r. ⌜ r ≡ dateOf day ⌝ }
+{
+    let mut date = shared.date;
+    date.day_of_month = (day - shared.start + 1) as u8;
+    date.day_name = rule::day_name(day);
+    date
+}
+
+// The dates of all days, a record each, at the front of the lent list.
+pub fn fill_dates(days: &[u32], out: &mut [Date]) -> Filled
+    ensures { λ r. ⌜ FillDates (now (days .entry)) (now (out .entry)) r (now (out .exit)) ⌝ }
+{
+    let answer = drawer_at(days, out.len());
+    let n = to_fill(answer);
+    let mut shared = shared_at(0);
+    let mut i: usize = 0;
+    while i < n {
+        let day = days[i];
+        shared = shared_for(shared, day);
+        out[i] = date_in(shared, day);
+        i += 1;
+    }
+    answer
+}
