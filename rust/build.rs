@@ -1,36 +1,38 @@
-//! Links capi's archive: `../target/native/libcapi.a`, or the one that the environment variable `OESTERWROK_CAPI` names.
+//! Links the archives of capi and of drawn: `../target/native/libcapi.a` and `libdrawn.a` beside it, or those that the environment
+//! variables `OESTERWROK_CAPI` and `OESTERWROK_DRAWN` name.
 
 use std::path::{Path, PathBuf};
 use std::{env, fs, process};
 
-/// The variable that names another archive, by its whole path or by one that starts at `rust/`.
-const VARIABLE: &str = "OESTERWROK_CAPI";
-
-/// Where `tools/native capi` leaves the archive for the machine at hand, as seen from `rust/`.
-const USUAL: &str = "../target/native/libcapi.a";
+/// Each archive's crate, and the variable that names another archive, by its whole path or by one that starts at `rust/`.
+const ARCHIVES: [(&str, &str); 2] = [("capi", "OESTERWROK_CAPI"), ("drawn", "OESTERWROK_DRAWN")];
 
 fn main() {
     println!("cargo:rerun-if-changed=build.rs");
-    println!("cargo:rerun-if-env-changed={VARIABLE}");
-    let archive = PathBuf::from(env::var(VARIABLE).unwrap_or_else(|_| USUAL.to_string()));
-    println!("cargo:rerun-if-changed={}", archive.display());
-    if !archive.is_file() {
-        stop(&format!(
-            "no archive of capi at {}: run `tools/native capi` at the repository's root first, or name one by {VARIABLE}",
-            archive.display()
-        ));
+    for (name, variable) in ARCHIVES {
+        println!("cargo:rerun-if-env-changed={variable}");
+        // Where `tools/native` leaves the archive for the machine at hand, as seen from `rust/`.
+        let usual = format!("../target/native/lib{name}.a");
+        let archive = PathBuf::from(env::var(variable).unwrap_or(usual));
+        println!("cargo:rerun-if-changed={}", archive.display());
+        if !archive.is_file() {
+            stop(&format!(
+                "no archive of {name} at {}: run `tools/native {name}` at the repository's root first, or name one by {variable}",
+                archive.display()
+            ));
+        }
+        link(name, &archive);
     }
-    link(&archive);
 }
 
 /// Links a copy under cargo's own folder, so that an archive of any name will do.
-fn link(archive: &Path) {
+fn link(name: &str, archive: &Path) {
     let folder = PathBuf::from(env::var("OUT_DIR").expect("cargo sets OUT_DIR"));
-    if let Err(why) = fs::copy(archive, folder.join("libcapi.a")) {
+    if let Err(why) = fs::copy(archive, folder.join(format!("lib{name}.a"))) {
         stop(&format!("{} cannot be copied: {why}", archive.display()));
     }
     println!("cargo:rustc-link-search=native={}", folder.display());
-    println!("cargo:rustc-link-lib=static=capi");
+    println!("cargo:rustc-link-lib=static={name}");
 }
 
 /// Ends the build with a message and no backtrace.

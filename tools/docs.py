@@ -1,7 +1,8 @@
 #!/usr/bin/env python3
 """Whether the docs still say what the crates have, and whether what they show comes out.
 
-- Each piece of code marked `rust` in docs/USES.md must stand word for word in crates/uses/src/main.rt, which the gate proves and runs.
+- Each piece of code marked `rust` in docs/USES.md must stand word for word in crates/uses/src/main.rt, which the gate proves and runs,
+  in crates/drawn/src/lib.rt, which the cross-check runs, or in a comment of rust/src/lib.rs, which `cargo test` runs.
 - Each example of README.md and docs/USES.md, a command that is indented with its output in a block below it, must come out so. What
   is asked of ./desk is answered by tools/walked.py, which shares nothing with the library; with --run every such command is run, as
   it stands, and must print the block.
@@ -70,7 +71,7 @@ def strange_names(page, known):
 def strange_code(page, source):
     for code in re.findall(r"```rust\n(.*?)```", page.read_text(encoding="utf8"), re.DOTALL):
         if code not in source:
-            yield f"{page.name}: not in crates/uses:\n{code}"
+            yield f"{page.name}: neither in crates/uses or crates/drawn nor in a comment of rust/src/lib.rs:\n{code}"
 
 
 def examples(page):
@@ -203,7 +204,9 @@ def main():
     known = words()
     wrong = [name for page in ("PAPER.md", "CALLS.md") for name in strange_names(ROOT / "docs" / page, known)]
     wrong += strange_listings()
-    wrong += strange_code(ROOT / "docs" / "USES.md", (CRATES / "uses" / "src" / "main.rt").read_text(encoding="utf8"))
+    run = "".join((CRATES / name).read_text(encoding="utf8") for name in ("uses/src/main.rt", "drawn/src/lib.rt"))
+    run += re.sub(r"^\s*/// ?", "", (ROOT / "rust" / "src" / "lib.rs").read_text(encoding="utf8"), flags=re.MULTILINE)
+    wrong += strange_code(ROOT / "docs" / "USES.md", run)
     desk = walked.Desk()
     wrong += [what for page in SHOWN for what in strange_examples(page, desk, "--run" in sys.argv[1:])]
     wrong += strange_sixty(ROOT / "README.md")

@@ -4,7 +4,8 @@
  * Every call ends for every input. `reason` is 0 where there is an answer; else it is the paper's number, every other field
  * is 0 (but the total of a search that is refused with 12, which is the true one, and the place of a drawer that is refused
  * with 6, which is that of its first day out of range), and nothing lent was changed.
- * Numbers are wide enough that no wrong one is taken for another: a negative one is refused like any that is too large.
+ * Numbers are wide enough that no wrong one is taken for another, but the items of a list, which have the list's width
+ * (docs/C.md): a negative one is refused like any that is too large.
  * A name is 1 to 60. Lent memory: docs/C.md.
  *
  * A year is the civil year, 0 to 41,040, which opens with its month 1, but in oes_solstice_year and oes_term, which take the
@@ -174,8 +175,8 @@ oes_date oes_date_of_day(uint64_t day);
 oes_day oes_day_of_date(uint64_t year, uint64_t number, bool leap, uint64_t day_of_month);
 oes_date oes_move_date(uint64_t year, uint64_t number, bool leap, uint64_t day_of_month, int64_t days);
 
-/* A whole drawer, at most 4,096 days: record i of `out` is then what oes_date_of_day gives for day i, reason 0 in it. Records
- * beyond the last day stay as they were. */
+/* A whole drawer, at most 4,096 days, else 10. Where `reason` is 0, record i of `out` is what oes_date_of_day gives for day i,
+ * for every i below `count`, reason 0 in it too; the records from `count` on stay as they were. */
 oes_filled oes_dates(const uint32_t *days, size_t days_count, oes_date *out, size_t out_places);
 
 /* By the solstice year. */

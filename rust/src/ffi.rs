@@ -1,4 +1,4 @@
-//! The C interface of capi, as `crates/capi/oesterwrok.h` gives it, and the only unsafe code of the package.
+//! The C interface of capi, as `crates/capi/oesterwrok.h` gives it: with `drawn.rs` the only unsafe code of the package.
 //!
 //! What the header asks of a caller is met here for every Rust caller: a slice is never null and always aligned, an empty one
 //! too; a lent slice overlaps no other, since it is borrowed alone; and a `bool` is 0 or 1.

@@ -23,6 +23,7 @@
 #![deny(unsafe_code)]
 #![warn(missing_docs)]
 
+pub mod drawn;
 mod ffi;
 pub mod independent;
 mod types;
@@ -43,15 +44,20 @@ pub fn record_of_day(day: u64) -> DateRecord {
 }
 
 /// A whole drawer at once, at most 4,096 days: record i at the front of `out` is what [`record_of_day`] gives for day i. It gives
-/// how many were filled; the rest of `out` is untouched. Reasons 10, 12, 6; with 6 comes the place of the first day out of range.
+/// how many were filled; the rest of `out` is untouched. Reasons 10, 12, 6; with 6 comes the place of the first day out of range. A refused
+/// call leaves `out` as it was.
 ///
 /// ```
 /// use oesterwrok::{dates, DateRecord, DrawerRefused, Reason};
+///
 /// let mut drawer = [DateRecord::default(); 3];
-/// assert_eq!(dates(&[29, 27_759], &mut drawer), Ok(2));
-/// assert_eq!((drawer[1].date().year, drawer[1].date().day_name), (76, 40));
+/// assert_eq!(dates(&[27_759, 27_758], &mut drawer), Ok(2));
+/// assert_eq!((drawer[0].bu, drawer[0].year_in_bu, drawer[0].day_of_month), (2, 1, 1));
+/// assert_eq!((drawer[1].bu, drawer[1].year_in_bu, drawer[1].day_of_month), (1, 76, 30));
+/// assert_eq!(drawer[2], DateRecord::default());
+///
 /// let refused = DrawerRefused { reason: Reason::DayCount, place: Some(1) };
-/// assert_eq!(dates(&[29, 14_989_860], &mut drawer), Err(refused));
+/// assert_eq!(dates(&[29, 14_989_860, 14_989_860], &mut drawer), Err(refused));
 /// ```
 #[inline]
 pub fn dates(days: &[u32], out: &mut [DateRecord]) -> Result<u32, DrawerRefused> {

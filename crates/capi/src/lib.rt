@@ -1,6 +1,6 @@
-// The calls for C, declared in oesterwrok.h; what they promise is said in the crate `offered`. Each cuts its numbers down to 32 bits (but
-// for the count of a conjunction, which the public call takes as it is), asks the public call and lays the answer flat. Nothing is
-// decided here.
+// The calls for C, declared in oesterwrok.h; what they promise is said in the crate `offered`. Each but `oes_dates` cuts its numbers down to
+// 32 bits (but for the count of a conjunction, which the public call takes as it is), asks the public call and lays the answer flat. Nothing
+// is decided here. `oes_dates` fills records of its own form.
 ghost use mathlib.Core.Path.{_≡_};
 ghost use Rattle.capped.specs.Capped.{cappedField, cappedReading};
 ghost use Rattle.offered.specs.Promises.{

@@ -30,9 +30,6 @@ use Rattle.drawer.specs.Paper as Paper
 use Rattle.drawer.specs.Paper.{NotTooMany, Roomy, AllInRange, FirstBad, FilledWith, SingleCall}
 use Rattle.drawer.proofs.Rows.{filled-with, only-first, Row, row}
 
-pub one-first-bad : Paper.One-first-bad
-one-first-bad = only-first
-
 -- the promise, by its row and the list that it leaves
 module _ (days : List ℕ) (old : List Date) (a : Filled) (new : List Date) where
   abbrev left-by : Answer ℕ → List Date
@@ -103,6 +100,16 @@ refusal-fills-nothing =
       bad-day = λ days old i new s. promised days old (BadDay i) new .0 s .1;
     }
 
+-- there is an answer of the call, whatever is asked
+pub there-is : (days : List ℕ) (room : ℕ) → (a : Filled) × (saidFilled a ≡ drawerAt days room)
+there-is days room = go (drawerAt days room) (row days room (drawerAt days room) .0 refl)
+  where
+    go : (x : Answer ℕ) → Row days room x → (a : Filled) × (saidFilled a ≡ x)
+    go (is n) w = (Is n, refl)
+    go (refused k) (inl (e, h)) = (Refused CountTooLarge, ap refused (sym e))
+    go (refused k) (inr (e, h)) = (Refused LentTooShort, ap refused (sym e))
+    go (refused-with k i) (e, h) = (BadDay i, ap (λ (n : ℕ). refused-with n i) (sym e))
+
 -- an answer can be read back from what it says
 back-to-filled : Answer ℕ → Filled
 back-to-filled (is n) = Is n
@@ -143,6 +150,9 @@ second-of-two-big-filled days old n new m i j none s big also l k e =
 -- the place that is told is that of the first bad day
 first-bad : {days : List ℕ} {old : List Date} {i : ℕ} {new : List Date} → FillDates days old (BadDay i) new → FirstBad days i
 first-bad {days} {old} {i} {new} s = reasons-of-a-drawer days old new .six i .0 s .1 .1 .0
+
+pub one-first-bad : Paper.One-first-bad
+one-first-bad days old i new j s f = only-first days i j (first-bad s) f
 
 -- a drawer of few enough days and enough records is not refused, and the one day of a drawer is not bad where it is in range
 not-refused : (days : List ℕ) (old : List Date) (why : Reason) (new : List Date) → NotTooMany days → Roomy days old → FillDates days old (Refused why) new → ⊥

@@ -13,7 +13,7 @@ use Rattle.rule.specs.Reasons.{Answer, is, refused, refused-with}
 use Rattle.rule.proofs.Pairs.{lt-or-le}
 use Rattle.rule.proofs.Answers.{exactly, turned}
 use Rattle.drawer.specs.Drawer.{drawerAt}
-use Rattle.drawer.specs.Paper.{NotTooMany, Roomy, AllInRange, FirstBad, FilledWith, One-first-bad}
+use Rattle.drawer.specs.Paper.{NotTooMany, Roomy, AllInRange, FirstBad, FilledWith}
 use Rattle.drawer.proofs.Days.{Verdict, many, short, bad, good, too-many, too-few, verdict}
 
 -- a list filled from its front: the images, and behind them what was there
@@ -66,7 +66,8 @@ module _ {X : Type 0} (of : ℕ → X) (Gives : ℕ → X → Type 0) (gives : (
   pub filled-with : (new : List X) → (new ≡ placed images old) ↔ FilledWith Gives days old new
   filled-with new = turned (exactly (FilledWith Gives days old) (placed images old) fills only-fills new)
 
-pub only-first : One-first-bad
+-- there is one first bad place
+pub only-first : (days : List ℕ) (i j : ℕ) → FirstBad days i → FirstBad days j → i ≡ j
 only-first days i j p q =
     let not-before : ¬ (i < j) = λ l. p .bad (q .good-before i l) in
     let not-after : ¬ (j < i) = λ l. q .bad (p .good-before j l) in

@@ -68,8 +68,8 @@ unfolding dateOf dateIn
 other n d e i j = rw (same n e d j i, ← of-day-only n d i)
 
 -- a month of which x is given, and a day of its
-module _ {X : Type 0} {of : ℕ → X} {start days : ℕ} {x : X} (i : OfMonth of start days x) (d : ℕ) where
-  module _ (h : Holds start days d) where
+module _ {X : Type 0} {of : ℕ → X} {start count : ℕ} {x : X} (i : OfMonth of start count x) (d : ℕ) where
+  module _ (h : Holds start count d) where
     within : InMonth (i .n) d
     within = (omega (arith, i .begins, h .0), omega (arith, i .ends, h .1))
 
@@ -80,5 +80,5 @@ module _ {X : Type 0} {of : ℕ → X} {start days : ℕ} {x : X} (i : OfMonth o
     dated = ap (λ (s : ℕ). withDay (dateOf (i .e)) (d - s + 1) (dayName d)) (i .begins) ∙ other (i .n) d (i .e) within (i .on-its-days)
 
   -- a day that is less than so many days after the month's first, counted round, is one of them
-  pub round : (w : ℕ) → (w + start) % 2 ^ 32 ≡ d → w < days → Holds start days d
+  pub round : (w : ℕ) → (w + start) % 2 ^ 32 ≡ d → w < count → Holds start count d
   round w e l = let r = i .in-range in let a = i .begins in let b = i .ends in omega (arith, start-end (i .n + 1) (omega arith))

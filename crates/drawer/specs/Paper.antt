@@ -71,9 +71,9 @@ pub record DrawerReasons (days : List ℕ) (old new : List Date) : Type 0 where
 abbrev pub Reasons-of-a-drawer : Type 0
 Reasons-of-a-drawer = (days : List ℕ) (old new : List Date) → DrawerReasons days old new
 
--- the place is that of the first bad day and of no other: there is one such place
+-- the place is that of the first bad day and of no other
 abbrev pub One-first-bad : Type 0
-One-first-bad = (days : List ℕ) (i j : ℕ) → FirstBad days i → FirstBad days j → i ≡ j
+One-first-bad = (days : List ℕ) (old : List Date) (i : ℕ) (new : List Date) (j : ℕ) → FillDates days old (BadDay i) new → FirstBad days j → i ≡ j
 
 -- a refused call fills nothing
 pub record Refusal-fills-nothing : Type 0 where

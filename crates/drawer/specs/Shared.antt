@@ -6,20 +6,20 @@ use Rattle.rule.specs.Rule.{monthStart, InMonth}
 use Rattle.dates.specs.Dates.{dateOf}
 use Rattle.drawer.specs.declared.Shared.{Shared}
 
--- month n, a month in range, starts on day `start` and has `days` days, and x is what `of` gives for its day e
-pub record OfMonth {X : Type 0} (of : ℕ → X) (start days : ℕ) (x : X) : Type 0 where
+-- month n, a month in range, starts on day `start` and has `count` days, and x is what `of` gives for its day e
+pub record OfMonth {X : Type 0} (of : ℕ → X) (start count : ℕ) (x : X) : Type 0 where
   pub n : ℕ
   pub e : ℕ
   pub begins : start ≡ monthStart n
-  pub ends : start + days ≡ monthStart (n + 1)
+  pub ends : start + count ≡ monthStart (n + 1)
   pub in-range : MonthInRange n
   pub on-its-days : InMonth n e
   pub given : x ≡ of e
 
--- x is the date of one of its days
+-- what is shared holds the date of one of its days
 abbrev pub IsShared : Shared → Type 0
-IsShared s = OfMonth dateOf (s .start) (s .length) (s .date)
+IsShared s = OfMonth dateOf (s .start) (s .«month_length») (s .date)
 
--- day d is one of the `days` days from `start` on
+-- day d is one of the `count` days from `start` on
 abbrev pub Holds : ℕ → ℕ → ℕ → Type 0
-Holds start days d = (start ≤ d) × (d < start + days)
+Holds start count d = (start ≤ d) × (d < start + count)

@@ -20,7 +20,7 @@ pub enum Filled {
 // What the days of one month share: its first day, how many they are, and the date of one of them.
 struct Shared {
     pub start: u32,
-    pub length: u32,
+    pub month_length: u32,
     pub date: Date,
 }
 
@@ -70,7 +70,7 @@ pub fn drawer_at(days: &[u32], room: usize) -> Filled
 }
 
 // How many records are filled: none where the drawer comes back.
-fn to_fill(answer: Filled) -> usize
+pub fn to_fill(answer: Filled) -> usize
     ensures { λ r. ⌜ r ≡ toFill (saidFilled answer) ⌝ }
 {
     match answer {
@@ -83,12 +83,12 @@ fn to_fill(answer: Filled) -> usize
 // What the days of a day's month share, by its date.
 fn shared_at(day: u32) -> Shared
     requires { ⌜ DayInRange day ⌝ }
-    ensures { λ r. ⌜ IsShared r × Holds (r .start) (r .length) day ⌝ }
+    ensures { λ r. ⌜ IsShared r × Holds (r .start) (r .«month_length») day ⌝ }
 {
     let date = dates::date_at(day);
     Shared {
         start: day + 1 - date.day_of_month as u32,
-        length: date.month_length as u32,
+        month_length: date.month_length as u32,
         date: date,
     }
 }
@@ -96,9 +96,9 @@ fn shared_at(day: u32) -> Shared
 // The same, kept while the day lies in that month. (A day before the month's first wraps round to more than its days.)
 fn shared_for(kept: Shared, day: u32) -> Shared
     requires { ⌜ IsShared kept × DayInRange day ⌝ }
-    ensures { λ r. ⌜ IsShared r × Holds (r .start) (r .length) day ⌝ }
+    ensures { λ r. ⌜ IsShared r × Holds (r .start) (r .«month_length») day ⌝ }
 {
-    if std::num::wrapping_sub_u32(day, kept.start) < kept.length {
+    if std::num::wrapping_sub_u32(day, kept.start) < kept.month_length {
         return kept;
     }
     shared_at(day)
@@ -106,7 +106,7 @@ fn shared_for(kept: Shared, day: u32) -> Shared
 
 // The date of a day from what the days of its month share: day of month and day name are its own.
 fn date_in(shared: Shared, day: u32) -> Date
-    requires { ⌜ IsShared shared × Holds (shared .start) (shared .length) day ⌝ }
+    requires { ⌜ IsShared shared × Holds (shared .start) (shared .«month_length») day ⌝ }
     ensures { λ r. ⌜ r ≡ dateOf day ⌝ }
 {
     let mut date = shared.date;

@@ -34,9 +34,9 @@ flatWithDay r m name =
       eclipse = r .eclipse;
     }
 
-module _ {start days : ℕ} {x : CDate} (i : OfMonth cDateAt start days x) (d : ℕ) (h : Holds start days d) where
+module _ {start count : ℕ} {x : CDate} (i : OfMonth cDateAt start count x) (d : ℕ) (h : Holds start count d) where
   -- the month's days are in range
-  ends : start + days ≤ 14989860
+  ends : start + count ≤ 14989860
   ends = omega (arith, i .ends, start-end (i .n + 1) (omega (arith, i .in-range)))
 
   other-in-range : DayInRange (i .e)

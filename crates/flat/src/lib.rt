@@ -1,4 +1,5 @@
-// Answers laid flat for C, each into its struct of the crate `offered`. Numbers are widened, nothing is decided here.
+// Answers laid flat for C, each into its struct of the crate `offered`. Numbers are widened, and nothing is decided but, for a drawer, whether a
+// day still lies in the month that was kept.
 ghost use mathlib.Core.Path.{_≡_};
 ghost use Rattle.rule.specs.Counts.{DayInRange};
 ghost use Rattle.dates.specs.Promises.{saidDate, saidDay};
@@ -447,29 +448,29 @@ pub fn flat_length(a: HowMany) -> CLength
 // What the days of one month share, the date of one of them laid flat (drawer::Shared has it as it is).
 pub struct FlatShared {
     pub start: u32,
-    pub length: u32,
+    pub month_length: u32,
     pub date: CDate,
 }
 
 // What the days of a day's month share.
 pub fn flat_shared_at(day: u32) -> FlatShared
     requires { ⌜ DayInRange day ⌝ }
-    ensures { λ r. ⌜ OfMonth cDateAt (r .start) (r .length) (r .date) × Holds (r .start) (r .length) day ⌝ }
+    ensures { λ r. ⌜ OfMonth cDateAt (r .start) (r .«month_length») (r .date) × Holds (r .start) (r .«month_length») day ⌝ }
 {
     let date = dates::date_at(day);
     FlatShared {
         start: day + 1 - date.day_of_month as u32,
-        length: date.month_length as u32,
+        month_length: date.month_length as u32,
         date: given_date(date),
     }
 }
 
 // The same, kept while the day lies in that month.
 pub fn flat_shared_for(kept: FlatShared, day: u32) -> FlatShared
-    requires { ⌜ OfMonth cDateAt (kept .start) (kept .length) (kept .date) × DayInRange day ⌝ }
-    ensures { λ r. ⌜ OfMonth cDateAt (r .start) (r .length) (r .date) × Holds (r .start) (r .length) day ⌝ }
+    requires { ⌜ OfMonth cDateAt (kept .start) (kept .«month_length») (kept .date) × DayInRange day ⌝ }
+    ensures { λ r. ⌜ OfMonth cDateAt (r .start) (r .«month_length») (r .date) × Holds (r .start) (r .«month_length») day ⌝ }
 {
-    if std::num::wrapping_sub_u32(day, kept.start) < kept.length {
+    if std::num::wrapping_sub_u32(day, kept.start) < kept.month_length {
         return kept;
     }
     flat_shared_at(day)
@@ -477,7 +478,7 @@ pub fn flat_shared_for(kept: FlatShared, day: u32) -> FlatShared
 
 // The date of a day, laid flat, from what the days of its month share.
 pub fn flat_date_in(shared: FlatShared, day: u32) -> CDate
-    requires { ⌜ OfMonth cDateAt (shared .start) (shared .length) (shared .date) × Holds (shared .start) (shared .length) day ⌝ }
+    requires { ⌜ OfMonth cDateAt (shared .start) (shared .«month_length») (shared .date) × Holds (shared .start) (shared .«month_length») day ⌝ }
     ensures { λ r. ⌜ r ≡ cDateAt day ⌝ }
 {
     let mut date = shared.date;

@@ -1,25 +1,28 @@
 -- A drawer's answer and its records laid flat: what the statements of the calls for C have of it. Assumes nothing.
-use Prim.Native.Nat.{ℕ, _<_}
+use Prim.Native.Nat.{ℕ, _≤_, _<_}
 use native.Mathlib.Omega.{arith}
 use mathlib.Core.Path.{_≡_, refl, ap, sym, _∙_, subst}
 use mathlib.Core.Logic.{_↔_, _≢_, ⊎-elim}
 use mathlib.Core.List.{List, map}
-use lib.ListN.{length, getD}
+use lib.ListN.{length, getD, replicate, length-replicate, getD-replicate}
+use lib.Seq.{ext-getD}
 use Rattle.rule.specs.Reasons.{Answer, is, refused, refused-with, afterwards}
 use Rattle.dates.specs.declared.Date.{Date}
+use Rattle.dates.specs.Dates.{dateOf}
 use Rattle.dates.proofs.Days.{a-day}
 use Rattle.drawer.specs.declared.Filled.{Filled}
 use Rattle.drawer.specs.declared.Filled.the-variants.{Is, BadDay, Refused}
-use Rattle.drawer.specs.Drawer.{drawerAt, saidFilled, FillDates}
-use Rattle.drawer.specs.Paper.{FirstBad}
-use Rattle.drawer.proofs.Paper.{drawer-filled}
+use Rattle.drawer.specs.Drawer.{drawerAt, saidFilled, toFill, FillDates}
+use Rattle.drawer.specs.Paper.{FirstBad, SingleCall}
+use Rattle.drawer.proofs.Days.{too-many}
+use Rattle.drawer.proofs.Paper.{drawer-filled, there-is}
 use Rattle.drawer.proofs.Rows.{filled-with, Row, row}
 use Rattle.offered.specs.declared.CDate.{CDate}
 use Rattle.offered.specs.declared.CFilled.{CFilled}
-use Rattle.offered.specs.Flat.{givenDate, flatDate, flatFilled}
+use Rattle.offered.specs.Flat.{givenDate, noDate, flatDate, flatFilled}
 use Rattle.offered.specs.Promises.{cDateAt, CDateOfDay, CFillDates}
 use Rattle.offered.specs.Structs.{BareFilled}
-use Rattle.offered.specs.Paper.{DrawerFilled, SaysTheDrawer}
+use Rattle.offered.specs.Paper.{GoodDrawer, SaysTheDrawer}
 use Rattle.offered.proofs.Sound.{none-is-0}
 
 -- the three fields of an answer
@@ -65,10 +68,10 @@ module _ (days : List ℕ) (old : List CDate) (r : CFilled) (new : List CDate) (
         l,
       )
 
-  pub drawer-zero : (r .reason ≡ 0) ↔ DrawerFilled days old r new
-  drawer-zero = (λ z. by-its-row (DrawerFilled days old r new) (go z), λ d. ap reason-of (d .so-many))
+  pub drawer-zero : (r .reason ≡ 0) ↔ GoodDrawer days old r new
+  drawer-zero = (λ z. by-its-row (GoodDrawer days old r new) (go z), λ d. ap reason-of (d .so-many))
     where
-      go : r .reason ≡ 0 → By (λ a. DrawerFilled days old r new)
+      go : r .reason ≡ 0 → By (λ a. GoodDrawer days old r new)
       go z (is n) (m, (o, (all, f))) e l =
           record {
             not-too-many = m;
@@ -90,15 +93,94 @@ module _ (days : List ℕ) (old : List CDate) (r : CFilled) (new : List CDate) (
         ap (λ (x : CDate). x .reason) single-record
         ∙ ap (λ (x : Answer Date). flatDate x .reason) (a-day (getD days i 0) (drawer-zero .0 z .in-range i l))
 
-  pub says-the-drawer : (held : List Date) (a : Filled) (after : List Date) → length held ≡ length old → FillDates days held a after →
-      SaysTheDrawer days r new a after
-  says-the-drawer held a after e f = record { answer = said; records = λ i none blank z l. single-record z i none l ∙ go a f said i blank z l }
-    where
-      said : r ≡ flatFilled (saidFilled a)
-      said = p .answer ∙ ap (λ (k : ℕ). flatFilled (drawerAt days k)) (sym e) ∙ ap flatFilled (sym (f .answered))
+-- what the call for C says is what the call says of the same days, given as many records
+module _ (days : List ℕ) (old : List CDate) (r : CFilled) (new : List CDate) (held : List Date) (e : length held ≡ length old) where
+  -- the answer of both
+  same-answer : (a : Filled) → saidFilled a ≡ drawerAt days (length held) → flatFilled (drawerAt days (length old)) ≡ flatFilled (saidFilled a)
+  same-answer a f = ap (λ (k : ℕ). flatFilled (drawerAt days k)) (sym e) ∙ ap flatFilled (sym f)
 
-      go : (a : Filled) → FillDates days held a after → r ≡ flatFilled (saidFilled a) → (i : ℕ) (blank : Date) → r .reason ≡ 0 → i < length days →
-          cDateAt (getD days i 0) ≡ givenDate (getD after i blank)
-      go (Is n) g s i blank z l = sym (ap flatDate (drawer-filled days held n after .0 g .1 .1 .1 .1 .single i blank l))
-      go (BadDay j) g s i blank z l = absurd (omega (arith, z, ap reason-of s))
-      go (Refused why) g s i blank z l = absurd (none-is-0 why (sym (ap reason-of s) ∙ z))
+  -- a record of the single call laid flat
+  laid : (d : ℕ) (x : Date) → SingleCall d x → cDateAt d ≡ givenDate x
+  laid d x s = ap flatDate (sym s)
+
+  says : CFillDates days old r new → (a : Filled) (after : List Date) → FillDates days held a after → SaysTheDrawer old r new a after
+  says p a after f = go a f (p .answer ∙ same-answer a (f .answered))
+    where
+      unfilled : (a : Filled) → r ≡ flatFilled (saidFilled a) → toFill (saidFilled a) ≡ 0 → r .reason ≢ 0 → SaysTheDrawer old r new a after
+      unfilled a s none-filled h =
+          let same = drawer-bare days old r new p h .1 in
+          record {
+            answer = s;
+            as-long = ap length same;
+            records = λ i none blank l. absurd (omega (arith, none-filled, l));
+            rest = λ i none l. ap (λ (x : List CDate). getD x i none) same;
+          }
+
+      go : (a : Filled) → FillDates days held a after → r ≡ flatFilled (saidFilled a) → SaysTheDrawer old r new a after
+      go (Is n) g s =
+          let z = ap reason-of s in
+          let whole = drawer-zero days old r new p .0 z .filled in
+          let told = drawer-filled days held n after .0 g .1 .1 .1 in
+          record {
+            answer = s;
+            as-long = whole .as-long;
+            records = λ i none blank l.
+                let h : i < length days = omega (arith, told .0, l) in
+                whole .single i none h ∙ laid (getD days i 0) (getD after i blank) (told .1 .single i blank h);
+            rest = λ i none l. whole .beyond i none (omega (arith, told .0, l));
+          }
+      go (BadDay j) g s = unfilled (BadDay j) s refl (λ z. omega (arith, z, ap reason-of s))
+      go (Refused why) g s = unfilled (Refused why) s refl (λ z. none-is-0 why (sym (ap reason-of s) ∙ z))
+
+  back : (a : Filled) (after : List Date) → FillDates days held a after → SaysTheDrawer old r new a after → CFillDates days old r new
+  back a after f s = record { answer = s .answer ∙ sym (same-answer a (f .answered)); lent = go a f s ∙ ap left (f .answered ∙ ap (drawerAt days) e) }
+    where
+      left : Answer ℕ → List CDate
+      left x = afterwards x (λ n. map cDateAt days) old
+
+      same-list : {a : Filled} → SaysTheDrawer old r new a after → ((i : ℕ) → toFill (saidFilled a) ≤ i) → new ≡ old
+      same-list t h = ext-getD (noDate 0) new old (t .as-long) (λ i l. t .rest i (noDate 0) (h i))
+
+      blank : Date
+      blank = dateOf 0
+
+      go : (a : Filled) → FillDates days held a after → SaysTheDrawer old r new a after → new ≡ left (saidFilled a)
+      go (Is n) g t =
+          let h = drawer-filled days held n after .0 g in
+          let m = h .1 .1 .1 .0 in
+          let k = h .1 .1 .1 .1 in
+          filled-with cDateAt CDateOfDay (λ d l x. (λ q. q, λ q. q)) days old (h .1 .1 .0) (omega (arith, e, h .1 .0)) new .1
+          record {
+            as-long = t .as-long;
+            single = λ i none l. t .records i none blank (omega (arith, m, l)) ∙ sym (laid (getD days i 0) (getD after i blank) (k .single i blank l));
+            beyond = λ i none l. t .rest i none (omega (arith, m, l));
+          }
+      go (BadDay j) g t = same-list t (λ i. omega arith)
+      go (Refused why) g t = same-list t (λ i. omega arith)
+
+  pub says-the-drawer :
+      CFillDates days old r new ↔ ((a : Filled) × (after : List Date) × FillDates days held a after × SaysTheDrawer old r new a after)
+  says-the-drawer = (
+    λ p.
+        let a = there-is days (length held) in
+        let after = afterwards (drawerAt days (length held)) (λ n. map dateOf days) held in
+        let f : FillDates days held (a .0) after = record { answered = a .1; lent = refl } in
+        (a .0, after, f, says p (a .0) after f),
+    λ (a, after, f, s). back a after f s,
+  )
+
+-- drawers of n days nought, and as many records or none
+pub of-noughts : (n : ℕ) → length (replicate {A = ℕ} n 0) ≡ n
+of-noughts n = length-replicate n 0
+
+pub overfull : (n room : ℕ) → 4096 < n → drawerAt (replicate n 0) room ≡ refused 10
+overfull n room l = too-many (replicate n 0) room (omega (arith, of-noughts n))
+
+pub full : (n : ℕ) (x : CDate) → n ≤ 4096 → drawerAt (replicate n 0) (length (replicate n x)) ≡ is n
+full n x l =
+    let m : length (replicate n x) ≡ n = length-replicate n x in
+    sym
+    (row (replicate n 0) (length (replicate n x)) (is n) .1 (
+      omega (arith, of-noughts n),
+      (omega (arith, of-noughts n, m), (λ i h. omega (arith, getD-replicate {A = ℕ} n i 0 0 (omega (arith, of-noughts n, h))), sym (of-noughts n))),
+    ))

@@ -6,7 +6,7 @@ use mathlib.Core.Logic.{_↔_, _≢_}
 use mathlib.Core.Bool.{Bool, true, false, _&&_}
 use mathlib.Core.List.{List}
 use lib.Dec.{leb}
-use lib.ListN.{length, getD}
+use lib.ListN.{length, getD, replicate}
 use Rattle.rule.specs.Reasons.{Answer, is, refused, refused-with, guard, andThen, reasonNumber, guard-with, afterwards}
 use Rattle.rule.specs.declared.Reason.{Reason}
 use Rattle.rule.specs.declared.Reason.the-variants.{NoSuchDay, BadWindow, FieldOutOfRange}
@@ -102,6 +102,7 @@ use Rattle.offered.specs.Flat.{
   givenLength,
   noLength,
   flatLength,
+  flatFilled,
 }
 use Rattle.offered.specs.Structs.{
   BareDate,
@@ -124,7 +125,7 @@ use Rattle.offered.specs.Paper as Paper
 use Rattle.offered.specs.Paper.{CAgrees}
 use Rattle.offered.proofs.Sound as Sound
 use Rattle.offered.proofs.Sound.{Sound, given, numbered, none-is-0}
-use Rattle.offered.proofs.Drawers.{reason-of, place-of, drawer-bare, drawer-zero, single-record, record-given, says-the-drawer}
+use Rattle.offered.proofs.Drawers.{reason-of, place-of, drawer-bare, drawer-zero, single-record, record-given, says-the-drawer, of-noughts, overfull, full}
 use Rattle.offered.proofs.Texts.{text-said, unwritten, year-11, line-134, month-134, day-0}
 use Rattle.dates.specs.Paper.{AgreesWith}
 use Rattle.dates.proofs.Computing.{dates-computed}
@@ -413,7 +414,7 @@ says-what-the-call-says =
             (w .0, record { answered = w .1; lent = p .lent }, p .answer ∙ sym (ap flatFound (w .1))),
         λ w. record { answer = w .2 ∙ ap flatFound (w .1 .answered); lent = w .1 .lent },
       );
-      fill-dates = λ days old r new held a after e p f. says-the-drawer days old r new p held a after e f;
+      fill-dates = λ days old r new held e. says-the-drawer days old r new held e;
       read-sheet = λ s y m d r y′ m′ d′.
           let c = counts-said (Sound.read-sound s (length y) (length m) (length d)) r in (
             λ p. let w = c .0 (p .answer) in (w .0, record { answer = w .1; years = p .years; months = p .months; days = p .days }, w .2),
@@ -533,6 +534,13 @@ wrong-exported =
       skipping-second = λ r p. unlike-records 1 (p .lent) (λ e. let f : _≡_ {A = ℕ} 1 30 = e in omega arith);
       last-bad-place = λ r x new p other. other (ap place-of (p .answer));
       beyond-the-last = λ r p. unlike-records 1 (p .lent) (λ e. let f : _≡_ {A = ℕ} 30 1 = e in omega arith);
+      turned-round = λ r x y p. unlike-records 0 (p .lent) (λ e. let f : _≡_ {A = ℕ} 1 30 = e in omega arith);
+      filled-before-refusal = λ r p. unlike-records 0 (p .lent) (λ e. let f : _≡_ {A = ℕ} 30 1 = e in omega arith);
+      six-before-twelve = λ r new p other. other (ap reason-of (p .answer));
+      twelve-before-ten = λ r new p other. other (ap reason-of (p .answer ∙ ap flatFilled (overfull 4097 0 (omega arith))));
+      full-refused = λ r x new p. no-refusal reason-of (p .answer ∙ ap flatFilled (full 4096 x (omega arith))) refl;
+      overfull-taken = λ r x new p z. omega (arith, of-noughts 4097, drawer-zero (replicate 4097 0) (replicate 4097 x) r new p .0 z .not-too-many);
+      second-big-refused = λ r x new p. no-refusal reason-of (p .answer) refl;
       inventing-a-count = λ r x new p other. other (ap (λ (x : CFilled). x .count) (p .answer));
       reading-none = λ r m d p. unlike 0 (p .years) (λ e. let f : _≡_ {A = ℕ} 0 11 = e in omega arith);
       reading-first-over = λ r m d p. unlike 1 (p .years) (λ e. let f : _≡_ {A = ℕ} 11 12 = e in omega arith);

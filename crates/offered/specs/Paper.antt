@@ -60,7 +60,7 @@ use Rattle.reading.specs.declared.Found.{Found}
 use Rattle.reading.specs.declared.Found.the-variants as Found'
 use Rattle.reading.specs.Search.{total, saidFound, Searched}
 use Rattle.drawer.specs.declared.Filled.{Filled}
-use Rattle.drawer.specs.Drawer.{saidFilled, FillDates}
+use Rattle.drawer.specs.Drawer.{saidFilled, toFill, FillDates}
 use Rattle.drawer.specs.Paper.{NotTooMany, Roomy, AllInRange, FilledWith}
 use Rattle.sheet.specs.declared.Counted.{Counted}
 use Rattle.sheet.specs.declared.SheetCounts.{SheetCounts}
@@ -222,11 +222,13 @@ abbrev pub PrintSaid : (ℕ → List ℕ → CLength → List ℕ → Type 0) �
 PrintSaid C P =
     (x : ℕ) (o : List ℕ) (r : CLength) (o′ : List ℕ) → C x o r o′ ↔ ((a : HowMany) × P x o a o′ × (r ≡ flatLength (saidHowMany a)))
 
--- of a drawer, whose records have another form: the answer is that of the call, given as many records, and each record that is filled is
--- that of the call, laid flat
-pub record SaysTheDrawer (days : List ℕ) (r : CFilled) (new : List CDate) (a : Filled) (after : List Date) : Type 0 where
+-- of a drawer, whose records have another form: the answer is that of the call, each record that the call fills is that of the call, laid
+-- flat, and the rest is as it was
+pub record SaysTheDrawer (old : List CDate) (r : CFilled) (new : List CDate) (a : Filled) (after : List Date) : Type 0 where
   pub answer : r ≡ flatFilled (saidFilled a)
-  pub records : (i : ℕ) (none : CDate) (blank : Date) → r .reason ≡ 0 → i < length days → getD new i none ≡ givenDate (getD after i blank)
+  pub as-long : length new ≡ length old
+  pub records : (i : ℕ) (none : CDate) (blank : Date) → i < toFill (saidFilled a) → getD new i none ≡ givenDate (getD after i blank)
+  pub rest : (i : ℕ) (none : CDate) → toFill (saidFilled a) ≤ i → getD new i none ≡ getD old i none
 
 pub record Says-what-the-call-says : Type 0 where
   pub date-of-day : (d : ℕ) (r : CDate) → CDateOfDay d r ↔ ((a : Dated) × DateOfDay d a × (r ≡ flatDate (saidDate a)))
@@ -254,8 +256,8 @@ pub record Says-what-the-call-says : Type 0 where
       CSearch r first last old a new
       ↔ ((f : Found) × Searched (readingOf r) first last old f new × (a ≡ flatFound (saidFound f)))
   pub fill-dates :
-      (days : List ℕ) (old : List CDate) (r : CFilled) (new : List CDate) (held : List Date) (a : Filled) (after : List Date) →
-      length held ≡ length old → CFillDates days old r new → FillDates days held a after → SaysTheDrawer days r new a after
+      (days : List ℕ) (old : List CDate) (r : CFilled) (new : List CDate) (held : List Date) → length held ≡ length old →
+      CFillDates days old r new ↔ ((a : Filled) × (after : List Date) × FillDates days held a after × SaysTheDrawer old r new a after)
   pub read-sheet :
       (s y m d : List ℕ) (r : CSheetCounts) (y′ m′ d′ : List ℕ) →
       CReadSheet s y m d r y′ m′ d′ ↔ ((a : SheetCounts) × ReadSheet s y m d a y′ m′ d′ × (r ≡ flatCounts (saidCounts a)))
@@ -299,7 +301,7 @@ ZeroPrint C P =
     C x o r o′ → (r .reason ≡ 0) ↔ ((n : ℕ) × P x o (HowMany'.Is n) o′ × (r ≡ givenLength n))
 
 -- of a drawer: a good one, all of whose days have what the single call for C gives, as many as are said
-pub record DrawerFilled (days : List ℕ) (old : List CDate) (r : CFilled) (new : List CDate) : Type 0 where
+pub record GoodDrawer (days : List ℕ) (old : List CDate) (r : CFilled) (new : List CDate) : Type 0 where
   pub not-too-many : NotTooMany days
   pub roomy : Roomy days old
   pub in-range : AllInRange days
@@ -339,7 +341,7 @@ pub record Reason-0-iff-answered : Type 0 where
       (a .reason ≡ 0) ↔ ((n : ℕ) × Searched (readingOf r) first last old (Found'.Is n) new × (a ≡ flatFound (is n)))
   pub fill-dates :
       (days : List ℕ) (old : List CDate) (r : CFilled) (new : List CDate) →
-      CFillDates days old r new → (r .reason ≡ 0) ↔ DrawerFilled days old r new
+      CFillDates days old r new → (r .reason ≡ 0) ↔ GoodDrawer days old r new
   pub read-sheet :
       (s y m d : List ℕ) (r : CSheetCounts) (y′ m′ d′ : List ℕ) →
       CReadSheet s y m d r y′ m′ d′ →
@@ -384,7 +386,9 @@ Unwritten P x n = (o : List ℕ) (r : CLength) → n ≤ length o → getD o 0 0
 
 -- wrong versions, each shut out at a named input: one that refuses all; one date for every day, and a move that never moves; one that
 -- fills nothing, copies a list's first item over the rest or leaves the rest out; an invented total, where the search is answered and
--- where it is refused with 12; and of a drawer what drawer/specs/Paper.antt has as Wrong-drawers, where C can see it
+-- where it is refused with 12; and of a drawer: one that refuses all, or the thirtieth of the second of two big months; that fills no record,
+-- copies the first over the rest, skips every second or turns the list round; the last bad place; a record beyond the last changed, or one
+-- filled before the refusal; an invented count; 6 before 12, 12 before 10; 4,096 days refused, 4,097 taken
 pub record Wrong-exported : Type 0 where
   pub refusing-days : (r : CDate) → CDateOfDay 0 r → r .reason ≢ 0 → ⊥
   pub refusing-dates : (r : CDay) → CDayOfDate 0 11 false 1 r → r .reason ≢ 0 → ⊥
@@ -424,6 +428,20 @@ pub record Wrong-exported : Type 0 where
   pub beyond-the-last :
       (r : CFilled) →
       CFillDates (27758 ∷ []) (givenDate firstOfBu2 ∷ givenDate firstOfBu2 ∷ []) r (givenDate lastOfBu1 ∷ givenDate lastOfBu1 ∷ []) → ⊥
+  pub turned-round :
+      (r : CFilled) (x y : CDate) →
+      CFillDates (27758 ∷ 27759 ∷ []) (x ∷ y ∷ []) r (givenDate firstOfBu2 ∷ givenDate lastOfBu1 ∷ []) → ⊥
+  pub filled-before-refusal :
+      (r : CFilled) →
+      CFillDates (27758 ∷ 14989860 ∷ []) (givenDate firstOfBu2 ∷ givenDate firstOfBu2 ∷ []) r (givenDate lastOfBu1 ∷ givenDate firstOfBu2 ∷ [])
+      → ⊥
+  pub six-before-twelve : (r : CFilled) (new : List CDate) → CFillDates (14989860 ∷ []) [] r new → r .reason ≢ 12 → ⊥
+  pub twelve-before-ten : (r : CFilled) (new : List CDate) → CFillDates (replicate 4097 0) [] r new → r .reason ≢ 10 → ⊥
+  pub full-refused :
+      (r : CFilled) (x : CDate) (new : List CDate) → CFillDates (replicate 4096 0) (replicate 4096 x) r new → r .reason ≢ 0 → ⊥
+  pub overfull-taken :
+      (r : CFilled) (x : CDate) (new : List CDate) → CFillDates (replicate 4097 0) (replicate 4097 x) r new → r .reason ≡ 0 → ⊥
+  pub second-big-refused : (r : CFilled) (x : CDate) (new : List CDate) → CFillDates (3838 ∷ []) (x ∷ []) r new → r .reason ≢ 0 → ⊥
   pub inventing-a-count : (r : CFilled) (x : CDate) (new : List CDate) → CFillDates (0 ∷ []) (x ∷ []) r new → r .count ≢ 1 → ⊥
   pub reading-none : (r : CSheetCounts) (m d : List ℕ) → CReadSheet sheetOf11 (0 ∷ []) [] [] r (0 ∷ []) m d → ⊥
   pub reading-first-over : (r : CSheetCounts) (m d : List ℕ) → CReadSheet sheetOfTwos (0 ∷ 0 ∷ []) (0 ∷ 0 ∷ []) (0 ∷ 0 ∷ []) r (11 ∷ 11 ∷ []) m d → ⊥

@@ -193,7 +193,7 @@ stayed = (stay-none-slice (0 ∷ []) tt (plain (λ _. u32)) yes, (stay-slice (1 
 
 -- what is promised of a shared value for a day
 abbrev SharedBy : Shared → ℕ → Type 0
-SharedBy s d = IsShared s × Holds (s .start) (s .length) d
+SharedBy s d = IsShared s × Holds (s .start) (s .«month_length») d
 
 module _ {M : Type 1} (𝓤 : URA M) (H : Heap 𝓤) (A : Atoms 𝓤) (mem : Memory → SProp 𝓤) (run : Routine → Fun 𝓤) where
   -- the contracts that the proof cites

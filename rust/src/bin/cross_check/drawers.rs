@@ -1,10 +1,12 @@
-//! Drawers of days: how many records were filled or why none was, and the whole lent list.
+//! Drawers of days: how many records were filled or why none was, and the whole lent list; and of the Rattle call, whose records do not
+//! leave it, what they add up to.
 
 use crate::lent::Lent;
 use crate::random::Random;
 use crate::tally::{at_random, every, part, Piece, Row, Tally, PIECES};
 use crate::DAYS;
-use oesterwrok::{self as capi, independent as own, DateRecord, Reason};
+use oesterwrok::drawn::{drawn, sum_of};
+use oesterwrok::{self as capi, independent as own, DateRecord, DrawerRefused, Reason};
 use std::sync::Arc;
 
 /// The most days of a drawer.
@@ -115,7 +117,24 @@ fn compare(
             days.len()
         )
     });
+    compare_drawn(days, tally);
     capi_list
+}
+
+/// Fills the same drawer by the Rattle call, which has 4,096 records of its own, and by the independent one.
+fn compare_drawn(days: &[u32], tally: &mut Tally) {
+    tally.compare(drawn(days), own_drawn(days), || {
+        let front = &days[..days.len().min(8)];
+        format!("fill_dates of {} days; the first {front:?}", days.len())
+    });
+}
+
+/// The independent one's drawer, added up.
+fn own_drawn(days: &[u32]) -> Result<(u32, u64), DrawerRefused> {
+    let mut records = vec![DateRecord::default(); MOST];
+    let count = own::dates(days, &mut records)?;
+    let filled = &records[..count as usize];
+    Ok((count, sum_of(filled.iter().map(DateRecord::date))))
 }
 
 /// Holds each record to capi's own single call.

@@ -155,7 +155,8 @@ fn print_row(what: &str, tally: &Tally) {
     );
 }
 
-/// Prints the first differences of each row and the last line; a reason that was never met is a fault of the cross-check.
+/// Prints the first differences of each row and the last line; a reason that was never met, and a row that
+/// compared nothing, is a fault of the cross-check.
 fn verdict(rows: &[Row], tallies: &[Tally], total: &Tally) -> ExitCode {
     for (row, tally) in rows
         .iter()
@@ -174,6 +175,14 @@ fn verdict(rows: &[Row], tallies: &[Tally], total: &Tally) -> ExitCode {
             total.different(),
             total.compared
         );
+        return ExitCode::FAILURE;
+    }
+    if let Some((row, _)) = rows
+        .iter()
+        .zip(tallies)
+        .find(|(_, tally)| tally.compared == 0)
+    {
+        println!("\nFAILED: {}: nothing was compared", row.what);
         return ExitCode::FAILURE;
     }
     if let Some(never) = REASONS.iter().find(|&&reason| total.times_met(reason) == 0) {

@@ -134,7 +134,7 @@ impl Answer for Result<u32, SearchRefused> {
     }
 }
 
-impl Answer for Result<u32, DrawerRefused> {
+impl<T: PartialEq + Debug> Answer for Result<T, DrawerRefused> {
     fn reason(&self) -> u32 {
         self.as_ref()
             .err()

@@ -1,0 +1,2 @@
+-- What is told of a filled drawer in plain numbers.
+pub mod Drawn
