@@ -38,28 +38,39 @@ pub fn drawn(days: &[u32]) -> Result<(u32, u64), DrawerRefused> {
     filled.map(|count| (count, sum))
 }
 
-/// What records of these dates add up to: the values of each side by side, and each sum cut to 58 bits and taken 61 times before the
-/// next record comes in.
+/// What records of these dates add up to: before the next record comes in the sum is turned by seven bits.
 pub fn sum_of(dates: impl Iterator<Item = Date>) -> u64 {
-    dates.fold(0, |sum, date| sum % (1 << 58) * 61 + packed(&date))
+    dates.fold(0, |sum, date| added(sum, words(&date)))
 }
 
-/// The values of a date side by side, the first in the lowest bits.
-fn packed(date: &Date) -> u64 {
-    let values = [
-        (date.year, 16),
-        (date.month.number(), 4),
-        (u32::from(date.month.is_leap()), 1),
-        (date.day_of_month, 5),
-        (date.month_length, 5),
-        (date.day_name, 6),
-        (date.year_name, 6),
-        (date.ji, 2),
-        (date.bu, 5),
-        (date.year_in_bu, 7),
-        (u32::from(date.eclipse), 1),
+/// The two words of one record more in a sum.
+#[inline]
+pub fn added(sum: u64, (low, high): (u64, u64)) -> u64 {
+    sum.rotate_left(7)
+        .wrapping_add(low)
+        .wrapping_add(4_294_967_291 * high)
+}
+
+/// The values of a date in two words, the first in the lowest bits: 16 bits for the year, 8 for any other.
+fn words(date: &Date) -> (u64, u64) {
+    let low = [
+        u32::from(date.month.is_leap()),
+        date.month.number(),
+        date.year & 255,
+        date.year >> 8,
+        date.day_of_month,
+        date.month_length,
+        date.day_name,
+        date.year_name,
     ];
-    values.iter().rev().fold(0, |number, &(value, bits)| {
-        number << bits | u64::from(value)
-    })
+    let high = [date.ji, date.bu, date.year_in_bu, u32::from(date.eclipse)];
+    (bytes(&low), bytes(&high))
+}
+
+/// Bytes in one number, the first the lowest.
+fn bytes(values: &[u32]) -> u64 {
+    values
+        .iter()
+        .rev()
+        .fold(0, |number, &value| number << 8 | u64::from(value))
 }

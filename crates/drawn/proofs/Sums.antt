@@ -1,14 +1,12 @@
 -- Laws of the sum of records; what a filled drawer is told as. Assumes nothing.
-use Prim.Native.Nat.{ℕ, zero, suc, _+_, _<_}
+use Prim.Native.Nat.{ℕ, zero, suc, _+_, _*_, _/_, _%_, _^_, _<_}
 use native.Mathlib.Nat.{not-suc-le-zero, le-of-suc-le-suc}
 use native.Mathlib.Numerals.{add-one}
 use native.Mathlib.Omega.{arith}
 use mathlib.Core.Path.{_≡_, refl, sym, _∙_, ap, subst}
-use mathlib.Core.Bool.{Bool, true, false}
 use mathlib.Core.List.{List, [], _∷_, map}
 use lib.ListN.{length, getD, take, length-map}
 use lib.Seq.{take-append-seam}
-use Rattle.rule.specs.Rule.{leapMark}
 use Rattle.rule.specs.Lists.{placed}
 use Rattle.rule.specs.Reasons.{Answer, is, afterwards}
 use Rattle.dates.specs.declared.Date.{Date}
@@ -17,15 +15,17 @@ use Rattle.drawer.specs.declared.Filled.{Filled}
 use Rattle.drawer.specs.Drawer.{drawerAt, saidFilled, toFill, FillDates}
 use Rattle.drawer.proofs.Days.{Verdict, many, short, bad, good, verdict}
 use Rattle.drawer.proofs.Filling.{fills}
-use Rattle.drawn.specs.Drawn.{bit, packedOf, addedOf, sumFrom, drawnWith, drawnOf}
+use Rattle.drawn.specs.Drawn.{addedOf, sumFrom, drawnWith, drawnOf}
 
-bit-below : (b : Bool) → bit b < 2
-bit-below true = omega arith
-bit-below false = omega arith
-
-pub packed-below : (d : Date) → packedOf d < 288230376151711744
-unfolding packedOf
-packed-below d = omega (arith, bit-below (leapMark (d .month)), bit-below (d .eclipse))
+-- a number of 64 bits turned by seven of them
+pub turned-below : (s : ℕ) → s < 2 ^ 64 → s % 144115188075855872 * 128 + s / 144115188075855872 < 2 ^ 64
+turned-below s h =
+    let rest : s % 144115188075855872 < 144115188075855872 = omega arith in
+    let whole : s / 144115188075855872 < 128 = omega arith in
+    of-halves (s % 144115188075855872) (s / 144115188075855872) rest whole
+  where
+    of-halves : (a b : ℕ) → a < 144115188075855872 → b < 128 → a * 128 + b < 2 ^ 64
+    of-halves a b k l = omega arith
 
 -- the sum of the first i records: of none, and of one more
 pub sum-none : (zs : List Date) → 0 ≡ sumFrom 0 (take 0 zs)

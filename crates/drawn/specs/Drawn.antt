@@ -1,6 +1,6 @@
 -- A drawer of 4,096 records filled, told in plain numbers: the answer laid flat, and one number that every filled record goes into.
 -- Assumes nothing.
-use Prim.Native.Nat.{ℕ, _+_, _*_, _%_}
+use Prim.Native.Nat.{ℕ, _+_, _*_, _/_, _%_, _^_}
 use mathlib.Core.Bool.{Bool, true, false}
 use mathlib.Core.List.{List, [], _∷_, map}
 use Rattle.rule.specs.Rule.{numberOf, leapMark}
@@ -14,25 +14,20 @@ abbrev pub bit : Bool → ℕ
 bit true = 1
 bit false = 0
 
--- the values of a record side by side, from the lowest bits up: 16 bits for the year, 4 for the month's number, 1 for its mark, 5, 5, 6, 6,
--- 2, 5 and 7 for the others, 1 for the eclipse mark; 58 in all
-unfoldable pub packedOf : Date → ℕ
-packedOf d =
-    d .year % 65536
-    + 65536 * (numberOf (d .month) % 16
-    + 16 * (bit (leapMark (d .month))
-    + 2 * (d .«day_of_month» % 32
-    + 32 * (d .«month_length» % 32
-    + 32 * (d .«day_name» % 64
-    + 64 * (d .«year_name» % 64
-    + 64 * (d .ji % 4
-    + 4 * (d .bu % 32
-    + 32 * (d .«year_in_bu» % 128
-    + 128 * bit (d .eclipse))))))))))
+-- the values of a record in two numbers, 8 bits for each and 16 for the year, from the lowest bits up: mark, number, year, day of month, month
+-- length, day name, year name; ji, bu, year in the bu, eclipse mark
+unfoldable pub lowOf : Date → ℕ
+lowOf d =
+    bit (leapMark (d .month)) + 256 * numberOf (d .month) + 65536 * d .year
+    + 4294967296 * (d .«day_of_month» + 256 * d .«month_length» + 65536 * (d .«day_name» + 256 * d .«year_name»))
 
--- one record more; 61 is odd, so that of the 58 bits that go on none is shifted out, however many records follow
+unfoldable pub highOf : Date → ℕ
+highOf d = d .ji + 256 * d .bu + 65536 * (d .«year_in_bu» + 256 * bit (d .eclipse))
+
+-- one record more: the sum of 64 bits is turned by seven of them, which loses nothing, and both numbers are added, the second an odd number
+-- of times; so another value in one place of one record makes another sum, however many records follow
 unfoldable pub addedOf : ℕ → Date → ℕ
-addedOf s d = s % 288230376151711744 * 61 + packedOf d
+addedOf s d = ((s % 144115188075855872 * 128 + s / 144115188075855872 + lowOf d) % 2 ^ 64 + 4294967291 * highOf d) % 2 ^ 64
 
 unfoldable pub sumFrom : ℕ → List Date → ℕ
 sumFrom s [] = s

@@ -1,9 +1,9 @@
 // A drawer filled behind plain parameters, for tests and times: a record holds an enum, so that C and Rust cannot be lent a list of them.
 // The records stand in a local array, and every one that is filled goes into a sum.
 ghost use mathlib.Core.Path.{_≡_};
-ghost use Prim.Native.Nat.{_≤_};
+ghost use Prim.Native.Nat.{_≤_, _<_};
 ghost use Rattle.drawer.specs.Drawer.{saidFilled};
-ghost use Rattle.drawn.specs.Drawn.{bit, packedOf, addedOf, drawnWith, drawnOf};
+ghost use Rattle.drawn.specs.Drawn.{bit, lowOf, highOf, addedOf, drawnWith, drawnOf};
 use dates::Date;
 use drawer::Filled;
 use rule::Month;
@@ -43,26 +43,34 @@ fn bit(mark: bool) -> u64
     0
 }
 
-// A record in one number, its values side by side.
-fn packed(date: Date) -> u64
-    ensures { λ r. ⌜ r ≡ packedOf date ⌝ }
+// The values of a record in two numbers, side by side as they lie in memory.
+fn low_word(date: Date) -> u64
+    ensures { λ r. ⌜ r ≡ lowOf date ⌝ }
 {
     let month = date.month;
-    let number = rule::number_of(month) as u64;
     let leap = bit(rule::leap_mark(month));
-    let eclipse = bit(date.eclipse);
-    let place = date.ji as u64 % 4
-        + 4 * (date.bu as u64 % 32 + 32 * (date.year_in_bu as u64 % 128 + 128 * eclipse));
-    let names = date.day_name as u64 % 64 + 64 * (date.year_name as u64 % 64 + 64 * place);
-    let days = date.day_of_month as u64 % 32 + 32 * (date.month_length as u64 % 32 + 32 * names);
-    date.year as u64 % 65536 + 65536 * (number % 16 + 16 * (leap + 2 * days))
+    let number = rule::number_of(month) as u64;
+    let year = date.year as u64;
+    let days = date.day_of_month as u64 + 256 * (date.month_length as u64);
+    let names = date.day_name as u64 + 256 * (date.year_name as u64);
+    leap + 256 * number + 65536 * year + 4294967296 * (days + 65536 * names)
 }
 
-// One record more in the sum.
+fn high_word(date: Date) -> u64
+    ensures { λ r. ⌜ (r ≡ highOf date) × (r < 33554432) ⌝ }
+{
+    let eclipse = bit(date.eclipse);
+    let place = date.ji as u64 + 256 * (date.bu as u64);
+    place + 65536 * (date.year_in_bu as u64 + 256 * eclipse)
+}
+
+// One record more in the sum: it is turned by seven bits, and both words come in. Cheap, since it is timed with the call.
 fn added(sum: u64, date: Date) -> u64
     ensures { λ r. ⌜ r ≡ addedOf sum date ⌝ }
 {
-    sum % 288230376151711744 * 61 + packed(date)
+    let turned = sum % 144115188075855872 * 128 + sum / 144115188075855872;
+    let low = std::num::wrapping_add_u64(turned, low_word(date));
+    std::num::wrapping_add_u64(low, 4294967291 * high_word(date))
 }
 
 // An answer laid flat; the sum is 0 where the drawer comes back.
