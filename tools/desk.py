@@ -5,9 +5,9 @@ from the origin and shares nothing with the library.
 The desk's first lines are worked by hand from the issue's and the paper's own figures, edges and wrong lines; then come lines drawn
 by a generator with a fixed seed, sound and damaged, enough to pass the 65,536 bytes that the program reads at a time. After these
 stand the notes and the pairs, by hand and drawn by a second generator; then days about the turns of civil years and dates of the
-years at both ends, drawn by a third; then days about the heads of bu and the turns of eclipse months, drawn by a fourth: so no line
-before them changes. The last line has no newline. The lines of `echo` are a short page that tries what it does with notes, queries
-and lines of any length.
+years at both ends, drawn by a third; then days about the heads of bu and the turns of eclipse months, drawn by a fourth; then the
+misread slips, by hand and drawn by a fifth: so no line before them changes. The last line has no newline. The lines of `echo` are a
+short page that tries what it does with notes, queries and lines of any length.
 
 usage: tools/desk.py            write stdin and stdout of crates/desk and crates/echo
        tools/desk.py --check    say whether what stands is what it computes (exit status 1 if not)
@@ -363,6 +363,105 @@ def places(desk):
     return [line.encode() for line in lines]
 
 
+# The misread slips.
+
+SLIPS = """# the day name misread, of the second of the sixth month of year 9,376; a day fits; two faults only; all unread
+SEARCH 32 6 - 2 19 48 3420617 3448375
+EMEND 32 6 - 2 19 48 3420617 3448375
+EMEND ? 6 - 2 19 48 3420617 3448375
+EMEND 32 6 - 2 49 48 3420617 3448375
+EMEND ? 6 ? ? 49 48 3420617 3448375
+EMEND 31 6 - 2 19 48 3420617 3448375
+EMEND 32 6 L 2 20 48 3420617 3448375
+EMEND ? ? ? ? ? ? 3420617 3448375
+EMEND ? ? ? ? ? ? 0 0
+# each of the other fields misread: year name, number, mark, day of month, first name
+EMEND 31 6 - 2 49 48 3420617 3448375
+EMEND 32 5 - 2 49 48 3420617 3448375
+EMEND 32 6 L 2 49 48 3420617 3448375
+EMEND 32 6 - 12 49 48 3420617 3448375
+EMEND 32 6 - 2 49 18 3420617 3448375
+# marks misread, both ways; the mark alone known, and no leap month in the window
+EMEND 27 9 - 1 58 58 0 27758
+EMEND 27 9 L 1 28 28 0 27758
+EMEND 27 9 - 29 ? 58 3600 4000
+EMEND ? ? L ? ? ? 0 9
+EMEND ? ? - ? ? ? 3957 3966
+# one known field, which no day of the window has; days before, of and after the ninth months of year 11
+EMEND ? ? ? ? 60 ? 0 58
+EMEND ? ? ? ? 60 ? 0 59
+EMEND ? ? ? ? ? 60 3950 3960
+EMEND 27 9 - 30 57 27 3955 3987
+# the last days, and the first
+EMEND 16 10 L 30 59 31 14962101 14989859
+EMEND 16 10 - 30 60 31 14962101 14989859
+EMEND 16 11 - 1 1 2 0 27758
+EMEND 17 11 - 1 1 1 0 27758
+# refused: 6, 13, 14, and in this order
+EMEND ? ? ? ? ? ? 14989859 14989860
+EMEND ? ? ? ? ? ? 14989860 14989859
+EMEND ? ? ? ? ? ? 5 4
+EMEND ? ? ? ? ? ? 0 27759
+EMEND 0 ? ? ? ? ? 0 5
+EMEND ? 13 ? ? ? ? 0 5
+EMEND ? ? ? 31 ? ? 0 5
+EMEND ? ? ? ? 61 ? 0 5
+EMEND ? ? ? ? ? 0 0 5
+EMEND 61 13 L 31 61 61 14989860 5
+EMEND 61 13 L 31 61 61 5 4
+EMEND 61 13 L 31 61 61 4 5
+""".splitlines()
+WRONG_SLIPS = [
+    "EMEND", "EMEND ", "EMEND ? ? ? ? ? ? 0", "EMEND ? ? ? ? ? ? 0 5 6", "EMEND ? ? ? ? ? ? ? 5", "EMEND ? ? ? ? ? ? 0 ?",
+    "EMEND ? ? 1 ? ? ? 0 5", "EMEND ? - ? ? ? ? 0 5", "EMEND ? ? l ? ? ? 0 5", "EMEND ?? ? ? ? ? ? 0 5", "EMEND - ? ? ? ? ? 0 5",
+    "EMEND 01 ? ? ? ? ? 0 5", "EMEND ? ? ? ? ? ? 0 05", "EMEND ? ? ? ? ? ? -1 5", "EMEND ? ? ? ? ? -1 0 5", "EMEND  ? ? ? ? ? ? 0 5",
+    " EMEND ? ? ? ? ? ? 0 5", "EMEND ? ? ? ? ? ? 0 5 ", "EMEND ? ? ? ? ? ? 0 5\r", "EMENDS ? ? ? ? ? ? 0 5", "EMEN ? ? ? ? ? ? 0 5",
+    "emend ? ? ? ? ? ? 0 5", "EMENDED 0", "EMENDED 1", "EMENDATION 0 5 2 1", "FITS 1", "EMEND ? ? ? ? ? ? 0 5#",
+]
+
+
+def large_slips():
+    """A number of more than 32 bits in each place; one that, cut down, would be sound."""
+    lines = []
+    for number in (2**32 + 1, 2**64 + 1, 10**40 + 1):
+        for place in (0, 1, 3, 4, 5, 6, 7):
+            for sound in ("16 11 - 1 1 1 0 9", "? ? ? ? ? ? 0 9"):
+                fields = sound.split()
+                fields[place] = str(number)
+                lines.append(" ".join(["EMEND", *fields]))
+        lines += [f"EMEND {number} ? ? ? ? ? 5 4", f"EMEND {number} ? ? ? ? ? {number} {number}", f"EMEND ? ? ? ? ? ? {number} 0"]
+    return lines
+
+
+def long_slips():
+    """At most 200 bytes, and more."""
+    return [b"EMEND" + b" ?" * 97, b"EMEND ? ? ? ? ? ? 0 " + b"9" * 180, b"EMEND ? ? ? ? ? ? 0 " + b"9" * 181,
+            b"EMEND " + b"9" * 180 + b" ? - ? ? ? 0 5", b"EMEND " + b"9" * 181 + b" ? - ? ? ? 0 5"]
+
+
+def misread(desk, draw):
+    """A reading of a day, often with fields unread, often with one misread, now and then with two or with one outside its range."""
+    day = draw.choice((draw.randrange(DAYS), draw.randrange(DAYS), draw.randrange(400), DAYS - 1 - draw.randrange(400)))
+    values, most = list(desk.six(day)), (60, 12, 2, 30, 60, 60)
+    for place in draw.sample(range(6), draw.choice((0, 1, 1, 1, 1, 2, 2, 3))):
+        values[place] = draw.randint(1, most[place]) if place == 2 or draw.random() < 0.96 else draw.choice((0, most[place] + 1))
+    unread = draw.choice((0, 0.2, 0.4, 0.6))
+    fields = ["?" if draw.random() < unread else "-L"[v - 1] if i == 2 else str(v) for i, v in enumerate(values)]
+    first = max(0, day - draw.choice((0, draw.randint(0, 30), draw.randint(0, 900))))
+    return "EMEND " + " ".join(fields) + f" {first} {day + draw.choice((0, draw.randint(-1, 30), draw.randint(0, 900)))}"
+
+
+def slips(desk):
+    draw = random.Random(20261119)
+    lines = [line.encode() for line in SLIPS + WRONG_SLIPS + large_slips()] + long_slips()
+    for turn in range(400):
+        line = misread(desk, draw)
+        while len(desk.told(line.encode())) > 30:
+            line = misread(desk, draw)
+        lines.append((damaged(line, draw) if turn % 8 == 0 else line).encode())
+    return lines
+
+
 LAST = [b"# the last line has no newline", b"PAIR 3"]
 
 
@@ -386,6 +485,9 @@ DATE 11 9 L 29
 MOVE 0 11 - 1 27759
 SEARCH 27 9 ? 1 ? ? 3600 4000
 SEARCH 27 9 ? 30 ? ? 3600 3700
+EMEND 27 9 ? 1 ? ? 3600 4000
+EMEND 27 9 - 29 ? 58 3600 4000
+EMEND 27 9 - 30 ? 59 3600 3700
 # and refused
 PLACE 0
 YEAR 41041
@@ -400,6 +502,7 @@ DATE 11 9 L 30
 DATE 0 10 - 1
 MOVE 0 11 - 1 -1
 SEARCH 61 ? ? ? ? ? 0 5
+EMEND 61 ? ? ? ? ? 0 5
 # No queries: a word of the answers, a space before the mark of a note, letters for a number, an empty line, a space, a return
 UNREADABLE
  # not a note
@@ -428,7 +531,7 @@ def main():
             sys.stdout.buffer.write(b"".join(map(call, lines_in(sys.stdin.buffer.read()))))
             return 0
     files = {}
-    asked = queries(desk) + added(desk) + turns(desk) + places(desk) + LAST
+    asked = queries(desk) + added(desk) + turns(desk) + places(desk) + slips(desk) + LAST
     for program, lines, call in (("desk", asked, desk.answer), ("echo", echo_lines(), desk.echo)):
         files[ROOT / "crates" / program / "stdin"] = b"\n".join(lines)
         files[ROOT / "crates" / program / "stdout"] = b"".join(map(call, lines))

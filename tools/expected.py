@@ -44,9 +44,13 @@ def rows(text, before="", after=""):
     return [f"{before}{row.strip()}{after}" for row in text.split(",")]
 
 
+def row_values(row):
+    return [{"?": None, "-": 1, "L": 2}[f] if f in "?-L" else int(f) for f in row.split()]
+
+
 def found(desk, row, room):
     """The answer of a search into a list of so many places, and what then stands at its front."""
-    values = [{"?": None, "-": 1, "L": 2}[f] if f in "?-L" else int(f) for f in row.split()]
+    values = row_values(row)
     answer = desk.search(values[:6], *values[6:])[:1]
     if not answer[0].startswith("FOUND"):
         return answer, []
@@ -335,6 +339,23 @@ def drawer(desk, days, room):
     return [refused(6), f"AT {outside[0]}"] if outside else [f"FILLED {len(days)}", *(line for d in days for line in desk.day(d))]
 
 
+# Emendings of a reading.
+
+
+def emended(desk, row, room):
+    """The answer of an emending into a list of so many places: how many days fit, or every day with one fault and what it is."""
+    *reading, first, last = row_values(row)
+    answer = desk.search(reading, first, last)[:1]
+    if answer != ["FOUND 0"]:
+        return [line.replace("FOUND", "FITS") for line in answer]
+    lines = []
+    for day in range(first, last + 1):
+        faults = [(i, f, v) for i, (f, v) in enumerate(zip(reading, desk.six(day)), 1) if f not in (None, v)]
+        for field, *values in faults if len(faults) == 1 else []:
+            lines.append(f"EMENDATION {day} {field}" + spaced("?-L"[v] if field == 3 else v for v in values))
+    return [refused(12), f"TOTAL {len(lines)}"] if 4 * len(lines) > room else [f"EMENDED {len(lines)}", *lines]
+
+
 # The example for C, crates/capi/example.c: of a refusal its number alone, since C has no words of the reasons.
 
 
@@ -346,6 +367,8 @@ def example(desk):
     for room in (1, 2):
         answer, days = found(desk, row, room)
         out += [f"SEARCH {row} INTO {room}", *answer, *(line for d in days for line in desk.day(d))]
+    for slip, room in (("27 5 - 29 59 30", 7), ("27 5 - 29 59 30", 8), ("27 9 - 5 2 58", 8), ("27 5 - 30 59 30", 0)):
+        out += [f"EMEND {slip} 3600 4000 INTO {room}", *emended(desk, f"{slip} 3600 4000", room)]
     out += ["WRITE 11,,", f"BYTES {len(sheet)}", "SHEET" + spaced(sheet), "COUNTS" + spaced(map(len, read_sheet(sheet, (1,) * 3)))]
     out += uses_printed(desk, "YEAR", 11)
     return [" ".join(line.split()[:2]) if line.startswith("REFUSED") else line for line in out]

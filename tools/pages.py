@@ -22,6 +22,9 @@ NEXT k day parts divisor phase
 PAIR years conjunctions
 DAY day year number mark day-of-month day-name month-length year-name ji bu year-in-bu eclipse
 FOUND total
+FITS total
+EMENDED total
+EMENDATION day field read should-be
 """
 SHAPES = {line.split()[0]: line.split() for line in SHAPES.strip().split("\n")}
 

@@ -6,7 +6,9 @@ the calendar and shares nothing with the library. The file is held to what must 
 
 - every reason that a query can come back with is met;
 - the edges of reason 16 are asked, ordinary and leap: in the two civil years that are not whole the numbers just outside and inside;
-- nothing of the second part, what must not be rejected, comes back with a reason, is no query, or is a search that finds nothing;
+- each refused search stands there as a misread slip too, and is refused alike;
+- nothing of the second part, what must not be rejected, comes back with a reason, is no query, or is a search or a misread slip for
+  which nothing is found; an emendation to the thirtieth of the second of two big months in a row is found in it;
 - all second months of two big months in a row of a bu stand there, and no other month is called one; of each the month before it and
   it are asked, and its first, fifteenth and thirtieth day and their dates, and of the first one every date.
 
@@ -22,6 +24,7 @@ from walked import ROOT, YEARS, Desk, hold, is_note, lines_in, mark, pair_starts
 HOME = ROOT / "crates" / "tray"
 TRAY, KEPT = "# THE REJECT TRAY", "# WHAT MUST NOT BE REJECTED"
 SECOND, SECONDS = "# second of two big: month ", "# seconds of two big in a bu: "
+THIRTIETH = "EMENDATION 3838 4 29 30"
 REASONS = {1, 2, 3, 4, 5, 6, 7, 8, 13, 14, 15, 16, 19, 20}
 NOT_WHOLE = {0: (1, 10, 11, 12), YEARS: (10, 11, 12)}
 
@@ -36,10 +39,20 @@ def hold_not_whole(texts):
         assert {f"DATE {year} {number} {leap} 1" for number in numbers for leap in "-L"} <= set(texts), year
 
 
-def hold_kept(desk, lines):
+def hold_emended(desk, lines):
     for line in lines:
-        told = desk.told(line)[0]
-        assert is_note(line) or told.split()[0] not in ("REFUSED", "UNREADABLE") and told != "FOUND 0", line
+        told, slip = desk.told(line), line.replace(b"SEARCH", b"EMEND")
+        assert slip == line or not told[0].startswith("REFUSED") or slip in lines and desk.told(slip) == told, line
+
+
+def hold_kept(desk, lines):
+    found = []
+    for line in lines:
+        told = desk.told(line)
+        assert is_note(line) or told[0].split()[0] not in ("REFUSED", "UNREADABLE") and told[0] not in ("FOUND 0", "EMENDED 0"), line
+        found += told[1:]
+    month = desk.c.month_of(3838)
+    assert desk.c.length(month - 1) == desk.c.length(month) == 30 and THIRTIETH in found
 
 
 def second_lines(desk, n):
@@ -69,6 +82,7 @@ def main():
     assert texts[0] == TRAY and texts.count(KEPT) == 1
     hold_reasons(desk, lines)
     hold_not_whole(texts)
+    hold_emended(desk, lines)
     hold_kept(desk, lines[texts.index(KEPT):])
     hold_seconds(desk, texts)
     return hold({HOME / "stdout": b"".join(map(desk.echo, lines))})

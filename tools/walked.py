@@ -353,6 +353,7 @@ FORMS = {
     "DATE": [N, N, M, N],
     "MOVE": [N, N, M, N, S],
     "SEARCH": [F, F, G, F, F, F, N, N],
+    "EMEND": [F, F, G, F, F, F, N, N],
 }
 FORMS = {word: re.compile(b" ".join([word.encode(), *fields])) for word, fields in FORMS.items()}
 MARKS = {b"-": 1, b"L": 2, b"?": None}
@@ -372,6 +373,12 @@ def lines_in(data):
 def planet_line(word, answer):
     """A planet's answer: its fields, or its refusal."""
     return refused(answer) if isinstance(answer, int) else " ".join([word, *map(str, answer)])
+
+
+def emendation_line(day, field, read, should_be):
+    """A proposal: of field 3, the leap mark, the two are marks."""
+    shown = (mark(read == 2), mark(should_be == 2)) if field == 3 else (read, should_be)
+    return "EMENDATION %d %d %s %s" % (day, field, *shown)
 
 
 # A date record. Its year is the civil one; ji, bu and year in bu are the place of the solstice year that its month lies in.
@@ -417,9 +424,28 @@ class Desk:
             return -5
         return self.c.starts[n] + m - 1
 
+    def unsound(self, reading, first, last):
+        """The reason's number for which a window, or else a reading, is refused; None where both are sound."""
+        if not (first < DAYS and last < DAYS):
+            return 6
+        if last < first or last - first + 1 > 27759:
+            return 13
+        if any(f is not None and not 1 <= f <= most for f, most in zip(reading, (60, 12, 2, 30, 60, 60))):
+            return 14
+        return None
+
     def fitting(self, reading, first, last):
         """The days of a window that fit a reading of six values, None being unread."""
         return [d for d in range(first, last + 1) if all(f is None or f == v for f, v in zip(reading, self.six(d)))]
+
+    def emendations(self, reading, first, last):
+        """Of each day of a window that disagrees with exactly one known field: day, field 1 to 6, what was read, what it should be."""
+        found = []
+        for day in range(first, last + 1):
+            faults = [(field, f, v) for field, (f, v) in enumerate(zip(reading, self.six(day)), 1) if f not in (None, v)]
+            if len(faults) == 1:
+                found.append((day, *faults[0]))
+        return found
 
     # The queries.
 
@@ -482,14 +508,22 @@ class Desk:
         return self.day(found + n) if 0 <= found + n < DAYS else [refused(8)]
 
     def search(self, reading, first, last):
-        if not (first < DAYS and last < DAYS):
-            return [refused(6)]
-        if last < first or last - first + 1 > 27759:
-            return [refused(13)]
-        if any(f is not None and not 1 <= f <= most for f, most in zip(reading, (60, 12, 2, 30, 60, 60))):
-            return [refused(14)]
+        reason = self.unsound(reading, first, last)
+        if reason:
+            return [refused(reason)]
         days = self.fitting(reading, first, last)
         return [f"FOUND {len(days)}"] + [line for d in days for line in self.day(d)]
+
+    def emend(self, reading, first, last):
+        """How many days fit; where none does, the days that disagree with one known field alone."""
+        reason = self.unsound(reading, first, last)
+        if reason:
+            return [refused(reason)]
+        fit = len(self.fitting(reading, first, last))
+        if fit > 0:
+            return [f"FITS {fit}"]
+        found = self.emendations(reading, first, last)
+        return [f"EMENDED {len(found)}"] + [emendation_line(*one) for one in found]
 
     # A line, which is bytes without its newline.
 
@@ -502,9 +536,9 @@ class Desk:
         return ["UNREADABLE"]
 
     def asked(self, word, fields):
-        if word == "SEARCH":
+        if word in ("SEARCH", "EMEND"):
             reading = [MARKS[f] if i == 2 else None if f == b"?" else int(f) for i, f in enumerate(fields[:6])]
-            return self.search(reading, int(fields[6]), int(fields[7]))
+            return getattr(self, word.lower())(reading, int(fields[6]), int(fields[7]))
         values = [f == b"L" if f in (b"-", b"L") else int(f) for f in fields]
         return getattr(self, {"MOVE": "date"}.get(word, word.lower()))(*values)
 

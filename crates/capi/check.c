@@ -84,6 +84,9 @@ AT(oes_reading, first_name_known, 53);
 SIZE(oes_reading, 56);
 AT(oes_found, total, 4);
 SIZE(oes_found, 8);
+AT(oes_emended, fits, 4);
+AT(oes_emended, total, 8);
+SIZE(oes_emended, 12);
 AT(oes_sheet_counts, years, 8);
 AT(oes_sheet_counts, months, 16);
 AT(oes_sheet_counts, days, 24);
@@ -524,6 +527,132 @@ static void search(void)
     }
 }
 
+/* The longest list that is lent to an emending, and how many places stand before it and behind it. */
+enum { LISTED = 48, GUARD = 8 };
+
+/* Asks for an emending and holds its answer, and every place in and about the list: the emendations that are wanted stand at its
+ * front, and every other place is as it was. */
+static void emended_is(int line, oes_reading r, uint64_t first, uint64_t last, size_t places, uint32_t reason, bool fits,
+                       uint32_t total, const uint32_t *listed)
+{
+    uint32_t got[GUARD + LISTED + GUARD];
+    uint32_t want[GUARD + LISTED + GUARD];
+    for (uint32_t i = 0; i < GUARD + LISTED + GUARD; i++) {
+        got[i] = want[i] = untouched - i;
+    }
+    if (reason == 0 && !fits) {
+        memcpy(want + GUARD, listed, sizeof want[0] * 4 * total);
+    }
+    oes_emended e = oes_emend(r, first, last, got + GUARD, places);
+    same(line, "reason", e.reason, reason);
+    same(line, "fits", e.fits, fits);
+    same(line, "total", e.total, total);
+    bytes_same(line, got, want, sizeof want);
+}
+
+#define FITS(r, first, last, places, total) emended_is(__LINE__, (r), (first), (last), (places), 0, true, (total), NULL)
+#define EMENDED(r, first, last, places, total, listed) \
+    emended_is(__LINE__, (r), (first), (last), (places), 0, false, (total), (listed))
+#define EMEND_REFUSED(r, first, last, places, reason, total) \
+    emended_is(__LINE__, (r), (first), (last), (places), (reason), false, (total), NULL)
+
+/* All six values of a slip, each read. */
+static oes_reading read_whole(const uint64_t v[6])
+{
+    return (oes_reading){v[0], v[1], v[2], v[3], v[4], v[5], true, true, true, true, true, true};
+}
+
+/* The slip of day 3838, the 30th of month 5 of civil year 11, day name 59, in a month that begins with name 30, its day of month
+ * read as 29: from name 30 to 59 are 29 days, so that one of the three is wrong on every day, and of the days of that month 3838
+ * is the 30th and 3837 has the name 58. With another year's name every day of the year is wrong in two fields. */
+static void emend_a_day_of_month(void)
+{
+    const uint32_t two[8] = {3837, 5, 59, 58, 3838, 4, 29, 30};
+    const oes_reading slip = {27, 5, 1, 29, 59, 30, true, true, true, true, true, true};
+    for (size_t places = 8; places <= LISTED; places++) {
+        EMENDED(slip, 3691, 4074, places, 2, two);
+    }
+    for (size_t places = 0; places < 8; places++) {
+        EMEND_REFUSED(slip, 3691, 4074, places, 12, 2);
+    }
+    EMENDED(slip, 3838, 4074, 4, 1, two + 4);
+    EMENDED(slip, 3691, 3837, 4, 1, two);
+    EMENDED(slip, 3691, 3836, 0, 0, two);
+    EMENDED(slip, 3839, 4074, 0, 0, two);
+    oes_reading other_year = slip;
+    other_year.year_name = 28;
+    EMENDED(other_year, 3691, 4074, 0, 0, two);
+    EMENDED(other_year, 3691, 4074, LISTED, 0, two);
+    other_year.year_name_known = false;
+    EMENDED(other_year, 3691, 4074, 8, 2, two);
+    oes_reading right = slip;
+    right.day_of_month = 30;
+    FITS(right, 3691, 4074, 0, 1);
+    FITS(right, 3838, 3838, LISTED, 1);
+    right.day_of_month_known = false;
+    FITS(right, 3691, 4074, 0, 1);
+    EMEND_REFUSED(slip, wide(3691), 4074, LISTED, 6, 0);
+    EMEND_REFUSED(slip, 3691, wide(4074), LISTED, 6, 0);
+    EMEND_REFUSED(slip, 14989860, 4074, 0, 6, 0);
+    EMEND_REFUSED(slip, 3691, 14989860, 0, 6, 0);
+    EMEND_REFUSED(slip, 4074, 3691, 0, 13, 0);
+    EMEND_REFUSED(slip, 0, 27759, 0, 13, 0);
+}
+
+/* Day 3961, the 5th of leap 9 of civil year 11, with each of its six values misread, alone: told is the field, what was read and
+ * the day's own. With two misread it is not listed. An unread value never disagrees, whatever stands there; a value out of range,
+ * which comes after 6 and 13 and before 12, is not one that could be put right. */
+static void emend_each_field(void)
+{
+    const uint64_t own[6] = {27, 9, 2, 5, 2, 58};
+    const uint64_t misread[6] = {28, 8, 1, 6, 3, 59};
+    for (uint32_t i = 0; i < 6; i++) {
+        uint64_t v[6];
+        memcpy(v, own, sizeof v);
+        v[i] = misread[i];
+        const uint32_t one[4] = {3961, i + 1, (uint32_t)misread[i], (uint32_t)own[i]};
+        EMENDED(read_whole(v), 3961, 3961, 4, 1, one);
+        EMENDED(read_whole(v), 3961, 3961, LISTED, 1, one);
+        EMEND_REFUSED(read_whole(v), 3961, 3961, 3, 12, 1);
+        const uint64_t outside[3] = {0, 61, wide(own[i])};
+        for (int k = 0; k < 3; k++) {
+            v[i] = outside[k];
+            EMEND_REFUSED(read_whole(v), 3961, 3961, 0, 14, 0);
+            EMEND_REFUSED(read_whole(v), 3961, 3960, 0, 13, 0);
+            EMEND_REFUSED(read_whole(v), 3961, 14989860, 0, 6, 0);
+            oes_reading unread = {v[0], v[1], v[2], v[3], v[4], v[5], i != 0, i != 1, i != 2, i != 3, i != 4, i != 5};
+            FITS(unread, 3961, 3961, 0, 1);
+        }
+        v[i] = misread[i];
+        v[(i + 1) % 6] = misread[(i + 1) % 6];
+        EMENDED(read_whole(v), 3961, 3961, 0, 0, one);
+    }
+}
+
+/* A leap mark alone, which fits the 29 days of leap 9 of civil year 11, 3957 to 3985; before them it is wrong on each day. Nothing
+ * read fits every day. The first day and the last, each with a value misread. */
+static void emend_marks_and_ends(void)
+{
+    const oes_reading leap = {.leap_mark = 2, .leap_mark_known = true};
+    uint32_t before[40];
+    for (uint32_t i = 0; i < 10; i++) {
+        const uint32_t one[4] = {3947 + i, 3, 2, 1};
+        memcpy(before + 4 * i, one, sizeof one);
+    }
+    EMENDED(leap, 3947, 3956, 40, 10, before);
+    EMENDED(leap, 3947, 3956, 43, 10, before);
+    EMEND_REFUSED(leap, 3947, 3956, 39, 12, 10);
+    EMEND_REFUSED(leap, 3947, 3956, 10, 12, 10);
+    FITS(leap, 3947, 3957, 0, 1);
+    FITS(leap, 3947, 3957, LISTED, 1);
+    FITS(leap, 3691, 4074, LISTED, 29);
+    FITS((oes_reading){0}, 0, 27758, 0, 27759);
+    const uint32_t first[4] = {0, 6, 2, 1};
+    EMENDED(read_whole((const uint64_t[6]){16, 11, 1, 1, 1, 2}), 0, 0, 4, 1, first);
+    const uint32_t last[4] = {14989859, 3, 1, 2};
+    EMENDED(read_whole((const uint64_t[6]){16, 10, 1, 30, 60, 31}), 14989859, 14989859, 4, 1, last);
+}
+
 /* Year 11, month 134 and day 3957 on a sheet, there and back; cut off, and with too little room. */
 static void sheet(void)
 {
@@ -650,6 +779,9 @@ int main(void)
     facts();
     planets();
     search();
+    emend_a_day_of_month();
+    emend_each_field();
+    emend_marks_and_ends();
     sheet();
     counts();
     years_of_a_sheet();

@@ -120,6 +120,52 @@ static void search(void)
     }
 }
 
+/* A value of an emendation: a leap mark by its letter. */
+static void emended_value(uint32_t field, uint32_t value)
+{
+    if (field == 3) {
+        printf(" %c", value == 2 ? 'L' : '-');
+    } else {
+        printf(" %u", value);
+    }
+}
+
+/* An emending in the days 3600 to 4000, into a list of so many places, eight at most; `slip` is the reading as the desk has it. */
+static void show_emend(const char *slip, oes_reading reading, size_t places)
+{
+    uint32_t list[8] = {0};
+    oes_emended e = oes_emend(reading, 3600, 4000, list, places);
+    printf("EMEND %s 3600 4000 INTO %zu\n", slip, places);
+    if (e.reason != 0) {
+        printf("REFUSED %u\n", e.reason);
+        if (e.reason == 12) {
+            printf("TOTAL %u\n", e.total);
+        }
+        return;
+    }
+    printf("%s %u\n", e.fits ? "FITS" : "EMENDED", e.total);
+    for (uint32_t i = 0; !e.fits && i < e.total; i++) {
+        const uint32_t *four = list + 4 * i;
+        printf("EMENDATION %u %u", four[0], four[1]);
+        emended_value(four[1], four[2]);
+        emended_value(four[1], four[3]);
+        puts("");
+    }
+}
+
+/* The slip of day 3838 with its day of month misread: one day has another name, one is another day of the month; into a list that
+ * is too short by a place, and into one that is not. The slip of a day of a leap month without its mark. And one that fits. */
+static void emendings(void)
+{
+    const oes_reading misread = {27, 5, 1, 29, 59, 30, true, true, true, true, true, true};
+    const oes_reading mark_missed = {27, 9, 1, 5, 2, 58, true, true, true, true, true, true};
+    const oes_reading fitting = {27, 5, 1, 30, 59, 30, true, true, true, true, true, true};
+    show_emend("27 5 - 29 59 30", misread, 7);
+    show_emend("27 5 - 29 59 30", misread, 8);
+    show_emend("27 9 - 5 2 58", mark_missed, 8);
+    show_emend("27 5 - 30 59 30", fitting, 0);
+}
+
 /* The sheet with civil year 11 alone, written, read back and printed. */
 static void sheet(void)
 {
@@ -151,6 +197,7 @@ int main(void)
     planets();
     drawers();
     search();
+    emendings();
     sheet();
     return 0;
 }

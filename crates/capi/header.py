@@ -25,6 +25,7 @@ STRUCTS = {
     "oes_pair_told": "CPair",
     "oes_reading": "CReading",
     "oes_found": "CFound",
+    "oes_emended": "CEmended",
     "oes_sheet_counts": "CSheetCounts",
     "oes_length": "CLength",
 }

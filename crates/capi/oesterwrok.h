@@ -1,9 +1,9 @@
-/* The calls of Oesterwrok for C: days, dates, drawers, facts, planets, searches, sheets and printed lines of the
- * Quarter-Remainder rule.
+/* The calls of Oesterwrok for C: days, dates, drawers, facts, planets, searches, emendings, sheets and printed lines of
+ * the Quarter-Remainder rule.
  *
  * Every call ends for every input. `reason` is 0 where there is an answer; else it is the paper's number, every other field
- * is 0 (but the total of a search that is refused with 12, which is the true one, and the place of a drawer that is refused
- * with 6, which is that of its first day out of range), and nothing lent was changed.
+ * is 0 (but the total of a search or an emending that is refused with 12, which is the true one, and the place of a drawer that
+ * is refused with 6, which is that of its first day out of range), and nothing lent was changed.
  * Numbers are wide enough that no wrong one is taken for another, but the items of a list, which have the list's width
  * (docs/C.md): a negative one is refused like any that is too large.
  * A name is 1 to 60. Lent memory: docs/C.md.
@@ -156,6 +156,14 @@ typedef struct oes_found {
     uint32_t total;
 } oes_found;
 
+/* What an emending found. `fits`: how many days fit is `total`, and nothing was filled; else `total` is how many emendations there
+ * are. */
+typedef struct oes_emended {
+    uint32_t reason;
+    bool fits;
+    uint32_t total;
+} oes_emended;
+
 /* How many items each of a sheet's lists has; its years are civil years. */
 typedef struct oes_sheet_counts {
     uint32_t reason;
@@ -195,6 +203,11 @@ oes_next_told oes_next_conjunction(uint64_t planet, uint64_t day);
 oes_pair_told oes_reduced_pair(uint64_t planet);
 
 oes_found oes_search(oes_reading reading, uint64_t first, uint64_t last, uint32_t *out, size_t out_places);
+
+/* Where no day of the window fits the reading: every day that disagrees with exactly one known field, in day order, four numbers
+ * of `out` each: the day, the field (1 to 6, in the order of oes_reading), what was read and what it should be. 12 where `out` has
+ * fewer than four places for each. Where some day fits, `out` stays as it was, and may be as short as it likes. */
+oes_emended oes_emend(oes_reading reading, uint64_t first, uint64_t last, uint32_t *out, size_t out_places);
 
 /* Years are civil years. */
 oes_sheet_counts oes_read_sheet(const uint8_t *bytes, size_t bytes_length, uint16_t *years, size_t years_places,

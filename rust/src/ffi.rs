@@ -157,6 +157,11 @@ answer! {
 }
 
 answer! {
+    /// `oes_emended`
+    CEmended { fits: bool, total: u32 }
+}
+
+answer! {
     /// `oes_sheet_counts`
     CSheetCounts { years: usize, months: usize, days: usize }
 }
@@ -217,6 +222,13 @@ unsafe extern "C" {
         out: *mut u32,
         out_places: usize,
     ) -> CFound;
+    fn oes_emend(
+        reading: CReading,
+        first: u64,
+        last: u64,
+        out: *mut u32,
+        out_places: usize,
+    ) -> CEmended;
     fn oes_read_sheet(
         bytes: *const u8,
         bytes_length: usize,
@@ -256,6 +268,13 @@ pub fn dates(days: &[u32], out: &mut [DateRecord]) -> CFilled {
 pub fn search(reading: CReading, first: u64, last: u64, out: &mut [u32]) -> CFound {
     // SAFETY: pointer and length are those of one slice, borrowed alone.
     unsafe { oes_search(reading, first, last, out.as_mut_ptr(), out.len()) }
+}
+
+/// `oes_emend` over a slice.
+#[inline]
+pub fn emend(reading: CReading, first: u64, last: u64, out: &mut [u32]) -> CEmended {
+    // SAFETY: pointer and length are those of one slice, borrowed alone.
+    unsafe { oes_emend(reading, first, last, out.as_mut_ptr(), out.len()) }
 }
 
 /// `oes_read_sheet` over slices.

@@ -602,6 +602,138 @@ fn month_fits(reading: &Reading, n: u64) -> bool {
         && fits(reading.first_name, day_name(month_start(n)))
 }
 
+// Emendings.
+
+/// A known field that a day disagrees with: its number, 1 to 6, what was read and what it should be.
+type Fault = [u32; 3];
+
+/// The fault of a field, if it is known and read otherwise than the day has it. What was read is in its range, so that it is not cut.
+fn fault(field: u32, read: Option<u64>, own: u32) -> Option<Fault> {
+    let read = read? as u32;
+    (read != own).then_some([field, read, own])
+}
+
+/// A month's leap mark, as a reading has it.
+fn mark_of(month: Month) -> u32 {
+    (if month.is_leap() { LEAP } else { ORDINARY }) as u32
+}
+
+/// What is gathered of a window: how many days fit, and the emendations, four numbers each.
+#[derive(Default)]
+struct Gathered {
+    fitting: u32,
+    emendations: Vec<u32>,
+}
+
+impl Gathered {
+    /// Takes a day by its faults.
+    fn take(&mut self, day: u64, mut faults: impl Iterator<Item = Fault>) {
+        match (faults.next(), faults.next()) {
+            (None, _) => self.fitting += 1,
+            (Some([field, read, own]), None) => {
+                self.emendations.extend([day as u32, field, read, own])
+            }
+            _ => {}
+        }
+    }
+
+    /// Tells how many days fit, or else hands the emendations to a lent list, or refuses with 12 and their number.
+    fn hand(&self, out: &mut [u32]) -> Result<Emended, EmendRefused> {
+        if self.fitting > 0 {
+            return Ok(Emended::Fits(self.fitting));
+        }
+        let total = self.emendations.len() as u32 / 4;
+        let front = out.get_mut(..self.emendations.len()).ok_or(EmendRefused {
+            reason: Reason::LentTooShort,
+            total: Some(total),
+        })?;
+        front.copy_from_slice(&self.emendations);
+        Ok(Emended::Emendations(total))
+    }
+}
+
+/// An emending's reasons before 12: a search's.
+fn check_emend(reading: &Reading, first: u64, last: u64) -> Result<(), EmendRefused> {
+    check_search(reading, first, last).map_err(|reason| EmendRefused {
+        reason,
+        total: None,
+    })
+}
+
+/// As [`crate::emend`]: the request's words, a day at a time.
+pub fn emend(
+    reading: &Reading,
+    first: u64,
+    last: u64,
+    out: &mut [u32],
+) -> Result<Emended, EmendRefused> {
+    check_emend(reading, first, last)?;
+    let mut gathered = Gathered::default();
+    for day in first..=last {
+        let date = date_at(day);
+        let first_day = day - u64::from(date.day_of_month - 1);
+        let faults = [
+            fault(1, reading.year_name, date.year_name),
+            fault(2, reading.month_number, date.month.number()),
+            fault(3, reading.leap_mark, mark_of(date.month)),
+            fault(4, reading.day_of_month, date.day_of_month),
+            fault(5, reading.day_name, date.day_name),
+            fault(6, reading.first_name, day_name(first_day)),
+        ];
+        gathered.take(day, faults.into_iter().flatten());
+    }
+    gathered.hand(out)
+}
+
+/// As [`emend`], but what belongs to a month is worked out once a month, and one with two faults of its own is passed over: what one
+/// writes where the time counts.
+pub fn emend_by_months(
+    reading: &Reading,
+    first: u64,
+    last: u64,
+    out: &mut [u32],
+) -> Result<Emended, EmendRefused> {
+    check_emend(reading, first, last)?;
+    let mut gathered = Gathered::default();
+    for n in month_of_day(first)..=month_of_day(last) {
+        let Ok(of_month) = fault_of_month(reading, n) else {
+            continue;
+        };
+        let start = month_start(n);
+        for day in first.max(start)..=last.min(month_start(n + 1) - 1) {
+            let of_day = [
+                fault(4, reading.day_of_month, (day - start + 1) as u32),
+                fault(5, reading.day_name, day_name(day)),
+            ];
+            let faults = of_month.into_iter().chain(of_day.into_iter().flatten());
+            gathered.take(day, faults);
+        }
+    }
+    gathered.hand(out)
+}
+
+/// The fault of month n among those fields of a reading that are its own, if any; `Err` where there are more than one. The number is
+/// looked at before the civil year's name, which hangs on it.
+fn fault_of_month(reading: &Reading, n: u64) -> Result<Option<Fault>, ()> {
+    let month = month_held(n);
+    let mut faults = [
+        fault(6, reading.first_name, day_name(month_start(n))),
+        fault(2, reading.month_number, month.number()),
+        fault(3, reading.leap_mark, mark_of(month)),
+    ]
+    .into_iter()
+    .flatten();
+    let (one, more) = (faults.next(), faults.next());
+    if more.is_some() {
+        return Err(());
+    }
+    let year = civil_year(solstice_year_of(n), month.number());
+    match (one, fault(1, reading.year_name, year_name(year))) {
+        (Some(_), Some(_)) => Err(()),
+        (one, of_year) => Ok(one.or(of_year)),
+    }
+}
+
 // Sheets.
 
 /// Takes a number of so many bytes, least byte first, from the front of what is left of a sheet. Reason 9.

@@ -226,6 +226,39 @@ pub fn search(
     Ok(told?.total)
 }
 
+/// Where a day from `first` to `last` fits the reading, how many do, and `out` is untouched, however short. Else every day that
+/// disagrees with exactly one known field, in rising order at the front of `out`, four numbers each: the day, the field (1 to 6, in
+/// the order of [`Reading`]), what was read and what it should be; and how many there are. The rest of `out` is untouched. Reasons 6,
+/// 13, 14, 12; with 12, where `out` has fewer than four places for each, comes the true number of emendations.
+///
+/// ```
+/// use oesterwrok::{emend, Emended, Reading};
+///
+/// let mut slip = Reading {
+///     year_name: Some(27),
+///     month_number: Some(5),
+///     day_of_month: Some(29),
+///     day_name: Some(59),
+///     first_name: Some(30),
+///     ..Reading::default()
+/// };
+/// let mut list = [0; 9];
+/// assert_eq!(emend(&slip, 3_691, 4_074, &mut list), Ok(Emended::Emendations(2)));
+/// assert_eq!(list, [3_837, 5, 59, 58, 3_838, 4, 29, 30, 0]);
+///
+/// slip.day_of_month = Some(30);
+/// assert_eq!(emend(&slip, 3_691, 4_074, &mut []), Ok(Emended::Fits(1)));
+/// ```
+#[inline]
+pub fn emend(
+    reading: &Reading,
+    first: u64,
+    last: u64,
+    out: &mut [u32],
+) -> Result<Emended, EmendRefused> {
+    emended(ffi::emend(c_reading(reading), first, last, out))
+}
+
 /// Reads a sheet of civil years, months and days into three lent lists; places beyond what it fills are untouched. Reasons 9, 10,
 /// 1, 7, 6, 11, 12.
 #[inline]
@@ -295,6 +328,25 @@ fn filled(c: ffi::CFilled) -> Result<u32, DrawerRefused> {
     Ok(told.count)
 }
 
+/// What an emending found, or why it came back. Only reason 12 has a total, and only a total above 0 fits.
+#[inline]
+fn emended(c: ffi::CEmended) -> Result<Emended, EmendRefused> {
+    let short = c.reason == Reason::LentTooShort.number();
+    let rest = ffi::CEmended {
+        total: if short { 0 } else { c.total },
+        ..c
+    };
+    let told = rest.told().map_err(|reason| EmendRefused {
+        reason,
+        total: short.then_some(c.total),
+    })?;
+    if !told.fits {
+        return Ok(Emended::Emendations(told.total));
+    }
+    assert_ne!(told.total, 0, "capi gave a reading that fits on no day");
+    Ok(Emended::Fits(told.total))
+}
+
 /// The phase of a number that capi gave.
 #[inline]
 fn phase(number: u32) -> Phase {
@@ -348,6 +400,13 @@ mod tests {
             let mut out = [0; 2];
             let found = ffi::search(reading, 0, 100, &mut out);
             assert_eq!((found.reason, found.total, out), (0, 1, [29, 0]));
+            let mut four = [0; 5];
+            let fits = ffi::emend(reading, 0, 100, &mut four);
+            assert_eq!((fits.reason, fits.fits, fits.total), (0, true, 1));
+            assert_eq!(four, [0; 5]);
+            let emended = ffi::emend(reading, 0, 0, &mut four);
+            assert_eq!((emended.reason, emended.fits, emended.total), (0, false, 1));
+            assert_eq!(four, [0, 2, 12, 11, 0]);
         }
     }
 
@@ -356,6 +415,52 @@ mod tests {
     #[should_panic(expected = "a refusal of capi holds something else")]
     fn a_refusal_is_bare() {
         let _ = ffi::CDay { reason: 6, day: 1 }.told();
+    }
+
+    /// The answer of capi for an emending, by its three fields.
+    fn emending(reason: u32, fits: bool, total: u32) -> Result<Emended, EmendRefused> {
+        emended(ffi::CEmended {
+            reason,
+            fits,
+            total,
+        })
+    }
+
+    /// An emending's total comes with reason 12, and with an answer.
+    #[test]
+    fn totals_of_emendings() {
+        let refused = |reason, total| Err(EmendRefused { reason, total });
+        assert_eq!(emending(0, true, 1), Ok(Emended::Fits(1)));
+        assert_eq!(emending(0, false, 1), Ok(Emended::Emendations(1)));
+        assert_eq!(emending(0, false, 0), Ok(Emended::Emendations(0)));
+        assert_eq!(
+            emending(12, false, 9),
+            refused(Reason::LentTooShort, Some(9))
+        );
+        assert_eq!(emending(6, false, 0), refused(Reason::DayCount, None));
+        assert_eq!(emending(13, false, 0), refused(Reason::Window, None));
+        assert_eq!(emending(14, false, 0), refused(Reason::Field, None));
+    }
+
+    /// A total with another reason would be seen.
+    #[test]
+    #[should_panic(expected = "a refusal of capi holds something else")]
+    fn an_emending_outside_has_no_total() {
+        let _ = emending(6, false, 1);
+    }
+
+    /// So would a refusal that fits.
+    #[test]
+    #[should_panic(expected = "a refusal of capi holds something else")]
+    fn a_short_emending_does_not_fit() {
+        let _ = emending(12, true, 1);
+    }
+
+    /// So would one that fits on no day.
+    #[test]
+    #[should_panic(expected = "capi gave a reading that fits on no day")]
+    fn what_fits_fits_on_a_day() {
+        let _ = emending(0, true, 0);
     }
 
     /// The answer of capi for a drawer, by its three fields.

@@ -422,6 +422,36 @@ impl fmt::Display for SearchRefused {
 
 impl std::error::Error for SearchRefused {}
 
+/// What an emending found.
+#[derive(Clone, Copy, Debug, PartialEq, Eq)]
+pub enum Emended {
+    /// So many days fit the reading as it is; nothing was filled.
+    Fits(u32),
+    /// No day fits; so many emendations were filled, four numbers each: the day, the field (1 to 6, in the order of [`Reading`]),
+    /// what was read and what it should be.
+    Emendations(u32),
+}
+
+/// Why an emending came back.
+#[derive(Clone, Copy, Debug, PartialEq, Eq)]
+pub struct EmendRefused {
+    /// The reason.
+    pub reason: Reason,
+    /// How many emendations there are, told with reason 12 alone.
+    pub total: Option<u32>,
+}
+
+impl fmt::Display for EmendRefused {
+    fn fmt(&self, f: &mut fmt::Formatter<'_>) -> fmt::Result {
+        match self.total {
+            Some(total) => write!(f, "{}: {total} emendations", self.reason),
+            None => self.reason.fmt(f),
+        }
+    }
+}
+
+impl std::error::Error for EmendRefused {}
+
 /// How many items each of a sheet's lists has.
 #[derive(Clone, Copy, Debug, PartialEq, Eq)]
 pub struct SheetCounts {

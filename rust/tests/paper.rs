@@ -6,8 +6,9 @@ macro_rules! paper_of {
     ($side:ident, $calls:path) => {
         mod $side {
             use oesterwrok::{
-                Asked, Conjunction, Date, DateRecord, DrawerRefused, LeapMonth, Month, Pair, Phase,
-                Reading, Reason, SearchRefused, SheetCounts, Term, YearFacts,
+                Asked, Conjunction, Date, DateRecord, DrawerRefused, EmendRefused, Emended,
+                LeapMonth, Month, Pair, Phase, Reading, Reason, SearchRefused, SheetCounts, Term,
+                YearFacts,
             };
             use $calls as calls;
 
@@ -589,6 +590,109 @@ macro_rules! paper_of {
                 };
                 assert_eq!(calls::search(&reading, 3_600, 4_100, &mut out), Ok(29));
                 assert_eq!((out[0], out[28], out[29]), (4_016, 4_044, 7));
+            }
+
+            /// A reading of six values, each known.
+            fn read_whole(values: [u64; 6]) -> Reading {
+                let [year_name, month_number, leap_mark, day_of_month, day_name, first_name] =
+                    values.map(Some);
+                Reading {
+                    year_name,
+                    month_number,
+                    leap_mark,
+                    day_of_month,
+                    day_name,
+                    first_name,
+                }
+            }
+
+            /// Holds an emending to what it lists at the front of a list of sevens.
+            fn emends(reading: &Reading, (first, last): (u64, u64), places: usize, listed: &[u32]) {
+                let mut out = vec![7; places];
+                let total = listed.len() as u32 / 4;
+                let answer = calls::emend(reading, first, last, &mut out);
+                assert_eq!(answer, Ok(Emended::Emendations(total)));
+                assert_eq!(&out[..listed.len()], listed);
+                assert!(out[listed.len()..].iter().all(|&place| place == 7));
+            }
+
+            /// Holds an emending to an answer that leaves the list as it was.
+            fn emends_nothing(
+                reading: &Reading,
+                (first, last): (u64, u64),
+                places: usize,
+                answer: Result<Emended, EmendRefused>,
+            ) {
+                let mut out = vec![7; places];
+                assert_eq!(calls::emend(reading, first, last, &mut out), answer);
+                assert_eq!(out, vec![7; places]);
+            }
+
+            /// Day 3,838 is the 30th of month 5 of civil year 11, name 59, its month's first day has name 30. Read as the 29th it
+            /// is one fault away, and so is the 29th itself, by its name.
+            #[test]
+            fn a_day_of_month_is_emended() {
+                let slip = read_whole([27, 5, 1, 29, 59, 30]);
+                let two = [3_837, 5, 59, 58, 3_838, 4, 29, 30];
+                for places in 8..13 {
+                    emends(&slip, (3_691, 4_074), places, &two);
+                }
+                let short = Err(EmendRefused {
+                    reason: Reason::LentTooShort,
+                    total: Some(2),
+                });
+                for places in 0..8 {
+                    emends_nothing(&slip, (3_691, 4_074), places, short);
+                }
+                emends(&slip, (3_838, 4_074), 4, &two[4..]);
+                emends(&slip, (3_839, 4_074), 0, &[]);
+                let two_faults = read_whole([28, 5, 1, 29, 59, 30]);
+                emends(&two_faults, (3_691, 4_074), 9, &[]);
+                let right = read_whole([27, 5, 1, 30, 59, 30]);
+                for places in [0, 8] {
+                    emends_nothing(&right, (3_691, 4_074), places, Ok(Emended::Fits(1)));
+                }
+            }
+
+            /// Day 3,961, the 5th of leap 9 of civil year 11: each of its six values misread.
+            #[test]
+            fn each_field_is_emended() {
+                let values = [27, 9, 2, 5, 2, 58];
+                let misread = [28, 8, 1, 6, 3, 59];
+                for place in 0..6 {
+                    let mut read = values;
+                    read[place] = misread[place];
+                    let (was, should) = (misread[place] as u32, values[place] as u32);
+                    let one = [3_961, place as u32 + 1, was, should];
+                    emends(&read_whole(read), (3_961, 3_961), 5, &one);
+                    read[(place + 1) % 6] = misread[(place + 1) % 6];
+                    emends(&read_whole(read), (3_961, 3_961), 5, &[]);
+                }
+            }
+
+            /// An emending's reasons before 12 are a search's, in its order; where nothing was read every day fits.
+            #[test]
+            fn emendings_refused() {
+                let refused = |reason| {
+                    Err(EmendRefused {
+                        reason,
+                        total: None,
+                    })
+                };
+                let good = read_whole([27, 5, 1, 29, 59, 30]);
+                let bad = read_whole([27, 5, 3, 29, 59, 30]);
+                let end = LAST_DAY + 1;
+                for reading in [good, bad] {
+                    for window in [(end, 0), (0, end), (1 << 32, 0)] {
+                        emends_nothing(&reading, window, 0, refused(Reason::DayCount));
+                    }
+                    for window in [(1, 0), (0, 27_759)] {
+                        emends_nothing(&reading, window, 0, refused(Reason::Window));
+                    }
+                }
+                emends_nothing(&bad, (0, 27_758), 0, refused(Reason::Field));
+                let every_day = Ok(Emended::Fits(27_759));
+                emends_nothing(&Reading::default(), (0, 27_758), 0, every_day);
             }
 
             #[test]

@@ -1,12 +1,12 @@
 // The desk program's answers, put into a lent buffer: one function a query, the query already taken apart into numbers. First those of
-// facts and planets, then those that are `DAY` lines: of a day, of a date, of a move, of a search. All are inner: each asks for room. A
-// one-line answer takes 120 bytes at most, so that the caller has one need of room for all of them.
-ghost use mathlib.Core.List.{_∷_};
+// facts and planets, then those that are `DAY` lines: of a day, of a date, of a move, of a search; last that of an emendation. All are inner:
+// each asks for room. A one-line answer takes 120 bytes at most, so that the caller has one need of room for all of them.
+ghost use mathlib.Core.List.{[], _∷_};
 ghost use Prim.Native.Nat.{ℕ, _+_, _*_, _≤_, _<_};
 ghost use lib.ListN.{length, getD, take};
 ghost use Rattle.rule.specs.Counts.{DayInRange};
 ghost use Rattle.rule.specs.Reasons.{reasonNumber};
-ghost use Rattle.fields.specs.Fields.{Put, joined, each};
+ghost use Rattle.fields.specs.Fields.{Put, decimal, joined, lined, each};
 ghost use Rattle.told.specs.Answers.{
   refusedText,
   fieldsOfBu,
@@ -36,13 +36,18 @@ ghost use Rattle.told.specs.Answers.{
   dateText,
   textOfDate,
   moveText,
-  foundLine,
   places,
   searchText,
+  valueText,
+  emendationLine,
+  lineFrom,
+  emendationLines,
+  emendText,
 };
 use dates::Date;
 use dates::Dated;
 use dates::DayTold;
+use emending::Emended;
 use facts::LeapMonth;
 use facts::MonthFacts;
 use facts::MonthTold;
@@ -403,12 +408,12 @@ pub fn answer_move(
     }
 }
 
-// A `FOUND` line.
-fn put_found(n: u32, out: &mut [u8], at: usize) -> usize
-    requires { ⌜ at + 17 ≤ length (now out) ⌝ }
-    ensures { λ r. ⌜ Put 17 (now (out .entry)) at (foundLine n) (now (out .exit)) r ⌝ }
+// A line of a word and a total.
+fn put_total(name: &[u8], n: u32, out: &mut [u8], at: usize) -> usize
+    requires { ⌜ at + length (now name) + 12 ≤ length (now out) ⌝ }
+    ensures { λ r. ⌜ Put (length (now (name .entry)) + 12) (now (out .entry)) at (lined (now (name .entry) ∷ decimal n ∷ [])) (now (out .exit)) r ⌝ }
 {
-    let to1 = fields::put_bytes(b"FOUND", out, at);
+    let to1 = fields::put_bytes(name, out, at);
     let to2 = fields::put_next(n, out, to1);
     fields::put_byte(10, out, to2)
 }
@@ -427,8 +432,8 @@ fn put_days(n: usize, days: &[u32], out: &mut [u8], at: usize) -> usize
     to
 }
 
-// The answer to `SEARCH ..`, into a lent list of days with a place for each day of the longest window, and a buffer with room for
-// a `FOUND` line of 17 bytes and 27,759 `DAY` lines of 118. What the list of days holds afterwards is not promised.
+// The answer to `SEARCH ..`, into a lent list with more places than the longest window has days, and a buffer with room for a `FOUND` line of
+// 17 bytes and 27,759 `DAY` lines of 118. What the list of days holds afterwards is not promised.
 pub fn answer_search(
     r: Reading,
     first: u32,
@@ -442,10 +447,80 @@ pub fn answer_search(
 {
     match reading::search(r, first, last, days) {
         Found::Is(n) => {
-            let to = put_found(n, out, at);
+            let to = put_total(b"FOUND", n, out, at);
             put_days(n as usize, days, out, to)
         }
         Found::TooShort(_) => put_refusal(Reason::LentTooShort, out, at),
         Found::Refused(why) => put_refusal(why, out, at),
+    }
+}
+
+// What was read in a field, or should stand there, after a space: the third is a mark.
+fn put_value(field: u32, value: u32, out: &mut [u8], at: usize) -> usize
+    requires { ⌜ at + 11 ≤ length (now out) ⌝ }
+    ensures { λ r. ⌜ Put 11 (now (out .entry)) at (32 ∷ valueText field value) (now (out .exit)) r ⌝ }
+{
+    if field == 3 {
+        return fields::put_mark(value == 2, 76, out, at);
+    }
+    fields::put_next(value, out, at)
+}
+
+// An `EMENDATION` line.
+fn put_emendation(day: u32, field: u32, read: u32, value: u32, out: &mut [u8], at: usize) -> usize
+    requires { ⌜ at + 55 ≤ length (now out) ⌝ }
+    ensures { λ r. ⌜ Put 55 (now (out .entry)) at (emendationLine day field read value) (now (out .exit)) r ⌝ }
+{
+    let to1 = fields::put_bytes(b"EMENDATION", out, at);
+    let to2 = fields::put_next(day, out, to1);
+    let to3 = fields::put_next(field, out, to2);
+    let to4 = put_value(field, read, out, to3);
+    let to5 = put_value(field, value, out, to4);
+    fields::put_byte(10, out, to5)
+}
+
+// The line of the emendation whose four numbers stand in a list from a place on.
+fn put_four(k: usize, list: &[u32], out: &mut [u8], at: usize) -> usize
+    requires { ⌜ (k + 4 ≤ length (now list)) × (at + 55 ≤ length (now out)) ⌝ }
+    ensures { λ r. ⌜ Put 55 (now (out .entry)) at (lineFrom (now (list .entry)) k) (now (out .exit)) r ⌝ }
+{
+    put_emendation(list[k], list[k + 1], list[k + 2], list[k + 3], out, at)
+}
+
+// The lines of the first n emendations of a list, four numbers each, of one window.
+fn put_emendations(n: usize, list: &[u32], out: &mut [u8], at: usize) -> usize
+    requires { ⌜ (n ≤ 27759) × (4 * n ≤ length (now list)) × (at + 55 * n ≤ length (now out)) ⌝ }
+    ensures { λ r. ⌜ Put (55 * n) (now (out .entry)) at (emendationLines (take (4 * n) (now (list .entry)))) (now (out .exit)) r ⌝ }
+{
+    let mut to = at;
+    let mut i = 0;
+    while i < n {
+        to = put_four(4 * i, list, out, to);
+        i += 1;
+    }
+    to
+}
+
+// The answer to `EMEND ..`, into a lent list with four places for each day of the longest window, and a buffer with room for an `EMENDED`
+// line of 19 bytes and 27,759 `EMENDATION` lines of 55. What the list holds afterwards is not promised.
+pub fn answer_emend(
+    r: Reading,
+    first: u32,
+    last: u32,
+    list: &mut [u32],
+    out: &mut [u8],
+    at: usize,
+) -> usize
+    requires { ⌜ (places ≤ length (now list)) × (at + 1526764 ≤ length (now out)) ⌝ }
+    ensures { λ b. ⌜ Put 1526764 (now (out .entry)) at (emendText r first last) (now (out .exit)) b ⌝ }
+{
+    match emending::emend(r, first, last, list) {
+        Emended::Fits(n) => put_total(b"FITS", n, out, at),
+        Emended::Are(n) => {
+            let to = put_total(b"EMENDED", n, out, at);
+            put_emendations(n as usize, list, out, to)
+        }
+        Emended::TooShort(_) => put_refusal(Reason::LentTooShort, out, at),
+        Emended::Refused(why) => put_refusal(why, out, at),
     }
 }

@@ -33,6 +33,7 @@ pub enum Query {
     Date(u32, u32, bool, u32),
     Move(u32, u32, bool, u32, i64),
     Search(Slip, u32, u32),
+    Emend(Slip, u32, u32),
 }
 
 // The slip in places 1 to 6 of a line.
@@ -114,7 +115,8 @@ fn form_number(line: &[u8]) -> usize
     let k9 = forms::past(k8, 8, b"DAY n", line);
     let k10 = forms::past(k9, 9, b"DATE n n m n", line);
     let k11 = forms::past(k10, 10, b"MOVE n n m n s", line);
-    forms::past(k11, 11, b"SEARCH f f g f f f n n", line)
+    let k12 = forms::past(k11, 11, b"SEARCH f f g f f f n n", line);
+    forms::past(k12, 12, b"EMEND f f g f f f n n", line)
 }
 
 // The query of a line that is like a form, counted from 0.
@@ -135,6 +137,7 @@ fn query_of(k: usize, line: &[u8]) -> Query
         9 => Query::Date(w.n1, w.n2, w.m3, w.n4),
         10 => Query::Move(w.n1, w.n2, w.m3, w.n4, w.s5),
         11 => Query::Search(read_slip(line), w.n7, w.n8),
+        12 => Query::Emend(read_slip(line), w.n7, w.n8),
         _ => Query::Unreadable,
     }
 }

@@ -19,6 +19,7 @@ ghost use Rattle.offered.specs.Promises.{
   CNextConjunction,
   CReducedPair,
   CSearch,
+  CEmendsReading,
   CReadSheet,
   CWriteSheet,
   CPrintYear,
@@ -29,6 +30,7 @@ ghost use Rattle.offered.specs.Promises.{
 use offered::CConjunction;
 use offered::CDate;
 use offered::CDay;
+use offered::CEmended;
 use offered::CFilled;
 use offered::CFound;
 use offered::CLength;
@@ -186,6 +188,15 @@ pub extern "C" fn oes_search(reading: CReading, first: u64, last: u64, out: &mut
 {
     let r = reading_of(reading);
     flat::flat_found(reading::search(r, capped::cap(first), capped::cap(last), out))
+}
+
+// A misread slip emended: how many days of a window fit a reading, or every day that disagrees with exactly one known field.
+#[no_mangle]
+pub extern "C" fn oes_emend(reading: CReading, first: u64, last: u64, out: &mut [u32]) -> CEmended
+    ensures { λ a. ⌜ CEmendsReading reading first last (now (out .entry)) a (now (out .exit)) ⌝ }
+{
+    let r = reading_of(reading);
+    flat::flat_emended(emending::emend(r, capped::cap(first), capped::cap(last), out))
 }
 
 // A drawer of days: the date of each, at the front of the lent records. What the days of a month share is kept from one day to the next.

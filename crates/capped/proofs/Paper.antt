@@ -7,7 +7,7 @@ use mathlib.Core.Bool.{Bool, true, false, _&&_, and-eq-true-iff}
 use lib.Dec.{leb}
 use lib.IntN.{ℤ, pos, negsuc, _+ℤ_}
 use borrow.Author.Tests.{lt-leb}
-use Rattle.rule.specs.Reasons.{Answer, is, refused, refused-with, guard, within, andThen}
+use Rattle.rule.specs.Reasons.{Answer, is, refused, refused-with, guard, guard-with, within, andThen}
 use Rattle.rule.proofs.Answers.{within-true}
 use Rattle.dates.specs.declared.Date.{Date}
 use Rattle.dates.specs.Dates.{dateAt, dateOf, dayOfDate, dayOfNamed, numberThere, midTermOf}
@@ -32,7 +32,7 @@ use Rattle.reading.specs.declared.Field.{Field}
 use Rattle.reading.specs.declared.Field.the-variants.{Known, Unread}
 use Rattle.reading.specs.declared.Reading.{Reading}
 use Rattle.reading.specs.Readings.{fieldInRange, inRanges, windowHolds}
-use Rattle.reading.specs.Search.{searchAt}
+use Rattle.reading.specs.Search.{total, whereGood, searchAt}
 use Rattle.capped.specs.Capped.{capped, cappedMove, cappedField, cappedReading}
 use Rattle.capped.specs.Paper.{Settled, Behind-a-test, Capped-alike, AlikeSearch, whole, both, Capped-search}
 
@@ -234,24 +234,22 @@ module _ (r : Reading) where
       )
       refl
 
--- a search from first to last that is refused with each of its reasons
+-- tests from first to last that fail with each of their reasons
 module _ (first last : ℕ) where
   abbrev ends : Bool
   ends = leb first 14989859 && leb last 14989859
 
-  six-said : (s : Reading) (room : ℕ) → ends ≡ false → searchAt s first last room ≡ refused 6
-  unfolding searchAt
-  six-said s room e = rw (e) refl
+  six-said : (s : Reading) (A : Type 0) (a : Answer A) → ends ≡ false → whereGood s first last a ≡ refused 6
+  six-said s A a e = rw (e) refl
 
-  thirteen-said : (s : Reading) (room : ℕ) → ends ≡ true → windowHolds first last ≡ false → searchAt s first last room ≡ refused 13
-  unfolding searchAt
-  thirteen-said s room e w = rw (e, w) refl
+  thirteen-said :
+      (s : Reading) (A : Type 0) (a : Answer A) → ends ≡ true → windowHolds first last ≡ false → whereGood s first last a ≡ refused 13
+  thirteen-said s A a e w = rw (e, w) refl
 
   fourteen-said :
-      (s : Reading) (room : ℕ) → ends ≡ true → windowHolds first last ≡ true → inRanges s ≡ false →
-      searchAt s first last room ≡ refused 14
-  unfolding searchAt
-  fourteen-said s room e w h = rw (e, w, h) refl
+      (s : Reading) (A : Type 0) (a : Answer A) → ends ≡ true → windowHolds first last ≡ true → inRanges s ≡ false →
+      whereGood s first last a ≡ refused 14
+  fourteen-said s A a e w h = rw (e, w, h) refl
 
 pub capped-search : Capped-search
 capped-search r first last = at-ends (ends first last) refl
@@ -264,27 +262,34 @@ capped-search r first last = at-ends (ends first last) refl
 
     whole-ends :
         capped first ≡ first → capped last ≡ last → (k : ℕ) →
-        ((s : Reading) (room : ℕ) → inRanges s ≡ inRanges r → searchAt s first last room ≡ refused k) → AlikeSearch r first last
+        ((s : Reading) (A : Type 0) (a : Answer A) → inRanges s ≡ inRanges r → whereGood s first last a ≡ refused k) → AlikeSearch r first last
     whole-ends a b k h =
         both k
-        (λ room. ap₂ (λ (i j : ℕ). searchAt (cappedReading r) i j room) a b ∙ h (cappedReading r) room (ranges-same r))
-        (λ room. h r room refl)
+        (λ A x. ap₂ (λ (i j : ℕ). whereGood (cappedReading r) i j x) a b ∙ h (cappedReading r) A x (ranges-same r))
+        (λ A x. h r A x refl)
 
     at-ranges :
         capped first ≡ first → capped last ≡ last → ends first last ≡ true → windowHolds first last ≡ true →
         (t : Bool) → inRanges r ≡ t → AlikeSearch r first last
     at-ranges a b e w true h = whole (reading-same r h) a b
-    at-ranges a b e w false h = whole-ends a b 14 (λ s room i. fourteen-said first last s room e w (i ∙ h))
+    at-ranges a b e w false h = whole-ends a b 14 (λ s A x i. fourteen-said first last s A x e w (i ∙ h))
 
     at-window :
         capped first ≡ first → capped last ≡ last → ends first last ≡ true → (t : Bool) → windowHolds first last ≡ t →
         AlikeSearch r first last
     at-window a b e true w = at-ranges a b e w (inRanges r) refl
-    at-window a b e false w = whole-ends a b 13 (λ s room i. thirteen-said first last s room e w)
+    at-window a b e false w = whole-ends a b 13 (λ s A x i. thirteen-said first last s A x e w)
 
     at-ends : (t : Bool) → ends first last ≡ t → AlikeSearch r first last
     at-ends true e =
         let t : (leb first 14989859 ≡ true) × (leb last 14989859 ≡ true) = and-eq-true-iff (leb first 14989859) (leb last 14989859) .0 e in
         at-window (end first .1 (t .0)) (end last .1 (t .1)) e (windowHolds first last) refl
     at-ends false e =
-        both 6 (λ room. six-said (capped first) (capped last) (cappedReading r) room (ends-same ∙ e)) (λ room. six-said first last r room e)
+        both 6 (λ A x. six-said (capped first) (capped last) (cappedReading r) A x (ends-same ∙ e)) (λ A x. six-said first last r A x e)
+
+-- a search whose tests fail, whatever list is lent
+pub search-refused :
+    (r : Reading) (first last k : ℕ) → ((A : Type 0) (a : Answer A) → whereGood r first last a ≡ refused k) → (room : ℕ) →
+    searchAt r first last room ≡ refused k
+unfolding searchAt
+search-refused r first last k h room = h ℕ (guard-with (leb (total r first last) room) 12 (total r first last) (is (total r first last)))

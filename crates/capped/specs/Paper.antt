@@ -10,7 +10,7 @@ use Rattle.moves.specs.Moves.{moved}
 use Rattle.facts.specs.Facts.{solsticeYearAt, yearFactsAt, monthFactsAt, quarterAt, termAt}
 use Rattle.planets.specs.Planets.{conjunctionAt, nextAt, pairAt}
 use Rattle.reading.specs.declared.Reading.{Reading}
-use Rattle.reading.specs.Search.{searchAt}
+use Rattle.reading.specs.Search.{whereGood}
 use Rattle.capped.specs.Capped.{capped, cappedMove, cappedReading}
 
 -- a test that tells the two apart nowhere, and holds of no number that was cut down
@@ -39,10 +39,12 @@ pub record Capped-alike : Type 0 where
   pub next : (p d : ℕ) → nextAt (capped p) (capped d) ≡ nextAt p d
   pub pair : (p : ℕ) → pairAt (capped p) ≡ pairAt p
 
--- of a search: nothing was cut down, or both are refused with one reason, whatever list is lent
-pub data AlikeSearch (r : Reading) (first last : ℕ) : Type 0 where
+-- of a search and of an emendation: nothing was cut down, or both are refused with one reason, whatever comes after the tests
+pub data AlikeSearch (r : Reading) (first last : ℕ) : Type 1 where
   whole : cappedReading r ≡ r → capped first ≡ first → capped last ≡ last → AlikeSearch r first last
-  both : (k : ℕ) → ((room : ℕ) → searchAt (cappedReading r) (capped first) (capped last) room ≡ refused k) → ((room : ℕ) → searchAt r first last room ≡ refused k) → AlikeSearch r first last
+  both :
+      (k : ℕ) → ((A : Type 0) (a : Answer A) → whereGood (cappedReading r) (capped first) (capped last) a ≡ refused k) →
+      ((A : Type 0) (a : Answer A) → whereGood r first last a ≡ refused k) → AlikeSearch r first last
 
-abbrev pub Capped-search : Type 0
+abbrev pub Capped-search : Type 1
 Capped-search = (r : Reading) (first last : ℕ) → AlikeSearch r first last

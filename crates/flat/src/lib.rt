@@ -7,6 +7,7 @@ ghost use Rattle.facts.specs.Promises.{saidSolsticeYear, saidYear, saidMonth, s
 ghost use Rattle.planets.specs.Planets.{phaseNumber};
 ghost use Rattle.planets.specs.Promises.{saidConjunction, saidNext, saidPair};
 ghost use Rattle.reading.specs.Search.{saidFound};
+ghost use Rattle.emending.specs.Emended.{saidEmended};
 ghost use Rattle.drawer.specs.Drawer.{drawerAt, saidFilled};
 ghost use Rattle.drawer.specs.Shared.{OfMonth, Holds};
 ghost use Rattle.sheet.specs.Promises.{saidCounts, saidHowMany};
@@ -27,6 +28,7 @@ ghost use Rattle.offered.specs.Flat.{
   flatNext,
   flatPair,
   flatFound,
+  flatEmended,
   flatFilled,
   flatCounts,
   flatLength,
@@ -36,6 +38,7 @@ use dates::Date;
 use dates::Dated;
 use dates::DayTold;
 use drawer::Filled;
+use emending::Emended;
 use facts::LeapMonth;
 use facts::MonthFacts;
 use facts::MonthTold;
@@ -47,6 +50,7 @@ use facts::YearTold;
 use offered::CConjunction;
 use offered::CDate;
 use offered::CDay;
+use offered::CEmended;
 use offered::CFilled;
 use offered::CFound;
 use offered::CLength;
@@ -353,7 +357,7 @@ pub fn flat_pair(a: PairTold) -> CPair
     }
 }
 
-// What a search found: only here does a refusal say one number more, the true total with reason 12.
+// What a search found: a refusal with reason 12 says one number more, the true total.
 pub fn flat_found(a: Found) -> CFound
     ensures { λ r. ⌜ r ≡ flatFound (saidFound a) ⌝ }
 {
@@ -368,6 +372,34 @@ pub fn flat_found(a: Found) -> CFound
         },
         Found::Refused(why) => CFound {
             reason: rule::reason_number(why) as u32,
+            total: 0,
+        },
+    }
+}
+
+// The same of an emendation, and whether what is counted are days that fit.
+pub fn flat_emended(a: Emended) -> CEmended
+    ensures { λ r. ⌜ r ≡ flatEmended (saidEmended a) ⌝ }
+{
+    match a {
+        Emended::Fits(n) => CEmended {
+            reason: 0,
+            fits: true,
+            total: n,
+        },
+        Emended::Are(n) => CEmended {
+            reason: 0,
+            fits: false,
+            total: n,
+        },
+        Emended::TooShort(total) => CEmended {
+            reason: 12,
+            fits: false,
+            total: total,
+        },
+        Emended::Refused(why) => CEmended {
+            reason: rule::reason_number(why) as u32,
+            fits: false,
             total: 0,
         },
     }

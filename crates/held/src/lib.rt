@@ -7,6 +7,7 @@ ghost use mathlib.Core.Bool.{cond};
 ghost use mathlib.Core.List.{[], _∷_, _++_};
 ghost use lib.ListN.{length};
 ghost use Rattle.fields.specs.Fields.{Put};
+ghost use Rattle.told.specs.Answers.{places};
 ghost use Rattle.held.specs.Held.{lineAfter, lineAfterAll, isNote, echoed, reply, saidAt, saidAtEnd, Becomes, TakesOn, Answers};
 
 // A byte more of the line, where there is room for it. How many bytes are held then.
@@ -47,7 +48,7 @@ fn put_echo(echo: bool, line: &[u8], out: &mut [u8]) -> usize
 
 // What is said to a line of 201 bytes at most.
 fn put_said(echo: bool, line: &[u8], days: &mut [u32], out: &mut [u8]) -> usize
-    requires { ⌜ (length (now line) ≤ 201) × (27759 ≤ length (now days)) × (3275781 ≤ length (now out)) ⌝ }
+    requires { ⌜ (length (now line) ≤ 201) × (places ≤ length (now days)) × (3275781 ≤ length (now out)) ⌝ }
     ensures { λ r. ⌜ Put 3275781 (now (out .entry)) 0 (reply echo (now (line .entry))) (now (out .exit)) r ⌝ }
 {
     let to = put_echo(echo, line, out);
@@ -56,7 +57,7 @@ fn put_said(echo: bool, line: &[u8], days: &mut [u32], out: &mut [u8]) -> usize
 
 // The line is answered: to what is held the same is said as to the whole (Held-is-enough).
 fn answer_held(echo: bool, line: &[u8], held: usize, days: &mut [u32], out: &mut [u8])
-    requires { ⌜ (held ≤ 201) × (length (now line) ≡ 201) × (27759 ≤ length (now days)) × (3275781 ≤ length (now out)) ⌝ }
+    requires { ⌜ (held ≤ 201) × (length (now line) ≡ 201) × (places ≤ length (now days)) × (3275781 ≤ length (now out)) ⌝ }
     ensures { λ _. ⌜ Answers (reply echo) (now (line .entry)) held (now (out .entry)) (now (out .exit)) ⌝ }
 {
     let n = put_said(echo, &line[0..held], days, out);
@@ -72,7 +73,7 @@ fn take_byte(
     days: &mut [u32],
     out: &mut [u8],
 ) -> usize
-    requires { ⌜ (held ≤ 201) × (length (now line) ≡ 201) × (27759 ≤ length (now days)) × (3275781 ≤ length (now out)) ⌝ }
+    requires { ⌜ (held ≤ 201) × (length (now line) ≡ 201) × (places ≤ length (now days)) × (3275781 ≤ length (now out)) ⌝ }
     ensures { λ r. ⌜ Becomes (λ l. lineAfter l b) (now (line .entry)) held (now (line .exit)) r ⌝ }
     ensures { λ _. ⌜ Answers (λ l. saidAt echo l b) (now (line .entry)) held (now (out .entry)) (now (out .exit)) ⌝ }
 {
@@ -92,7 +93,7 @@ fn take_bytes(
     days: &mut [u32],
     out: &mut [u8],
 ) -> usize
-    requires { ⌜ (held ≤ 201) × (length (now line) ≡ 201) × (27759 ≤ length (now days)) × (3275781 ≤ length (now out)) ⌝ }
+    requires { ⌜ (held ≤ 201) × (length (now line) ≡ 201) × (places ≤ length (now days)) × (3275781 ≤ length (now out)) ⌝ }
     ensures { λ r. ⌜ Becomes (λ l. lineAfterAll l (now (bytes .entry))) (now (line .entry)) held (now (line .exit)) r ⌝ }
 {
     let mut now_held = held;
@@ -113,7 +114,7 @@ fn take_some(
     days: &mut [u32],
     out: &mut [u8],
 ) -> usize
-    requires { ⌜ (held ≤ 201) × (length (now line) ≡ 201) × (27759 ≤ length (now days)) × (3275781 ≤ length (now out)) ⌝ }
+    requires { ⌜ (held ≤ 201) × (length (now line) ≡ 201) × (places ≤ length (now days)) × (3275781 ≤ length (now out)) ⌝ }
     ensures { λ r. ⌜ r ≤ 202 ⌝ }
     ensures { λ r. ⌜ TakesOn (now (bytes .exit)) (now (line .entry)) held (now (line .exit)) r ⌝ }
 {
@@ -127,7 +128,7 @@ fn take_some(
 
 // "A final line without a newline counts", where there is one.
 fn end_input(echo: bool, line: &[u8], held: usize, days: &mut [u32], out: &mut [u8])
-    requires { ⌜ (held ≤ 201) × (length (now line) ≡ 201) × (27759 ≤ length (now days)) × (3275781 ≤ length (now out)) ⌝ }
+    requires { ⌜ (held ≤ 201) × (length (now line) ≡ 201) × (places ≤ length (now days)) × (3275781 ≤ length (now out)) ⌝ }
     ensures { λ _. ⌜ Answers (saidAtEnd echo) (now (line .entry)) held (now (out .entry)) (now (out .exit)) ⌝ }
 {
     if 0 < held {
@@ -137,7 +138,7 @@ fn end_input(echo: bool, line: &[u8], held: usize, days: &mut [u32], out: &mut [
 
 // The whole input. A loop needs a number that falls: no input has 2 to the 64th parts.
 fn answer_all(echo: bool, bytes: &mut [u8], line: &mut [u8], days: &mut [u32], out: &mut [u8])
-    requires { ⌜ (length (now line) ≡ 201) × (27759 ≤ length (now days)) × (3275781 ≤ length (now out)) ⌝ }
+    requires { ⌜ (length (now line) ≡ 201) × (places ≤ length (now days)) × (3275781 ≤ length (now out)) ⌝ }
 {
     let mut held = 0;
     let mut turns = u64::MAX;
@@ -157,9 +158,9 @@ fn room() -> [u8; 3275781] {
     [0u8; 3275781]
 }
 
-// A place for each day of the longest window.
-fn day_room() -> [u32; 27759] {
-    [0u32; 27759]
+// Four places for each day of the longest window, as many as its emendations take.
+fn day_room() -> [u32; 111036] {
+    [0u32; 111036]
 }
 
 // Standard input answered on standard output.

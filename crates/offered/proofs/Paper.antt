@@ -38,6 +38,7 @@ use Rattle.reading.specs.declared.Found.{Found}
 use Rattle.reading.specs.declared.Found.the-variants as Found'
 use Rattle.reading.specs.Readings.{inRanges, windowDays, windowHolds, fitting}
 use Rattle.reading.specs.Search.{total, searchAt, saidFound}
+use Rattle.emending.specs.Emended.{filledWith}
 use Rattle.drawer.specs.Drawer.{daysFrom, drawerAt}
 use Rattle.sheet.specs.declared.Counted as Counts
 use Rattle.sheet.specs.declared.SheetCounts.{SheetCounts}
@@ -60,6 +61,7 @@ use Rattle.offered.specs.declared.CConjunction.{CConjunction}
 use Rattle.offered.specs.declared.CNext.{CNext}
 use Rattle.offered.specs.declared.CPair.{CPair}
 use Rattle.offered.specs.declared.CFound.{CFound}
+use Rattle.offered.specs.declared.CEmended.{CEmended}
 use Rattle.offered.specs.declared.CFilled.{CFilled}
 use Rattle.offered.specs.declared.CSheetCounts.{CSheetCounts}
 use Rattle.offered.specs.declared.CLength.{CLength}
@@ -96,6 +98,7 @@ use Rattle.offered.specs.Flat.{
   noPair,
   flatPair,
   flatFound,
+  flatEmended,
   givenCounts,
   noCounts,
   flatCounts,
@@ -126,6 +129,7 @@ use Rattle.offered.specs.Paper.{CAgrees}
 use Rattle.offered.proofs.Sound as Sound
 use Rattle.offered.proofs.Sound.{Sound, given, numbered, none-is-0}
 use Rattle.offered.proofs.Drawers.{reason-of, place-of, drawer-bare, drawer-zero, single-record, record-given, says-the-drawer, of-noughts, overfull, full}
+use Rattle.offered.proofs.Emended.{outcome-zero, emend-bare, emend-zero, emend-said, emendations-computed}
 use Rattle.offered.proofs.Texts.{text-said, unwritten, year-11, line-134, month-134, day-0}
 use Rattle.dates.specs.Paper.{AgreesWith}
 use Rattle.dates.proofs.Computing.{dates-computed}
@@ -157,6 +161,7 @@ unique-exported =
       next = λ n d a b p q. p ∙ sym q;
       pair = λ n a b p q. p ∙ sym q;
       search = λ r first last old a b new other p q. (p .answer ∙ sym (q .answer), p .lent ∙ sym (q .lent));
+      emend = λ r first last old a b new other p q. (p .answer ∙ sym (q .answer), p .lent ∙ sym (q .lent));
       fill-dates = λ days old a b new other p q. (p .answer ∙ sym (q .answer), p .lent ∙ sym (q .lent));
       read-sheet = λ s y m d a b y₁ m₁ d₁ y₂ m₂ d₂ p q.
           (p .answer ∙ sym (q .answer), p .years ∙ sym (q .years), p .months ∙ sym (q .months), p .days ∙ sym (q .days));
@@ -336,6 +341,9 @@ refusal-is-bare =
       search = λ r first last old a new p h.
           let b = search-bare (readingOf r) first last (length old) (fitting (readingOf r) first (windowDays first last)) old a (p .answer) h in
           (b .0, p .lent ∙ b .1);
+      emend = λ r first last old a new p h.
+          let b = emend-bare (readingOf r) first last (length old) (filledWith (readingOf r) first last) old a (p .answer) h in
+          (b .0, p .lent ∙ b .1);
       fill-dates = λ days old r new p. drawer-bare days old r new p;
       read-sheet = λ s y m d r y′ m′ d′ p h.
           let b = counts-bare (readInto s (length y) (length m) (length d)) r (p .answer) h in (
@@ -373,6 +381,10 @@ reason-0-iff-answered =
       search = λ r first last old a new p. (
         λ z. let w = search-zero (readingOf r) first last (length old) a (p .answer) z in (w .0, record { answered = w .1; lent = p .lent }, w .2),
         λ w. ap (λ (x : CFound). x .reason) (w .2),
+      );
+      emend = λ r first last old a new p. (
+        λ z. let w = emend-zero (readingOf r) first last (length old) a (p .answer) z in (w .0, record { answered = w .1; lent = p .lent }, w .2),
+        λ w. ap (λ (x : CEmended). x .reason) (w .2) ∙ outcome-zero (w .0),
       );
       fill-dates = λ days old r new p. drawer-zero days old r new p;
       read-sheet = λ s y m d r y′ m′ d′ p.
@@ -413,6 +425,11 @@ says-what-the-call-says =
         λ p. let w = search-found (readingOf r) first last (length old) in
             (w .0, record { answered = w .1; lent = p .lent }, p .answer ∙ sym (ap flatFound (w .1))),
         λ w. record { answer = w .2 ∙ ap flatFound (w .1 .answered); lent = w .1 .lent },
+      );
+      emend = λ r first last old a new. (
+        λ p. let w = emend-said (readingOf r) first last (length old) in
+            (w .0, record { answered = w .1; lent = p .lent }, p .answer ∙ sym (ap flatEmended (w .1))),
+        λ w. record { answer = w .2 ∙ ap flatEmended (w .1 .answered); lent = w .1 .lent },
       );
       fill-dates = λ days old r new held e. says-the-drawer days old r new held e;
       read-sheet = λ s y m d r y′ m′ d′.
@@ -500,7 +517,7 @@ unfolding moved dates-computed
 dates = 0
 
 pub wrong-exported : Paper.Wrong-exported
-unfolding dates facts-computed planets-computed searches-computed drawerAt daysFrom reading writing
+unfolding dates facts-computed planets-computed searches-computed emendations-computed drawerAt daysFrom reading writing
 wrong-exported =
     record {
       refusing-days = λ r p. no-refusal (λ (x : CDate). x .reason) p refl;
@@ -528,6 +545,16 @@ wrong-exported =
       first-alone = λ a p. unlike 1 (p .lent) (λ e. let f : _≡_ {A = ℕ} 5 1 = e in omega arith);
       inventing = λ a new p other. other (ap (λ (x : CFound). x .total) (p .answer));
       inventing-at-12 = λ a new p other. other (ap (λ (x : CFound). x .total) (p .answer));
+      refusing-fits = λ a new p. no-refusal (λ (x : CEmended). x .reason) (p .answer) refl;
+      refusing-emendations = λ a new p. no-refusal (λ (x : CEmended). x .reason) (p .answer) refl;
+      touching-where-fits = λ a p. unlike 0 (p .lent) (λ e. let f : _≡_ {A = ℕ} 0 5 = e in omega arith);
+      emending-none = λ a p. unlike 0 (p .lent) (λ e. let f : _≡_ {A = ℕ} 5 0 = e in omega arith);
+      read-for-right = λ a p. unlike 2 (p .lent) (λ e. let f : _≡_ {A = ℕ} 16 17 = e in omega arith);
+      fitting-none = λ a new p z. differ-in-fits (sym (ap (λ (x : CEmended). x .fits) (p .answer)) ∙ z);
+      fitting-all = λ a new p z. differ-in-fits (sym z ∙ ap (λ (x : CEmended). x .fits) (p .answer));
+      inventing-emendations = λ a new p other. other (ap (λ (x : CEmended). x .total) (p .answer));
+      inventing-emendations-at-6 = λ a new p other. other (ap (λ (x : CEmended). x .total) (p .answer));
+      inventing-emendations-at-12 = λ a new p other. other (ap (λ (x : CEmended). x .total) (p .answer));
       refusing-drawers = λ r x new p. no-refusal reason-of (p .answer) refl;
       filling-no-record = λ r p. unlike-records 0 (p .lent) (λ e. let f : _≡_ {A = ℕ} 1 30 = e in omega arith);
       first-record-over = λ r x y p. unlike-records 1 (p .lent) (λ e. let f : _≡_ {A = ℕ} 30 1 = e in omega arith);
@@ -553,9 +580,12 @@ wrong-exported =
       unwritten-month-items = λ o r h z p. unwritten month-134 o h (omega arith) z p;
       unwritten-day-items = λ o r h z p. unwritten day-0 o h (omega arith) z p;
     }
+  where
+    differ-in-fits : true ≡ false → ⊥
+    differ-in-fits e = let o : _≡_ {A = ℕ} 0 1 = cc in omega arith
 
 pub wrong-low-bits : Paper.Wrong-low-bits
-unfolding dates facts-computed planets-computed searches-computed yearBlockAt monthLineAt monthItemAt dayItemAt
+unfolding dates facts-computed planets-computed searches-computed emendations-computed yearBlockAt monthLineAt monthItemAt dayItemAt
 wrong-low-bits =
     record {
       days = λ r p q. not-alike (λ (x : CDate). x .reason) p q (above 6 (omega arith));
@@ -586,6 +616,14 @@ wrong-low-bits =
       days-of-month = λ a new other p q. not-alike (λ (x : CFound). x .reason) (p .answer) (q .answer) (above 14 (omega arith));
       day-names = λ a new other p q. not-alike (λ (x : CFound). x .reason) (p .answer) (q .answer) (above 14 (omega arith));
       first-names = λ a new other p q. not-alike (λ (x : CFound). x .reason) (p .answer) (q .answer) (above 14 (omega arith));
+      emended-first-days = λ a new other p q. not-alike (λ (x : CEmended). x .reason) (p .answer) (q .answer) (above 6 (omega arith));
+      emended-last-days = λ a new other p q. not-alike (λ (x : CEmended). x .reason) (p .answer) (q .answer) (above 6 (omega arith));
+      emended-year-names = λ a new other p q. not-alike (λ (x : CEmended). x .reason) (p .answer) (q .answer) (above 14 (omega arith));
+      emended-month-numbers = λ a new other p q. not-alike (λ (x : CEmended). x .reason) (p .answer) (q .answer) (above 14 (omega arith));
+      emended-leap-marks = λ a new other p q. not-alike (λ (x : CEmended). x .reason) (p .answer) (q .answer) (above 14 (omega arith));
+      emended-days-of-month = λ a new other p q. not-alike (λ (x : CEmended). x .reason) (p .answer) (q .answer) (above 14 (omega arith));
+      emended-day-names = λ a new other p q. not-alike (λ (x : CEmended). x .reason) (p .answer) (q .answer) (above 14 (omega arith));
+      emended-first-names = λ a new other p q. not-alike (λ (x : CEmended). x .reason) (p .answer) (q .answer) (above 14 (omega arith));
       year-blocks = λ o r o₁ o₂ h p q. not-alike (λ (x : CLength). x .reason) (p .answer) (text-said year-11 o h q) (above 1 (omega arith));
       month-lines = λ o r o₁ o₂ h p q. not-alike (λ (x : CLength). x .reason) (p .answer) (text-said line-134 o h q) (above 7 (omega arith));
       month-items = λ o r o₁ o₂ h p q. not-alike (λ (x : CLength). x .reason) (p .answer) (text-said month-134 o h q) (above 7 (omega arith));

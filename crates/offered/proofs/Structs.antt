@@ -107,6 +107,8 @@ refusals-flat =
       pair = λ k. (refl, record { years = refl; conjunctions = refl });
       found = λ k. (refl, refl);
       too-short = λ k n. (refl, refl);
+      emended = λ k. refl;
+      emended-too-short = λ k n. refl;
       filled = λ k. refl;
       bad-day = λ k i. refl;
       counts = λ k. (refl, record { years = refl; months = refl; days = refl });

@@ -16,6 +16,7 @@ use Rattle.planets.specs.declared.Conjunction.{Conjunction}
 use Rattle.planets.specs.declared.Next.{Next}
 use Rattle.planets.specs.declared.Pair.{Pair}
 use Rattle.planets.specs.Planets.{phaseNumber}
+use Rattle.emending.specs.Emended.{Outcome, fit, emended}
 use Rattle.sheet.specs.declared.Counted.{Counted}
 use Rattle.offered.specs.declared.CDate.{CDate}
 use Rattle.offered.specs.declared.CDay.{CDay}
@@ -28,6 +29,7 @@ use Rattle.offered.specs.declared.CConjunction.{CConjunction}
 use Rattle.offered.specs.declared.CNext.{CNext}
 use Rattle.offered.specs.declared.CPair.{CPair}
 use Rattle.offered.specs.declared.CFound.{CFound}
+use Rattle.offered.specs.declared.CEmended.{CEmended}
 use Rattle.offered.specs.declared.CFilled.{CFilled}
 use Rattle.offered.specs.declared.CSheetCounts.{CSheetCounts}
 use Rattle.offered.specs.declared.CLength.{CLength}
@@ -250,6 +252,13 @@ abbrev pub flatFound : Answer ℕ → CFound
 flatFound (is n) = record { reason = 0; total = n }
 flatFound (refused k) = record { reason = k; total = 0 }
 flatFound (refused-with k n) = record { reason = k; total = n }
+
+-- what an emendation says: whether days fit, how many of them or of the emendations; a refusal that says the true total keeps it
+abbrev pub flatEmended : Answer Outcome → CEmended
+flatEmended (is (fit n)) = record { reason = 0; fits = true; total = n }
+flatEmended (is (emended n)) = record { reason = 0; fits = false; total = n }
+flatEmended (refused k) = record { reason = k; fits = false; total = 0 }
+flatEmended (refused-with k n) = record { reason = k; fits = false; total = n }
 
 -- how many records of a drawer were filled: a refusal that says the place of the first day out of range keeps it
 abbrev pub flatFilled : Answer ℕ → CFilled

@@ -59,6 +59,9 @@ use Rattle.planets.specs.Promises.{saidConjunction, saidNext, saidPair, KthConj
 use Rattle.reading.specs.declared.Found.{Found}
 use Rattle.reading.specs.declared.Found.the-variants as Found'
 use Rattle.reading.specs.Search.{total, saidFound, Searched}
+use Rattle.emending.specs.declared.Emended.{Emended}
+use Rattle.emending.specs.declared.Emended.the-variants as Emended'
+use Rattle.emending.specs.Emended.{Outcome, fit, emended, emendTotal, saidEmended, EmendsReading}
 use Rattle.drawer.specs.declared.Filled.{Filled}
 use Rattle.drawer.specs.Drawer.{saidFilled, toFill, FillDates}
 use Rattle.drawer.specs.Paper.{NotTooMany, Roomy, AllInRange, FilledWith}
@@ -81,6 +84,7 @@ use Rattle.offered.specs.declared.CConjunction.{CConjunction}
 use Rattle.offered.specs.declared.CNext.{CNext}
 use Rattle.offered.specs.declared.CPair.{CPair}
 use Rattle.offered.specs.declared.CFound.{CFound}
+use Rattle.offered.specs.declared.CEmended.{CEmended}
 use Rattle.offered.specs.declared.CFilled.{CFilled}
 use Rattle.offered.specs.declared.CSheetCounts.{CSheetCounts}
 use Rattle.offered.specs.declared.CLength.{CLength}
@@ -106,6 +110,7 @@ use Rattle.offered.specs.Flat.{
   givenPair,
   flatPair,
   flatFound,
+  flatEmended,
   flatFilled,
   givenCounts,
   flatCounts,
@@ -124,6 +129,7 @@ use Rattle.offered.specs.Structs.{
   BareNext,
   BarePair,
   BareFound,
+  BareEmended,
   BareFilled,
   BareCounts,
   BareLength,
@@ -143,6 +149,7 @@ use Rattle.offered.specs.Promises.{
   CNextConjunction,
   CReducedPair,
   CSearch,
+  CEmendsReading,
   CFillDates,
   CReadSheet,
   CWriteSheet,
@@ -171,6 +178,9 @@ pub record Unique-exported : Type 0 where
   pub search :
       (r : CReading) (first last : ℕ) (old : List ℕ) (a b : CFound) (new other : List ℕ) →
       CSearch r first last old a new → CSearch r first last old b other → (a ≡ b) × (new ≡ other)
+  pub emend :
+      (r : CReading) (first last : ℕ) (old : List ℕ) (a b : CEmended) (new other : List ℕ) →
+      CEmendsReading r first last old a new → CEmendsReading r first last old b other → (a ≡ b) × (new ≡ other)
   pub fill-dates :
       (days : List ℕ) (old : List CDate) (a b : CFilled) (new other : List CDate) →
       CFillDates days old a new → CFillDates days old b other → (a ≡ b) × (new ≡ other)
@@ -204,6 +214,9 @@ pub record Refusal-is-bare : Type 0 where
   pub search :
       (r : CReading) (first last : ℕ) (old : List ℕ) (a : CFound) (new : List ℕ) →
       CSearch r first last old a new → a .reason ≢ 0 → BareFound (total (readingOf r) first last) a × (new ≡ old)
+  pub emend :
+      (r : CReading) (first last : ℕ) (old : List ℕ) (a : CEmended) (new : List ℕ) →
+      CEmendsReading r first last old a new → a .reason ≢ 0 → BareEmended (emendTotal (readingOf r) first last) a × (new ≡ old)
   pub fill-dates :
       (days : List ℕ) (old : List CDate) (r : CFilled) (new : List CDate) →
       CFillDates days old r new → r .reason ≢ 0 → BareFilled days r × (new ≡ old)
@@ -255,6 +268,10 @@ pub record Says-what-the-call-says : Type 0 where
       (r : CReading) (first last : ℕ) (old : List ℕ) (a : CFound) (new : List ℕ) →
       CSearch r first last old a new
       ↔ ((f : Found) × Searched (readingOf r) first last old f new × (a ≡ flatFound (saidFound f)))
+  pub emend :
+      (r : CReading) (first last : ℕ) (old : List ℕ) (a : CEmended) (new : List ℕ) →
+      CEmendsReading r first last old a new
+      ↔ ((f : Emended) × EmendsReading (readingOf r) first last old f new × (a ≡ flatEmended (saidEmended f)))
   pub fill-dates :
       (days : List ℕ) (old : List CDate) (r : CFilled) (new : List CDate) (held : List Date) → length held ≡ length old →
       CFillDates days old r new ↔ ((a : Filled) × (after : List Date) × FillDates days held a after × SaysTheDrawer old r new a after)
@@ -300,6 +317,11 @@ ZeroPrint C P =
     (x : ℕ) (o : List ℕ) (r : CLength) (o′ : List ℕ) →
     C x o r o′ → (r .reason ≡ 0) ↔ ((n : ℕ) × P x o (HowMany'.Is n) o′ × (r ≡ givenLength n))
 
+-- of an emendation: what the call says then
+abbrev pub saying : Outcome → Emended
+saying (fit n) = Emended'.Fits n
+saying (emended n) = Emended'.Are n
+
 -- of a drawer: a good one, all of whose days have what the single call for C gives, as many as are said
 pub record GoodDrawer (days : List ℕ) (old : List CDate) (r : CFilled) (new : List CDate) : Type 0 where
   pub not-too-many : NotTooMany days
@@ -339,6 +361,10 @@ pub record Reason-0-iff-answered : Type 0 where
       (r : CReading) (first last : ℕ) (old : List ℕ) (a : CFound) (new : List ℕ) →
       CSearch r first last old a new →
       (a .reason ≡ 0) ↔ ((n : ℕ) × Searched (readingOf r) first last old (Found'.Is n) new × (a ≡ flatFound (is n)))
+  pub emend :
+      (r : CReading) (first last : ℕ) (old : List ℕ) (a : CEmended) (new : List ℕ) →
+      CEmendsReading r first last old a new →
+      (a .reason ≡ 0) ↔ ((o : Outcome) × EmendsReading (readingOf r) first last old (saying o) new × (a ≡ flatEmended (is o)))
   pub fill-dates :
       (days : List ℕ) (old : List CDate) (r : CFilled) (new : List CDate) →
       CFillDates days old r new → (r .reason ≡ 0) ↔ GoodDrawer days old r new
@@ -376,6 +402,10 @@ slip known year-name number mark day-of-month day-name first-name =
 abbrev pub nothingRead : CReading
 nothingRead = slip false 0 0 0 0 0 0
 
+-- the slip of day 0 with its year's name misread, 17 for 16
+abbrev pub misread : CReading
+misread = slip true 17 11 1 1 1 1
+
 -- of a call that prints: number x, whose text has n bytes, refused though there is room, and a buffer that begins with a nought left
 -- as it was
 abbrev pub Refusing : (ℕ → List ℕ → CLength → List ℕ → Type 0) → ℕ → ℕ → Type 0
@@ -386,7 +416,9 @@ Unwritten P x n = (o : List ℕ) (r : CLength) → n ≤ length o → getD o 0 0
 
 -- wrong versions, each shut out at a named input: one that refuses all; one date for every day, and a move that never moves; one that
 -- fills nothing, copies a list's first item over the rest or leaves the rest out; an invented total, where the search is answered and
--- where it is refused with 12; and of a drawer: one that refuses all, or the thirtieth of the second of two big months; that fills no record,
+-- where it is refused with 12; of an emendation: one that refuses all, a day that fits or an emendation; that touches the list where a day fits,
+-- fills nothing where none does, or exchanges what was read and what it should be; that says of a day that it fits, or of none; an invented
+-- total, where it is answered, refused with 6 and refused with 12; and of a drawer: one that refuses all, or the thirtieth of the second of two big months; that fills no record,
 -- copies the first over the rest, skips every second or turns the list round; the last bad place; a record beyond the last changed, or one
 -- filled before the refusal; an invented count; 6 before 12, 12 before 10; 4,096 days refused, 4,097 taken
 pub record Wrong-exported : Type 0 where
@@ -415,6 +447,16 @@ pub record Wrong-exported : Type 0 where
   pub first-alone : (a : CFound) → CSearch nothingRead 0 1 (5 ∷ 5 ∷ []) a (0 ∷ 5 ∷ []) → ⊥
   pub inventing : (a : CFound) (new : List ℕ) → CSearch nothingRead 0 0 (5 ∷ []) a new → a .total ≢ 1 → ⊥
   pub inventing-at-12 : (a : CFound) (new : List ℕ) → CSearch nothingRead 0 1 (5 ∷ []) a new → a .total ≢ 2 → ⊥
+  pub refusing-fits : (a : CEmended) (new : List ℕ) → CEmendsReading nothingRead 0 0 [] a new → a .reason ≢ 0 → ⊥
+  pub refusing-emendations : (a : CEmended) (new : List ℕ) → CEmendsReading misread 0 0 (5 ∷ 5 ∷ 5 ∷ 5 ∷ []) a new → a .reason ≢ 0 → ⊥
+  pub touching-where-fits : (a : CEmended) → CEmendsReading nothingRead 0 0 (5 ∷ []) a (0 ∷ []) → ⊥
+  pub emending-none : (a : CEmended) → CEmendsReading misread 0 0 (5 ∷ 5 ∷ 5 ∷ 5 ∷ []) a (5 ∷ 5 ∷ 5 ∷ 5 ∷ []) → ⊥
+  pub read-for-right : (a : CEmended) → CEmendsReading misread 0 0 (5 ∷ 5 ∷ 5 ∷ 5 ∷ []) a (0 ∷ 1 ∷ 16 ∷ 17 ∷ []) → ⊥
+  pub fitting-none : (a : CEmended) (new : List ℕ) → CEmendsReading nothingRead 0 0 [] a new → a .fits ≡ false → ⊥
+  pub fitting-all : (a : CEmended) (new : List ℕ) → CEmendsReading misread 0 0 (5 ∷ 5 ∷ 5 ∷ 5 ∷ []) a new → a .fits ≡ true → ⊥
+  pub inventing-emendations : (a : CEmended) (new : List ℕ) → CEmendsReading misread 0 0 (5 ∷ 5 ∷ 5 ∷ 5 ∷ []) a new → a .total ≢ 1 → ⊥
+  pub inventing-emendations-at-6 : (a : CEmended) (new : List ℕ) → CEmendsReading misread 0 14989860 [] a new → a .total ≢ 0 → ⊥
+  pub inventing-emendations-at-12 : (a : CEmended) (new : List ℕ) → CEmendsReading misread 0 0 (5 ∷ 5 ∷ 5 ∷ []) a new → a .total ≢ 1 → ⊥
   pub refusing-drawers : (r : CFilled) (x : CDate) (new : List CDate) → CFillDates (0 ∷ []) (x ∷ []) r new → r .reason ≢ 0 → ⊥
   pub filling-no-record : (r : CFilled) → CFillDates (27758 ∷ []) (givenDate firstOfBu2 ∷ []) r (givenDate firstOfBu2 ∷ []) → ⊥
   pub first-record-over :
@@ -470,6 +512,9 @@ LowBitsPrinted P x n =
 abbrev pub LowBitsFound : (ℕ → List ℕ → CFound → List ℕ → Type 0) → ℕ → Type 0
 LowBitsFound P x = (a : CFound) (new other : List ℕ) → P (x + 4294967296) (5 ∷ []) a new → P x (5 ∷ []) a other → ⊥
 
+abbrev pub LowBitsEmended : (ℕ → List ℕ → CEmended → List ℕ → Type 0) → ℕ → Type 0
+LowBitsEmended P x = (a : CEmended) (new other : List ℕ) → P (x + 4294967296) [] a new → P x [] a other → ⊥
+
 -- each number of each call taken by its low 32 bits, a planet by its low 8; the six values of a slip are those of day 0
 pub record Wrong-low-bits : Type 0 where
   pub days : LowBits 4294967296 CDateOfDay 0
@@ -500,6 +545,14 @@ pub record Wrong-low-bits : Type 0 where
   pub days-of-month : LowBitsFound (λ v. CSearch (slip true 16 11 1 v 1 1) 0 0) 1
   pub day-names : LowBitsFound (λ v. CSearch (slip true 16 11 1 1 v 1) 0 0) 1
   pub first-names : LowBitsFound (λ v. CSearch (slip true 16 11 1 1 1 v) 0 0) 1
+  pub emended-first-days : LowBitsEmended (λ d. CEmendsReading nothingRead d 0) 0
+  pub emended-last-days : LowBitsEmended (CEmendsReading nothingRead 0) 0
+  pub emended-year-names : LowBitsEmended (λ v. CEmendsReading (slip true v 11 1 1 1 1) 0 0) 16
+  pub emended-month-numbers : LowBitsEmended (λ v. CEmendsReading (slip true 16 v 1 1 1 1) 0 0) 11
+  pub emended-leap-marks : LowBitsEmended (λ v. CEmendsReading (slip true 16 11 v 1 1 1) 0 0) 1
+  pub emended-days-of-month : LowBitsEmended (λ v. CEmendsReading (slip true 16 11 1 v 1 1) 0 0) 1
+  pub emended-day-names : LowBitsEmended (λ v. CEmendsReading (slip true 16 11 1 1 v 1) 0 0) 1
+  pub emended-first-names : LowBitsEmended (λ v. CEmendsReading (slip true 16 11 1 1 1 v) 0 0) 1
   pub year-blocks : LowBitsPrinted CPrintYear 11 236
   pub month-lines : LowBitsPrinted CPrintMonthLine 134 16
   pub month-items : LowBitsPrinted CPrintMonth 134 22

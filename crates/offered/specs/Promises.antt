@@ -16,6 +16,7 @@ use Rattle.reading.specs.declared.Field.the-variants.{Known, Unread}
 use Rattle.reading.specs.declared.Reading.{Reading}
 use Rattle.reading.specs.Readings.{windowDays, fitting}
 use Rattle.reading.specs.Search.{searchAt}
+use Rattle.emending.specs.Emended.{emendAt, filledWith}
 use Rattle.drawer.specs.Drawer.{drawerAt}
 use Rattle.sheet.specs.Sheet.{readInto, writeInto}
 use Rattle.sheet.specs.Promises.{counted}
@@ -31,6 +32,7 @@ use Rattle.offered.specs.declared.CConjunction.{CConjunction}
 use Rattle.offered.specs.declared.CNext.{CNext}
 use Rattle.offered.specs.declared.CPair.{CPair}
 use Rattle.offered.specs.declared.CFound.{CFound}
+use Rattle.offered.specs.declared.CEmended.{CEmended}
 use Rattle.offered.specs.declared.CFilled.{CFilled}
 use Rattle.offered.specs.declared.CSheetCounts.{CSheetCounts}
 use Rattle.offered.specs.declared.CLength.{CLength}
@@ -46,6 +48,7 @@ use Rattle.offered.specs.Flat.{
   flatNext,
   flatPair,
   flatFound,
+  flatEmended,
   flatFilled,
   flatCounts,
   flatLength,
@@ -125,6 +128,11 @@ readingOf r =
 pub record CSearch (r : CReading) (first last : ℕ) (old : List ℕ) (a : CFound) (new : List ℕ) : Type 0 where
   pub answer : a ≡ flatFound (searchAt (readingOf r) first last (length old))
   pub lent : new ≡ afterwards (searchAt (readingOf r) first last (length old)) (λ n. fitting (readingOf r) first (windowDays first last)) old
+
+-- an emendation: the answer, and what the lent list holds then
+pub record CEmendsReading (r : CReading) (first last : ℕ) (old : List ℕ) (a : CEmended) (new : List ℕ) : Type 0 where
+  pub answer : a ≡ flatEmended (emendAt (readingOf r) first last (length old))
+  pub lent : new ≡ afterwards (emendAt (readingOf r) first last (length old)) (filledWith (readingOf r) first last) old
 
 -- reading the bytes s into lent lists that held y, m and d: the answer r, and what they hold then
 pub record CReadSheet (s y m d : List ℕ) (r : CSheetCounts) (y′ m′ d′ : List ℕ) : Type 0 where

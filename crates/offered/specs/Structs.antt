@@ -28,6 +28,7 @@ use Rattle.offered.specs.declared.CConjunction.{CConjunction}
 use Rattle.offered.specs.declared.CNext.{CNext}
 use Rattle.offered.specs.declared.CPair.{CPair}
 use Rattle.offered.specs.declared.CFound.{CFound}
+use Rattle.offered.specs.declared.CEmended.{CEmended}
 use Rattle.offered.specs.declared.CFilled.{CFilled}
 use Rattle.offered.specs.declared.CSheetCounts.{CSheetCounts}
 use Rattle.offered.specs.declared.CLength.{CLength}
@@ -53,6 +54,7 @@ use Rattle.offered.specs.Flat.{
   givenPair,
   noPair,
   flatFound,
+  flatEmended,
   flatFilled,
   givenCounts,
   noCounts,
@@ -141,13 +143,20 @@ pub record BareFound (n : ℕ) (a : CFound) : Type 0 where
   pub other : a .reason ≢ 12 → a .total ≡ 0
   pub twelve : a .reason ≡ 12 → a .total ≡ n
 
+-- of an emendation, of which n are the true total
+pub record BareEmended (n : ℕ) (a : CEmended) : Type 0 where
+  pub fits : a .fits ≡ false
+  pub other : a .reason ≢ 12 → a .total ≡ 0
+  pub twelve : a .reason ≡ 12 → a .total ≡ n
+
 -- of a drawer: but the place of the first day out of range where it is refused with 6
 pub record BareFilled (days : List ℕ) (r : CFilled) : Type 0 where
   pub count : r .count ≡ 0
   pub other : r .reason ≢ 6 → r .place ≡ 0
   pub six : r .reason ≡ 6 → FirstBad days (r .place)
 
--- a refusal has its reason's number, and no other field says anything; where a search says the true total, or a drawer a place, it is kept
+-- a refusal has its reason's number, and no other field says anything; where a search or an emendation says the true total, or a
+-- drawer a place, it is kept
 pub record Refusals-flat : Type 0 where
   pub date : (k : ℕ) → (noDate k .reason ≡ k) × BareDate (noDate k)
   pub day : (k : ℕ) → (noDay k .reason ≡ k) × BareDay (noDay k)
@@ -161,6 +170,8 @@ pub record Refusals-flat : Type 0 where
   pub pair : (k : ℕ) → (noPair k .reason ≡ k) × BarePair (noPair k)
   pub found : (k : ℕ) → (flatFound (refused k) .reason ≡ k) × (flatFound (refused k) .total ≡ 0)
   pub too-short : (k n : ℕ) → (flatFound (refused-with k n) .reason ≡ k) × (flatFound (refused-with k n) .total ≡ n)
+  pub emended : (k : ℕ) → flatEmended (refused k) ≡ record { reason = k; fits = false; total = 0 }
+  pub emended-too-short : (k n : ℕ) → flatEmended (refused-with k n) ≡ record { reason = k; fits = false; total = n }
   pub filled : (k : ℕ) → flatFilled (refused k) ≡ record { reason = k; count = 0; place = 0 }
   pub bad-day : (k i : ℕ) → flatFilled (refused-with k i) ≡ record { reason = k; count = 0; place = i }
   pub counts : (k : ℕ) → (noCounts k .reason ≡ k) × BareCounts (noCounts k)

@@ -1,5 +1,5 @@
 // What C is offered: one struct for each answer, with the reason in front, and one for a slip; in specs/ how an answer is laid flat into
-// its struct, what the nineteen calls promise, and statements with their proofs. No code: answers are laid flat in the crate `flat`, and
+// its struct, what the twenty calls promise, and statements with their proofs. No code: answers are laid flat in the crate `flat`, and
 // the calls are the crate `capi`. So an edit of a definition is refused without checking those again.
 
 // A date. `number` is the month's, `leap` whether it is the leap month of that number, `year` the civil one; ji, bu and year in the bu are
@@ -115,6 +115,14 @@ pub struct CPair {
 #[repr(C)]
 pub struct CFound {
     pub reason: u32,
+    pub total: u32,
+}
+
+// How many days fit, or how many emendations there are; where the lent list was too short, how many there are.
+#[repr(C)]
+pub struct CEmended {
+    pub reason: u32,
+    pub fits: bool,
     pub total: u32,
 }
 

@@ -7,9 +7,10 @@ use Rattle.dates.specs.Dates.{dateAt}
 use Rattle.moves.specs.Moves.{moved}
 use Rattle.facts.specs.Facts.{yearFactsAt, termAt}
 use Rattle.planets.specs.Planets.{pairAt}
+use Rattle.emending.specs.Emended.{emendAt}
 use Rattle.fields.specs.Fields.{word}
 use Rattle.fields.specs.Paper.{valueFrom}
-use Rattle.told.specs.Answers.{refusedText, yearText, termText, conjunctionText, nextText, pairText, quarterText, dayText, dateText, moveText, searchText}
+use Rattle.told.specs.Answers.{refusedText, yearText, termText, conjunctionText, nextText, pairText, quarterText, dayText, dateText, moveText, searchText, emendText}
 use Rattle.forms.specs.Forms.{
   fieldsIn,
   fieldAt,
@@ -68,6 +69,10 @@ moving = 0
 searching : ℕ
 unfolding lines searchText searches-computed
 searching = 0
+
+emending : ℕ
+unfolding searching emendText emendAt
+emending = 0
 
 conjunctions : ℕ
 unfolding lines conjunctionText planets-computed
@@ -176,6 +181,19 @@ number-too-large = refl
 pub name-too-large : answerTo (word "SEARCH ? ? ? ? ? 999 0 5") ≡ refusedText 14
 unfolding searching
 name-too-large = refl
+
+-- an emendation has the reasons of a search: 6, 13, 14
+pub emend-day-too-large : answerTo (word "EMEND ? ? ? ? ? 999 5 99999999999") ≡ refusedText 6
+unfolding emending
+emend-day-too-large = refl
+
+pub emend-turned-round : answerTo (word "EMEND ? ? ? ? ? 999 5 0") ≡ refusedText 13
+unfolding emending
+emend-turned-round = refl
+
+pub emend-name-too-large : answerTo (word "EMEND ? ? ? ? ? 999 0 5") ≡ refusedText 14
+unfolding emending
+emend-name-too-large = refl
 
 -- of the planets: 19, then 6, and 20 last
 pub planet-too-large : answerTo (word "CONJUNCTION 99999999999 99999999999") ≡ refusedText 19

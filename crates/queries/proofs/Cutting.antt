@@ -1,19 +1,23 @@
 -- Every answer is the same of numbers and of numbers cut down. Assumes nothing.
-use Prim.Native.Nat.{ℕ, zero, suc, _-_, _≤_, _<_}
+use Prim.Native.Nat.{ℕ, zero, suc, _-_, _*_, _≤_, _<_}
 use native.Mathlib.Omega.{arith}
 use mathlib.Core.Path.{_≡_, refl, ap, sym, _∙_}
 use mathlib.Core.Bool.{Bool, true, false, cond}
-use mathlib.Core.List.{List, [], _∷_}
+use mathlib.Core.List.{List, [], _∷_, _++_}
 use lib.Dec.{leb}
 use lib.IntN.{ℤ, pos}
 use lib.ListN.{length, drop}
 use borrow.Author.Tests.{le-leb, lt-leb}
-use Rattle.rule.specs.Reasons.{is, guard}
+use Rattle.rule.specs.Reasons.{Answer, is, guard, guard-with}
 use Rattle.dates.specs.Dates.{dateOf, dateAt}
 use Rattle.facts.specs.Facts.{yearFacts, yearFactsAt, monthFacts, monthFactsAt}
 use Rattle.reading.specs.declared.Field.the-variants.{Known, Unread}
 use Rattle.reading.specs.declared.Reading.{Reading}
-use Rattle.fields.specs.Fields.{word}
+use Rattle.reading.specs.Readings.{windowDays, fitting}
+use Rattle.reading.specs.Search.{total, whereGood, searchAt}
+use Rattle.emending.specs.Faults.{emendations}
+use Rattle.emending.specs.Emended.{emended, emendTotal, whereNoneFits, emendAt}
+use Rattle.fields.specs.Fields.{word, each}
 use Rattle.told.specs.Answers.{
   told,
   placeLine,
@@ -38,7 +42,11 @@ use Rattle.told.specs.Answers.{
   dateText,
   textOfDate,
   moveText,
+  foundLine,
+  places,
   searchText,
+  outcomeText,
+  emendText,
 }
 use Rattle.capped.specs.Capped.{capped, cappedMove, cappedField, cappedReading}
 use Rattle.capped.specs.Paper.{Settled, AlikeSearch, whole, both}
@@ -106,13 +114,34 @@ move-capped : (y k : ℕ) (l : Bool) (m : ℕ) (n : ℤ) → moveText (capped y)
 unfolding moveText
 move-capped y k l m n = ap (told textOfDate) (capped-alike .move y k l m (cappedMove n) ∙ capped-alike .far y k l m n)
 
-search-capped : (r : Reading) (first last : ℕ) → searchText (cappedReading r) (capped first) (capped last) ≡ searchText r first last
-unfolding searchText
-search-capped r first last = go (capped-search r first last)
+-- what is told behind the tests of a search
+abbrev behindTests : {A : Type 0} → (Reading → ℕ → ℕ → A → List ℕ) → (Reading → ℕ → ℕ → Answer A) → Reading → ℕ → ℕ → List ℕ
+behindTests f a r first last = told (f r first last) (whereGood r first last (a r first last))
+
+behind-capped : {A : Type 0} (f : Reading → ℕ → ℕ → A → List ℕ) (a : Reading → ℕ → ℕ → Answer A) (r : Reading) (first last : ℕ) →
+    behindTests f a (cappedReading r) (capped first) (capped last) ≡ behindTests f a r first last
+behind-capped {A} f a r first last = go (capped-search r first last)
   where
-    go : AlikeSearch r first last → searchText (cappedReading r) (capped first) (capped last) ≡ searchText r first last
-    go (whole a b c) = rw (a, b, c) refl
-    go (both k h g) = rw (h 27759, g 27759) refl
+    go : AlikeSearch r first last → behindTests f a (cappedReading r) (capped first) (capped last) ≡ behindTests f a r first last
+    go (whole x y z) = rw (x, y, z) refl
+    go (both k h g) =
+        ap (told (f (cappedReading r) (capped first) (capped last))) (h A (a (cappedReading r) (capped first) (capped last)))
+        ∙ sym (ap (told (f r first last)) (g A (a r first last)))
+
+search-capped : (r : Reading) (first last : ℕ) → searchText (cappedReading r) (capped first) (capped last) ≡ searchText r first last
+unfolding searchText searchAt
+search-capped =
+    behind-capped (λ r first last n. foundLine n ++ each dayLine (fitting r first (windowDays first last)))
+    (λ r first last. guard-with (leb (total r first last) places) 12 (total r first last) (is (total r first last)))
+
+emend-capped : (r : Reading) (first last : ℕ) → emendText (cappedReading r) (capped first) (capped last) ≡ emendText r first last
+unfolding emendText emendAt
+emend-capped =
+    behind-capped (λ r first last. outcomeText (emendations r first (windowDays first last))) (
+    λ r first last.
+    let n = emendTotal r first last in
+    whereNoneFits (total r first last) (guard-with (leb (4 * n) places) 12 n (is (emended n)))
+    )
 
 -- a move and a field in a line
 back-capped : (v : ℕ) → back (capped v) ≡ cappedMove (back v)
@@ -178,6 +207,7 @@ module _ (s : List ℕ) where
         date-capped,
         move-capped,
         search-capped,
+        emend-capped,
       )
 
   same-answer : answered s (readBy capped s) ≡ answered s (read s)

@@ -59,6 +59,9 @@ each-query-literally =
       search = λ a b c d e first last. written-is-answered (Query.Search (slip (Known a) (Known b) (Seen true) (Known c) (Known d) (Known e)) first last);
       ordinary-search = λ a first last. written-is-answered (Query.Search (slip (Known a) Unread (Seen false) Unread Unread Unread) first last);
       unread-search = λ first last. written-is-answered (Query.Search (slip Unread Unread Unseen Unread Unread Unread) first last);
+      emend = λ a b c d e first last. written-is-answered (Query.Emend (slip (Known a) (Known b) (Seen true) (Known c) (Known d) (Known e)) first last);
+      ordinary-emend = λ a first last. written-is-answered (Query.Emend (slip (Known a) Unread (Seen false) Unread Unread Unread) first last);
+      unread-emend = λ first last. written-is-answered (Query.Emend (slip Unread Unread Unseen Unread Unread Unread) first last);
     }
 
 pub note-as-it-stands : Note-as-it-stands

@@ -22,6 +22,7 @@ use Rattle.told.specs.Answers.{
   dateText,
   moveText,
   searchText,
+  emendText,
 }
 use Rattle.asked.specs.declared.Query.{Query}
 use Rattle.asked.specs.Paper.{written}
@@ -72,6 +73,16 @@ pub record Each-query-literally : Type 0 where
       (searchText (slipRead (Known a) Unread (Known 1) Unread Unread Unread) first last)
   pub unread-search : (first last : ℕ) →
       Line (word "SEARCH ? ? ? ? ? ?" ++ (spaced first ++ spaced last)) (searchText (slipRead Unread Unread Unread Unread Unread Unread) first last)
+  pub emend : (a b c d e first last : ℕ) →
+      Line
+      (word "EMEND" ++ (spaced a ++ (spaced b ++ (word " L" ++ (spaced c ++ (spaced d ++ (spaced e ++ (spaced first ++ spaced last))))))))
+      (emendText (slipRead (Known a) (Known b) (Known 2) (Known c) (Known d) (Known e)) first last)
+  pub ordinary-emend : (a first last : ℕ) →
+      Line
+      (word "EMEND" ++ (spaced a ++ (word " ? - ? ? ?" ++ (spaced first ++ spaced last))))
+      (emendText (slipRead (Known a) Unread (Known 1) Unread Unread Unread) first last)
+  pub unread-emend : (first last : ℕ) →
+      Line (word "EMEND ? ? ? ? ? ?" ++ (spaced first ++ spaced last)) (emendText (slipRead Unread Unread Unread Unread Unread Unread) first last)
 
 -- every query that is written in "at most 200 bytes without its newline" has its answer
 abbrev pub Written-is-answered : Type 0

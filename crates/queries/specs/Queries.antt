@@ -27,6 +27,7 @@ use Rattle.told.specs.Answers.{
   dateText,
   moveText,
   searchText,
+  emendText,
 }
 
 -- "A line that is no query is `UNREADABLE`"
@@ -65,6 +66,7 @@ answered s (Query.Day d) = dayText d
 answered s (Query.Date y k l d) = dateText y k l d
 answered s (Query.Move y k l d n) = moveText y k l d n
 answered s (Query.Search r a b) = searchText (readingOf r) a b
+answered s (Query.Emend r a b) = emendText (readingOf r) a b
 
 -- the answer to a line: "each at most 200 bytes without its newline"
 unfoldable pub answerTo : List ℕ → List ℕ

@@ -4,7 +4,7 @@ ghost use mathlib.Core.List.{[], _∷_, _++_};
 ghost use Prim.Native.Nat.{_+_, _≤_};
 ghost use lib.ListN.{length};
 ghost use Rattle.fields.specs.Fields.{Put};
-ghost use Rattle.told.specs.Answers.{searchText};
+ghost use Rattle.told.specs.Answers.{places, searchText, emendText};
 ghost use Rattle.queries.specs.Queries.{unreadable, readingOf, markField, answered, answerTo};
 use asked::Query;
 use asked::Slip;
@@ -44,7 +44,7 @@ fn mark_field(m: Mark) -> Field
     }
 }
 
-// A slip as the search takes it.
+// A slip as a search and an emendation take it.
 fn reading_of(s: Slip) -> Reading
     ensures { λ r. ⌜ r ≡ readingOf s ⌝ }
 {
@@ -66,15 +66,23 @@ fn reading_of(s: Slip) -> Reading
 
 // The answer to a search by a slip.
 fn answer_slip(s: Slip, first: u32, last: u32, days: &mut [u32], out: &mut [u8], at: usize) -> usize
-    requires { ⌜ (27759 ≤ length (now days)) × (at + 3275579 ≤ length (now out)) ⌝ }
+    requires { ⌜ (places ≤ length (now days)) × (at + 3275579 ≤ length (now out)) ⌝ }
     ensures { λ b. ⌜ Put 3275579 (now (out .entry)) at (searchText (readingOf s) first last) (now (out .exit)) b ⌝ }
 {
     answers::answer_search(reading_of(s), first, last, days, out, at)
 }
 
+// The answer to an emendation of a slip.
+fn emend_slip(s: Slip, first: u32, last: u32, days: &mut [u32], out: &mut [u8], at: usize) -> usize
+    requires { ⌜ (places ≤ length (now days)) × (at + 3275579 ≤ length (now out)) ⌝ }
+    ensures { λ b. ⌜ Put 3275579 (now (out .entry)) at (emendText (readingOf s) first last) (now (out .exit)) b ⌝ }
+{
+    answers::answer_emend(reading_of(s), first, last, days, out, at)
+}
+
 // The answer to a query, which a line of 200 bytes at most asks.
 fn answer(q: Query, line: &[u8], days: &mut [u32], out: &mut [u8], at: usize) -> usize
-    requires { ⌜ (length (now line) ≤ 200) × (27759 ≤ length (now days)) × (at + 3275579 ≤ length (now out)) ⌝ }
+    requires { ⌜ (length (now line) ≤ 200) × (places ≤ length (now days)) × (at + 3275579 ≤ length (now out)) ⌝ }
     ensures { λ r. ⌜ Put 3275579 (now (out .entry)) at (answered (now (line .entry)) q) (now (out .exit)) r ⌝ }
 {
     match q {
@@ -92,13 +100,14 @@ fn answer(q: Query, line: &[u8], days: &mut [u32], out: &mut [u8], at: usize) ->
         Query::Date(y, k, l, d) => answers::answer_date(y, k, l, d, out, at),
         Query::Move(y, k, l, d, n) => answers::answer_move(y, k, l, d, n, out, at),
         Query::Search(s, a, b) => answer_slip(s, a, b, days, out, at),
+        Query::Emend(s, a, b) => emend_slip(s, a, b, days, out, at),
     }
 }
 
-// The answer to a line, its newlines included, from a place of the buffer on: where it ends. The lent list of days is used by
-// searches; what it holds afterwards is not promised.
+// The answer to a line, its newlines included, from a place of the buffer on: where it ends. The lent list is used by searches
+// and emendations; what it holds afterwards is not promised.
 pub fn answer_line(line: &[u8], days: &mut [u32], out: &mut [u8], at: usize) -> usize
-    requires { ⌜ (27759 ≤ length (now days)) × (at + 3275579 ≤ length (now out)) ⌝ }
+    requires { ⌜ (places ≤ length (now days)) × (at + 3275579 ≤ length (now out)) ⌝ }
     ensures { λ r. ⌜ Put 3275579 (now (out .entry)) at (answerTo (now (line .entry))) (now (out .exit)) r ⌝ }
 {
     if 200 < line.len() {

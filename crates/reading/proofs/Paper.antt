@@ -41,7 +41,7 @@ use Rattle.reading.proofs.Answered
 use Rattle.reading.proofs.Rows.{refuses, tells, gives, comes}
 
 -- a field, by its two cases
-field-fits : (f : Field) (v : ℕ) → (fieldFits f v ≡ true) ↔ FieldFits f v
+pub field-fits : (f : Field) (v : ℕ) → (fieldFits f v ≡ true) ↔ FieldFits f v
 field-fits (Known k) v = (
   λ e. inr (ap Known (eqb-true k v e)),
   ⊎-elim (λ (e : Known k ≡ Unread). absurd (let o : _≡_ {A = ℕ} 0 1 = cc in omega arith)) (λ (e : Known k ≡ Known v). let g : k ≡ v = cc in eq-eqb k v g),
@@ -104,7 +104,7 @@ fits-literally r d = (λ e. there (six .0 e), λ h. six .1 (back h))
         ((((h .year-name, number), mark), h .first-name), (h .day-of-month, h .day-name))
 
 -- all six unread: every day fits
-all-fit : (first k : ℕ) → fitting allUnread first k ≡ those (λ n. true) first k
+pub all-fit : (first k : ℕ) → fitting allUnread first k ≡ those (λ n. true) first k
 unfolding fitting fits monthFits dayFits
 all-fit first k = those-same (fits allUnread) (λ n. true) first k (λ i h. refl)
 
@@ -119,7 +119,7 @@ listed-at r first last d h g e =
     back : first + (d - first) ≡ d
     back = omega arith
 
-lists-exactly : (r : Reading) (first last : ℕ) → ListsExactly r first last (fitting r first (windowDays first last))
+pub lists-exactly : (r : Reading) (first last : ℕ) → ListsExactly r first last (fitting r first (windowDays first last))
 unfolding fitting
 lists-exactly r first last =
     record {
@@ -179,7 +179,7 @@ module _ (r : Reading) (first last : ℕ) (days : List ℕ) (e : ListsExactly r 
   the-days : days ≡ fitting r first (windowDays first last)
   the-days = one-list r first last days (fitting r first (windowDays first last)) e (lists-exactly r first last)
 
-  the-total : (n : ℕ) → length days ≡ n → total r first last ≡ n
+  pub the-total : (n : ℕ) → length days ≡ n → total r first last ≡ n
   unfolding total
   the-total n h = sym (ap length the-days) ∙ h
 

@@ -15,7 +15,7 @@ use Rattle.reading.specs.declared.Field.{Field}
 use Rattle.reading.specs.declared.Field.the-variants.{Known, Unread}
 use Rattle.reading.specs.declared.Reading.{Reading}
 use Rattle.reading.specs.Readings.{fieldInRange, inRanges, windowDays, windowHolds}
-use Rattle.reading.specs.Search.{total, searchAt}
+use Rattle.reading.specs.Search.{total, whereGood, searchAt}
 use Rattle.reading.specs.Paper.{
   FieldInRange,
   FieldOutside,
@@ -137,28 +137,52 @@ module _ (r : Reading) where
       (field-beyond (r .«day_of_month») 30) (field-beyond (r .«day_name») 60) (field-beyond (r .«first_name») 60))
       (which, one)
 
+-- the tests of a search, whatever comes after them: a fault of the paper's rows, or none
+module _ (r : Reading) (first last : ℕ) where
+  pub refuses-any : {A : Type 0} (a : Answer A) (why : Reason) → SearchFault r first last why → whereGood r first last a ≡ refused (reasonNumber why)
+  refuses-any a why (end-outside h e) =
+      ⊎-elim (Answered.first-outside r first last a) (Answered.last-outside r first last a) h ∙ sym (ap (λ (w : Reason). refused (reasonNumber w)) e)
+  refuses-any a why (no-window h g e) =
+      Answered.bad-window r first last a (h .0) (h .1) (window-false first last .1 g) ∙ sym (ap (λ (w : Reason). refused (reasonNumber w)) e)
+  refuses-any a why (field-outside h g s e) =
+      Answered.bad-field r first last a (h .0) (h .1) (Answered.window-true first last .1 g) (some-outside r .1 s)
+      ∙ sym (ap (λ (w : Reason). refused (reasonNumber w)) e)
+
+  pub lets-through : GoodSearch r first last → Answered.Passed r first last
+  lets-through g =
+      record { ends = g .ends; window = Answered.window-true first last .1 (g .window); fields = in-ranges r .1 (g .fields) }
+
+  pub good-or-not : GoodSearch r first last ⊎ ((why : Reason) × SearchFault r first last why)
+  good-or-not = ends (leb first 14989859 && leb last 14989859) refl
+    where
+      Here : Type 0
+      Here = GoodSearch r first last ⊎ ((why : Reason) × SearchFault r first last why)
+
+      fields : EndsInRange first last → IsWindow first last → (t : Bool) → inRanges r ≡ t → Here
+      fields h w true e = inl (record { ends = h; window = w; fields = in-ranges r .0 e })
+      fields h w false e = inr (FieldOutOfRange, field-outside h w (some-outside r .0 e) refl)
+
+      window : EndsInRange first last → (t : Bool) → windowHolds first last ≡ t → Here
+      window h true e = fields h (Answered.window-true first last .0 e) (inRanges r) refl
+      window h false e = inr (BadWindow, no-window h (window-false first last .0 e) refl)
+
+      ends : (t : Bool) → (leb first 14989859 && leb last 14989859) ≡ t → Here
+      ends true e = window (Answered.ends-true first last .0 e) (windowHolds first last) refl
+      ends false e = inr (NoSuchDay, end-outside (ends-false first last .0 e) refl)
+
 -- what a search comes to
 module _ (r : Reading) (first last room : ℕ) where
   pub refuses : (why : Reason) → SearchFault r first last why → searchAt r first last room ≡ refused (reasonNumber why)
-  refuses why (end-outside h e) =
-      ⊎-elim (Answered.first-outside r first last room) (Answered.last-outside r first last room) h ∙ sym (ap (λ (w : Reason). refused (reasonNumber w)) e)
-  refuses why (no-window h g e) =
-      Answered.bad-window r first last room (h .0) (h .1) (window-false first last .1 g) ∙ sym (ap (λ (w : Reason). refused (reasonNumber w)) e)
-  refuses why (field-outside h g s e) =
-      Answered.bad-field r first last room (h .0) (h .1) (Answered.window-true first last .1 g) (some-outside r .1 s)
-      ∙ sym (ap (λ (w : Reason). refused (reasonNumber w)) e)
+  unfolding searchAt
+  refuses why h = refuses-any r first last _ why h
 
   pub tells : GoodSearch r first last → room < total r first last → searchAt r first last room ≡ refused-with 12 (total r first last)
   unfolding total
-  tells g h =
-      Answered.too-short r first last room (g .ends .0) (g .ends .1) (Answered.window-true first last .1 (g .window)) (in-ranges r .1 (g .fields))
-      (total r first last) refl h
+  tells g h = Answered.too-short r first last room (lets-through r first last g) (total r first last) refl h
 
   pub gives : GoodSearch r first last → total r first last ≤ room → searchAt r first last room ≡ is (total r first last)
   unfolding total
-  gives g h =
-      Answered.room-enough r first last room (g .ends .0) (g .ends .1) (Answered.window-true first last .1 (g .window)) (in-ranges r .1 (g .fields))
-      (total r first last) refl h
+  gives g h = Answered.room-enough r first last room (lets-through r first last g) (total r first last) refl h
 
   -- by what is said: the days given, the total told, or a fault of the paper's rows
   abbrev Comes : Answer ℕ → Type 0
@@ -167,26 +191,12 @@ module _ (r : Reading) (first last room : ℕ) where
   Comes (refused-with k n) = GoodSearch r first last × (n ≡ total r first last) × (room < n)
 
   pub comes : (x : Answer ℕ) → x ≡ searchAt r first last room → Comes x
-  comes x said = subst Comes (sym said) (ends (leb first 14989859 && leb last 14989859) refl)
+  comes x said =
+      subst Comes (sym said)
+      (⊎-elim (λ (g : GoodSearch r first last). good g (leb (total r first last) room) refl)
+      (λ (h : (why : Reason) × SearchFault r first last why). subst Comes (sym (refuses (h .0) (h .1))) (h .0, refl, h .1))
+      (good-or-not r first last))
     where
-      Here : Type 0
-      Here = Comes (searchAt r first last room)
-
-      faulty : (why : Reason) → SearchFault r first last why → Here
-      faulty why h = subst Comes (sym (refuses why h)) (why, refl, h)
-
-      good : GoodSearch r first last → (t : Bool) → leb (total r first last) room ≡ t → Here
+      good : GoodSearch r first last → (t : Bool) → leb (total r first last) room ≡ t → Comes (searchAt r first last room)
       good g true e = let h = leb-true (total r first last) room e in subst Comes (sym (gives g h)) (g, refl, h)
       good g false e = let h = leb-false (total r first last) room e in subst Comes (sym (tells g h)) (g, refl, h)
-
-      fields : EndsInRange first last → IsWindow first last → (t : Bool) → inRanges r ≡ t → Here
-      fields h w true e = good (record { ends = h; window = w; fields = in-ranges r .0 e }) (leb (total r first last) room) refl
-      fields h w false e = faulty FieldOutOfRange (field-outside h w (some-outside r .0 e) refl)
-
-      window : EndsInRange first last → (t : Bool) → windowHolds first last ≡ t → Here
-      window h true e = fields h (Answered.window-true first last .0 e) (inRanges r) refl
-      window h false e = faulty BadWindow (no-window h (window-false first last .0 e) refl)
-
-      ends : (t : Bool) → (leb first 14989859 && leb last 14989859) ≡ t → Here
-      ends true e = window (Answered.ends-true first last .0 e) (windowHolds first last) refl
-      ends false e = faulty NoSuchDay (end-outside (ends-false first last .0 e) refl)

@@ -7,7 +7,8 @@ ghost use Rattle.rule.specs.Counts.{DayInRange, MonthInRange, dayName, yearName
 ghost use Rattle.rule.specs.Lists.{those, placed};
 ghost use Rattle.rule.specs.Rule.{monthStart, civilYearOfMonth, monthNumber, leap};
 ghost use Rattle.reading.specs.Readings.{markNumber, fieldFits, fieldInRange, inRanges, monthFits, dayFits, PartOfMonth, windowHolds, fitting};
-ghost use Rattle.reading.specs.Search.{Searched};
+ghost use Rattle.rule.specs.Reasons.{is};
+ghost use Rattle.reading.specs.Search.{whereGood, saidTested, Searched};
 use rule::Reason;
 
 // One of the six things that may be read on a slip: a number, or unread.
@@ -31,6 +32,12 @@ pub enum Found {
     Is(u32),
     TooShort(u32),
     Refused(Reason),
+}
+
+// Whether window and reading of a search are good, or why not.
+pub enum Tested {
+    Holds,
+    Fails(Reason),
 }
 
 // Whether a field fits a value.
@@ -73,7 +80,7 @@ fn in_ranges(r: Reading) -> bool
 }
 
 // 1 for ordinary, 2 for leap.
-fn mark_number(leap: bool) -> u32
+pub fn mark_number(leap: bool) -> u32
     ensures { λ r. ⌜ r ≡ markNumber leap ⌝ }
 {
     if leap { 2 } else { 1 }
@@ -172,7 +179,7 @@ fn count_month(r: Reading, n: u32, from: u32, to: u32) -> u32
 }
 
 // Where a month's part of a window ends: at the next month's start, or with the window.
-fn part_end(n: u32, end: u32) -> u32
+pub fn part_end(n: u32, end: u32) -> u32
     requires { ⌜ MonthInRange n ⌝ }
     ensures { λ r. ⌜ r ≡ min (monthStart (n + 1)) end ⌝ }
 {
@@ -181,7 +188,7 @@ fn part_end(n: u32, end: u32) -> u32
 }
 
 // How many days from `first` up to `end` fit, month by month.
-fn count_window(r: Reading, first: u32, end: u32) -> u32
+pub fn count_window(r: Reading, first: u32, end: u32) -> u32
     requires { ⌜ (first < end) × (end ≤ 14989860) ⌝ }
     ensures { λ k. ⌜ k ≡ length (fitting r first (end - first)) ⌝ }
 {
@@ -253,22 +260,33 @@ fn window_holds(first: u32, last: u32) -> bool
     last + 1 - first <= 27759
 }
 
+// The tests that a search begins with, and an emendation: either end of the window, the window, the known fields.
+pub fn test_search(r: Reading, first: u32, last: u32) -> Tested
+    ensures { λ t. ⌜ saidTested t ≡ whereGood r first last (is 0) ⌝ }
+{
+    if 14989859 < first {
+        return Tested::Fails(Reason::NoSuchDay);
+    }
+    if 14989859 < last {
+        return Tested::Fails(Reason::NoSuchDay);
+    }
+    if !window_holds(first, last) {
+        return Tested::Fails(Reason::BadWindow);
+    }
+    if !in_ranges(r) {
+        return Tested::Fails(Reason::FieldOutOfRange);
+    }
+    Tested::Holds
+}
+
 // Every day of the window that fits the reading: how many, and the days in rising order at the front of the lent list. Only a list
 // with fewer places than the window has days can be too short: then the fitting days are counted first, so that a refusal changes nothing.
 pub fn search(r: Reading, first: u32, last: u32, out: &mut [u32]) -> Found
     ensures { λ a. ⌜ Searched r first last (now (out .entry)) a (now (out .exit)) ⌝ }
 {
-    if 14989859 < first {
-        return Found::Refused(Reason::NoSuchDay);
-    }
-    if 14989859 < last {
-        return Found::Refused(Reason::NoSuchDay);
-    }
-    if !window_holds(first, last) {
-        return Found::Refused(Reason::BadWindow);
-    }
-    if !in_ranges(r) {
-        return Found::Refused(Reason::FieldOutOfRange);
+    let tested = test_search(r, first, last);
+    if let Tested::Fails(why) = tested {
+        return Found::Refused(why);
     }
     let end = last + 1;
     if out.len() < (end - first) as usize {

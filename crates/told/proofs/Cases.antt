@@ -11,6 +11,8 @@ use Rattle.planets.specs.Planets.{conjunctionAt, pairAt}
 use Rattle.reading.specs.declared.Field.the-variants.{Known, Unread}
 use Rattle.reading.specs.declared.Reading.{Reading}
 use Rattle.reading.specs.Paper.{allUnread}
+use Rattle.emending.specs.Faults.{nameFault, numberFault, monthFault, dayFault, fault, gathered, emendations, emendable}
+use Rattle.emending.specs.Emended.{emendTotal, emendAt}
 use Rattle.fields.specs.Fields.{word, digits, decimal, followed, each}
 use Rattle.penned.specs.Paper.{inLines}
 use Rattle.told.specs.Answers.{
@@ -39,6 +41,11 @@ use Rattle.told.specs.Answers.{
   moveText,
   foundLine,
   searchText,
+  fitsLine,
+  emendedLine,
+  emendationLine,
+  emendationLines,
+  emendText,
 }
 use Rattle.dates.proofs.Computing.{dates-computed}
 use Rattle.facts.proofs.Computing.{facts-computed}
@@ -69,6 +76,14 @@ conjunctions = 0
 searches : ℕ
 unfolding searchText foundLine each day-lines searches-computed
 searches = 0
+
+faults : ℕ
+unfolding nameFault numberFault monthFault dayFault fault gathered emendations emendable emendTotal emendAt
+faults = 0
+
+emending : ℕ
+unfolding emendText fitsLine emendedLine emendationLine emendationLines faults searches
+emending = 0
 
 -- known date 5: solstice year 9,366 is year 18 of bu 4 of ji 1, leap remainder 5, first month 115,830
 pub place-9366 : placeText 9366 ≡ inLines (word "PLACE 1 4 18 58 115830 5 12" ∷ [])
@@ -236,3 +251,43 @@ one-found = refl
 pub no-window : searchText allUnread 29 28 ≡ inLines (word "REFUSED 13 last before first, or a window of more than 27,759 days" ∷ [])
 unfolding searches refusing
 no-window = refl
+
+-- of the same two days two fit where all is unread; neither is day 2 of its month, and neither month is leap
+pub two-fit : emendText allUnread 28 29 ≡ inLines (word "FITS 2" ∷ [])
+unfolding emending
+two-fit = refl
+
+abbrev secondOfMonth : Reading
+secondOfMonth =
+    record {
+      «year_name» = Known 16;
+      «month_number» = Unread;
+      «leap_mark» = Known 1;
+      «day_of_month» = Known 2;
+      «day_name» = Unread;
+      «first_name» = Unread;
+    }
+
+pub two-emended : emendText secondOfMonth 28 29 ≡ inLines (word "EMENDED 2" ∷ word "EMENDATION 28 4 2 29" ∷ word "EMENDATION 29 4 2 1" ∷ [])
+unfolding emending
+two-emended = refl
+
+abbrev leapFirst : Reading
+leapFirst =
+    record {
+      «year_name» = Unread;
+      «month_number» = Unread;
+      «leap_mark» = Known 2;
+      «day_of_month» = Known 1;
+      «day_name» = Unread;
+      «first_name» = Unread;
+    }
+
+-- day 28 disagrees in two fields, day 29 in its mark alone
+pub mark-emended : emendText leapFirst 28 29 ≡ inLines (word "EMENDED 1" ∷ word "EMENDATION 29 3 L -" ∷ [])
+unfolding emending
+mark-emended = refl
+
+pub no-window-emended : emendText allUnread 29 28 ≡ inLines (word "REFUSED 13 last before first, or a window of more than 27,759 days" ∷ [])
+unfolding emending refusing
+no-window-emended = refl

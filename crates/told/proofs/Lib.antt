@@ -3,4 +3,5 @@ pub mod Cases
 pub mod Telling
 pub mod Refusing
 pub mod Finding
+pub mod Emending
 pub mod Paper

@@ -5,6 +5,7 @@ use mathlib.Core.Path.{_≡_, refl, ap, sym, subst, _∙_}
 use mathlib.Core.Bool.{Bool}
 use mathlib.Core.List.{List, [], _∷_, _++_, append-assoc}
 use lib.Dec.{leb}
+use borrow.Author.Tests.{ne-eqb}
 use lib.IntN.{ℤ, pos, negsuc, _+ℤ_}
 use Rattle.rule.specs.Counts.{DayInRange}
 use Rattle.rule.specs.Rule.{monthStart, monthLength, monthOfDay}
@@ -41,8 +42,12 @@ use Rattle.planets.proofs.Paper as Planets
 use Rattle.planets.proofs.Literal.{of-count, venus-or-mercury, conjunction-is}
 use Rattle.reading.specs.Readings.{windowDays, fitting}
 use Rattle.reading.specs.Search.{total, searchAt}
+use Rattle.reading.specs.Paper.{GoodSearch}
 use Rattle.reading.proofs.Rows as Searches
-use Rattle.fields.specs.Fields.{word, decimal, followed, each}
+use Rattle.emending.specs.Faults.{emendations}
+use Rattle.emending.specs.Emended.{Outcome, fit, emended, emendTotal, emendAt}
+use Rattle.emending.proofs.Rows as Emends
+use Rattle.fields.specs.Fields.{word, digits, decimal, followed, each}
 use Rattle.told.specs.Answers.{
   places,
   told,
@@ -73,11 +78,18 @@ use Rattle.told.specs.Answers.{
   moveText,
   foundLine,
   searchText,
+  fitsLine,
+  emendedLine,
+  emendationLine,
+  emendationLines,
+  outcomeText,
+  emendText,
 }
 use Rattle.told.specs.Paper as Paper
 use Rattle.told.proofs.Telling.{words-back, as-refusal}
 use Rattle.told.proofs.Refusing.{NoRefusal, NeverWith, never-is, never-refused, never-guard, never-one, never-two, never-then, tells-refusal}
 use Rattle.told.proofs.Finding.{searched-few, searched-never-with, searched-not-twelve}
+use Rattle.told.proofs.Emending.{emendings-few, emended-never-with, emended-not-twelve}
 
 pub words-of-a-number : Paper.Words-of-a-number
 words-of-a-number = words-back
@@ -181,7 +193,33 @@ pub search-lines-literally : Paper.Search-lines-literally
 unfolding searchText foundLine total followed
 search-lines-literally r first last h i w f =
     ap (told (λ n. foundLine n ++ each dayLine (fitting r first (windowDays first last))))
-    (Searches.gives r first last places (record { ends = (h, i); window = w; fields = f }) (searched-few r first last w))
+    (Searches.gives r first last places (record { ends = (h, i); window = w; fields = f }) (omega (arith, searched-few r first last w)))
+
+pub emend-lines-literally : Paper.Emend-lines-literally
+unfolding emendText fitsLine emendedLine emendTotal total followed
+emend-lines-literally r first last h i w f =
+    let g : GoodSearch r first last = record { ends = (h, i); window = w; fields = f } in
+    let text = told (outcomeText (emendations r first (windowDays first last))) in
+    record {
+      some-fit = λ s. ap text (Emends.fits-said r first last places g s);
+      none-fits = λ z. ap text (Emends.gives r first last places g (sym z) (omega (arith, emendings-few r first last w)));
+    }
+
+pub emendation-line-literally : Paper.Emendation-line-literally
+unfolding emendationLines emendationLine followed decimal digits
+emendation-line-literally =
+    record {
+      none = refl;
+      number = λ d i k v xs n. rw (ne-eqb i 3 n) refl;
+      to-leap = λ d xs. refl;
+      to-ordinary = λ d xs. refl;
+    }
+
+-- no line of an emendation is a refusal
+outcome-first : (xs : List ℕ) (o : Outcome) → NoRefusal (outcomeText xs o)
+unfolding fitsLine emendedLine followed
+outcome-first xs (fit n) = refl
+outcome-first xs (emended n) = refl
 
 -- a `DAY` line is no refusal
 day-first : (d : ℕ) (r : Date) → NoRefusal (dayLineOf d r)
@@ -230,7 +268,7 @@ moved-never-with y k l m n = never-then (dayOfDate y k l m) _ (date-never-with y
 
 -- what the texts, their first bytes and the answers they tell are computed with, for the `unfolding` line below
 texts : ℕ
-unfolding placeText yearText monthText quarterText termText conjunctionText nextText pairText dayText dateText moveText searchText
+unfolding placeText yearText monthText quarterText termText conjunctionText nextText pairText dayText dateText moveText searchText emendText
 texts = 0
 
 firsts : ℕ
@@ -268,7 +306,14 @@ refusals-told =
       search = λ r first last.
           tells-refusal (λ n. foundLine n ++ each dayLine (fitting r first (windowDays first last))) (searchAt r first last places)
           (λ x e. refl) (searched-never-with r first last);
+      emend = λ r first last.
+          tells-refusal (outcomeText (emendations r first (windowDays first last))) (emendAt r first last places)
+          (λ x e. outcome-first (emendations r first (windowDays first last)) x) (emended-never-with r first last);
     }
 
 pub never-twelve : Paper.Never-twelve
-never-twelve r first last e = searched-not-twelve r first last (refusals-told .search r first last 12 .0 e)
+never-twelve =
+    record {
+      search = λ r first last e. searched-not-twelve r first last (refusals-told .search r first last 12 .0 e);
+      emend = λ r first last e. emended-not-twelve r first last (refusals-told .emend r first last 12 .0 e);
+    }

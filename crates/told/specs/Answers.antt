@@ -1,9 +1,11 @@
 -- The text with which the desk program answers a query, for every number, as lists of bytes. "Where 01's listing has such a line,
 -- its fields come first and in its order." Assumes nothing.
-use Prim.Native.Nat.{ℕ}
-use mathlib.Core.Bool.{Bool}
+use Prim.Native.Nat.{ℕ, _+_}
+use mathlib.Core.Bool.{Bool, cond}
 use mathlib.Core.List.{List, [], _∷_, _++_}
+use lib.Dec.{eqb}
 use lib.IntN.{ℤ}
+use lib.ListN.{getD}
 use Rattle.rule.specs.Rule.{numberOf, leapMark}
 use Rattle.rule.specs.Reasons.{Answer, is, refused, refused-with, reasonOf}
 use Rattle.rule.specs.declared.Quarter.{Quarter}
@@ -26,7 +28,9 @@ use Rattle.planets.specs.Planets.{conjunctionAt, nextAt, pairAt}
 use Rattle.reading.specs.declared.Reading.{Reading}
 use Rattle.reading.specs.Readings.{windowDays, fitting}
 use Rattle.reading.specs.Search.{searchAt}
-use Rattle.fields.specs.Fields.{word, decimal, mark, lined, each, letterE}
+use Rattle.emending.specs.Faults.{emendations}
+use Rattle.emending.specs.Emended.{Outcome, fit, emended, emendAt}
+use Rattle.fields.specs.Fields.{word, decimal, mark, leapText, lined, each, letterE}
 use Rattle.penned.specs.Lines.{fieldsOfMonth, fieldsOfYear, fieldsOfDay, wordsOf}
 
 -- the words of the reason with number k (Paper, Words-of-a-number)
@@ -154,10 +158,44 @@ moveText y k l m n = told textOfDate (moved y k l m n)
 unfoldable pub foundLine : ℕ → List ℕ
 foundLine n = lined (word "FOUND" ∷ decimal n ∷ [])
 
--- the lent list has a place for every day of the longest window, so that reason 12 never comes (Paper, Never-twelve)
+-- the lent list has four places for every day of the longest window, as many as emendations of all of them take, so that reason 12 never
+-- comes (Paper, Never-twelve)
 abbrev pub places : ℕ
-places = 27759
+places = 111036
 
 unfoldable pub searchText : Reading → ℕ → ℕ → List ℕ
 searchText r first last =
     told (λ n. foundLine n ++ each dayLine (fitting r first (windowDays first last))) (searchAt r first last places)
+
+-- `EMEND ..`: "`FITS total`", or "`EMENDED total` and then a line each `EMENDATION day field read should-be`"
+unfoldable pub fitsLine : ℕ → List ℕ
+fitsLine n = lined (word "FITS" ∷ decimal n ∷ [])
+
+unfoldable pub emendedLine : ℕ → List ℕ
+emendedLine n = lined (word "EMENDED" ∷ decimal n ∷ [])
+
+-- a value of field i: of the third, the leap mark, "marks as `-` and `L`"
+abbrev pub valueText : ℕ → ℕ → List ℕ
+valueText i v = cond (eqb i 3) (leapText (eqb v 2)) (decimal v)
+
+unfoldable pub emendationLine : ℕ → ℕ → ℕ → ℕ → List ℕ
+emendationLine d i k v = lined (word "EMENDATION" ∷ decimal d ∷ decimal i ∷ valueText i k ∷ valueText i v ∷ [])
+
+-- that of the four numbers from place k of a list on
+abbrev pub lineFrom : List ℕ → ℕ → List ℕ
+lineFrom xs k = emendationLine (getD xs k 0) (getD xs (k + 1) 0) (getD xs (k + 2) 0) (getD xs (k + 3) 0)
+
+-- the lines of a list of emendations, four numbers each
+unfoldable pub emendationLines : List ℕ → List ℕ
+emendationLines (d ∷ i ∷ k ∷ v ∷ xs) = emendationLine d i k v ++ emendationLines xs
+emendationLines (d ∷ i ∷ k ∷ []) = []
+emendationLines (d ∷ i ∷ []) = []
+emendationLines (d ∷ []) = []
+emendationLines [] = []
+
+abbrev pub outcomeText : List ℕ → Outcome → List ℕ
+outcomeText xs (fit n) = fitsLine n
+outcomeText xs (emended n) = emendedLine n ++ emendationLines xs
+
+unfoldable pub emendText : Reading → ℕ → ℕ → List ℕ
+emendText r first last = told (outcomeText (emendations r first (windowDays first last))) (emendAt r first last places)

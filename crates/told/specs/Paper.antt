@@ -44,6 +44,8 @@ use Rattle.reading.specs.declared.Reading.{Reading}
 use Rattle.reading.specs.Readings.{windowDays, fitting}
 use Rattle.reading.specs.Search.{searchAt}
 use Rattle.reading.specs.Paper.{FieldsInRange, IsWindow}
+use Rattle.emending.specs.Faults.{emendations, emendable}
+use Rattle.emending.specs.Emended.{emendAt}
 use Rattle.fields.specs.Fields.{word, decimal, mark, each, letterL, letterE}
 use Rattle.penned.specs.Lines.{wordsOf}
 use Rattle.told.specs.Answers.{
@@ -63,6 +65,8 @@ use Rattle.told.specs.Answers.{
   dateText,
   moveText,
   searchText,
+  emendationLines,
+  emendText,
 }
 
 -- the words of a number are those of the reason that has it
@@ -203,12 +207,39 @@ Search-lines-literally =
     ≡ (word "FOUND " ++ (decimal (length (fitting r first (windowDays first last))) ++ (10 ∷ [])))
     ++ each dayLine (fitting r first (windowDays first last))
 
--- with a place for each day of the longest window, reason 12 never comes of a search
-abbrev pub Never-twelve : Type 0
-Never-twelve = (r : Reading) (first last : ℕ) → searchText r first last ≡ refusedText 12 → ⊥
+-- "`FITS total`, or `EMENDED total` and then a line each": which it is, the days that fit say; emending's Emendations-listed says of the list
+-- that it holds just the days that disagree with exactly one known field
+pub record EmendLines (r : Reading) (first last : ℕ) : Type 0 where
+  pub some-fit : 1 ≤ length (fitting r first (windowDays first last)) →
+      emendText r first last ≡ word "FITS " ++ (decimal (length (fitting r first (windowDays first last))) ++ (10 ∷ []))
+  pub none-fits : length (fitting r first (windowDays first last)) ≡ 0 →
+      emendText r first last
+      ≡ (word "EMENDED " ++ (decimal (length (emendable r first (windowDays first last))) ++ (10 ∷ [])))
+      ++ emendationLines (emendations r first (windowDays first last))
+
+abbrev pub Emend-lines-literally : Type 0
+Emend-lines-literally =
+    (r : Reading) (first last : ℕ) → DayInRange first → DayInRange last → IsWindow first last → FieldsInRange r → EmendLines r first last
+
+-- "`EMENDATION day field read should-be`" of each four numbers, "marks as `-` and `L`": field 3 alone is a mark
+pub record Emendation-line-literally : Type 0 where
+  pub none : emendationLines [] ≡ []
+  pub number : (d i k v : ℕ) (xs : List ℕ) → (i ≡ 3 → ⊥) →
+      emendationLines (d ∷ i ∷ k ∷ v ∷ xs)
+      ≡ ((word "EMENDATION " ++ (decimal d ++ (32 ∷ (decimal i ++ (32 ∷ (decimal k ++ (32 ∷ decimal v))))))) ++ (10 ∷ [])) ++ emendationLines xs
+  pub to-leap : (d : ℕ) (xs : List ℕ) →
+      emendationLines (d ∷ 3 ∷ 1 ∷ 2 ∷ xs) ≡ ((word "EMENDATION " ++ (decimal d ++ word " 3 - L")) ++ (10 ∷ [])) ++ emendationLines xs
+  pub to-ordinary : (d : ℕ) (xs : List ℕ) →
+      emendationLines (d ∷ 3 ∷ 2 ∷ 1 ∷ xs) ≡ ((word "EMENDATION " ++ (decimal d ++ word " 3 L -")) ++ (10 ∷ [])) ++ emendationLines xs
+
+-- with four places for each day of the longest window, reason 12 never comes of a search or of an emendation
+pub record Never-twelve : Type 0 where
+  pub search : (r : Reading) (first last : ℕ) → searchText r first last ≡ refusedText 12 → ⊥
+  pub emend : (r : Reading) (first last : ℕ) → emendText r first last ≡ refusedText 12 → ⊥
 
 -- a text is the refusal of number k exactly where the query comes back with k: which that is, the statements Reasons-of-facts,
--- Reasons-of-planets, Reasons-of-a-day, Reasons-of-a-date, Move-of-a-date, Date's-own-reasons and Reasons-of-a-search say
+-- Reasons-of-planets, Reasons-of-a-day, Reasons-of-a-date, Move-of-a-date, Date's-own-reasons, Reasons-of-a-search and
+-- Reasons-of-an-emendation say
 abbrev pub TellsRefusals : {A : Type 0} → List ℕ → Answer A → Type 0
 TellsRefusals text a = (k : ℕ) → (text ≡ refusedText k) ↔ (a ≡ refused k)
 
@@ -225,3 +256,4 @@ pub record Refusals-told : Type 0 where
   pub date : (y k : ℕ) (l : Bool) (m : ℕ) → TellsRefusals (dateText y k l m) (dayOfDate y k l m)
   pub move : (y k : ℕ) (l : Bool) (m : ℕ) (n : ℤ) → TellsRefusals (moveText y k l m n) (moved y k l m n)
   pub search : (r : Reading) (first last : ℕ) → TellsRefusals (searchText r first last) (searchAt r first last places)
+  pub emend : (r : Reading) (first last : ℕ) → TellsRefusals (emendText r first last) (emendAt r first last places)

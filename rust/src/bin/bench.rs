@@ -3,8 +3,8 @@
 //! the sums of all answers must agree.
 
 use oesterwrok::{
-    self as capi, independent as own, Asked, Date, DateRecord, DrawerRefused, Reading, LEAP,
-    ORDINARY,
+    self as capi, independent as own, Asked, Date, DateRecord, DrawerRefused, EmendRefused,
+    Emended, Reading, LEAP, ORDINARY,
 };
 use std::hint::black_box;
 use std::process::ExitCode;
@@ -24,7 +24,7 @@ const DRAWER: usize = 4_096;
 const FIRST: u64 = 3_420_558;
 const WINDOW: u64 = 27_759;
 
-/// How many searches, and how many sheets, are timed as one run: short, so that some runs are disturbed by nothing.
+/// How many searches or emendings, and how many sheets, are timed as one run: short, so that some runs are disturbed by nothing.
 const SEARCHES: u64 = 20;
 const SHEETS: u64 = 100;
 
@@ -36,6 +36,8 @@ const DAY_TO_DATE: f64 = 0.75;
 const DATE_TO_DAY: f64 = 1.0;
 const SEARCH_BY_DAYS: f64 = 0.03;
 const SEARCH_BY_MONTHS: f64 = 1.0;
+const EMEND_BY_DAYS: f64 = 0.1;
+const EMEND_BY_MONTHS: f64 = 1.2;
 
 fn main() -> ExitCode {
     println!("Times of one call, the best of {RUNS} runs or more; a ratio above 1 means that capi is slower.");
@@ -50,6 +52,7 @@ fn main() -> ExitCode {
     bench.dates();
     bench.drawers();
     bench.searches();
+    bench.emendings();
     bench.sheets();
     for (what, ratio, most) in &bench.bars {
         let met = if ratio <= most { "met" } else { "NOT MET" };
@@ -196,6 +199,51 @@ impl Bench {
         (by_days, beside("months", own::search_by_months))
     }
 
+    /// Emendings of a full window, the lent list having four places for each of its days: of the reading of its middle day with
+    /// another day name, which no day fits, since from the month's first name to it are other days than the day of month says;
+    /// and of the reading as it is.
+    fn emendings(&mut self) {
+        let known = all_known(FIRST + WINDOW / 2);
+        let misread = Reading {
+            day_name: known.day_name.map(|name| name % 60 + 1),
+            ..known
+        };
+        let (by_days, by_months) = self.emend("all six known, day name misread", &misread);
+        self.hold("an emending, loop over days", by_days, EMEND_BY_DAYS);
+        self.hold("an emending, loop over months", by_months, EMEND_BY_MONTHS);
+        self.emend_beside(
+            "all six known, a day fits",
+            &known,
+            "months",
+            own::emend_by_months,
+        );
+    }
+
+    /// An emending of a full window, beside both ways of the independent one; gives both ratios.
+    fn emend(&mut self, which: &str, reading: &Reading) -> (f64, f64) {
+        let by_days = self.emend_beside(which, reading, "days", own::emend);
+        let by_months = self.emend_beside(which, reading, "months", own::emend_by_months);
+        (by_days, by_months)
+    }
+
+    /// An emending of a full window, beside one way of the independent one; gives the ratio.
+    fn emend_beside(
+        &mut self,
+        which: &str,
+        reading: &Reading,
+        loop_over: &str,
+        own_emend: Emend,
+    ) -> f64 {
+        let mut out = vec![0; 4 * WINDOW as usize];
+        let mut own_out = out.clone();
+        self.compare(
+            &format!("emending, {which}; loop over {loop_over}"),
+            SEARCHES,
+            || repeat(SEARCHES, || emended(capi::emend, reading, &mut out)),
+            || repeat(SEARCHES, || emended(own_emend, reading, &mut own_out)),
+        )
+    }
+
     /// Reading and writing of a full sheet.
     fn sheets(&mut self) {
         let years: Vec<u16> = (0..ITEMS).map(|i| (i * 41 + 1) as u16).collect();
@@ -313,6 +361,21 @@ fn found(search: Search, reading: &Reading, out: &mut [u32]) -> u64 {
     match search(black_box(reading), FIRST, FIRST + WINDOW - 1, out) {
         Ok(0) | Err(_) => 0,
         Ok(total) => u64::from(total) + u64::from(out[0]) + u64::from(out[total as usize - 1]),
+    }
+}
+
+/// An emending, of either side.
+type Emend = fn(&Reading, u64, u64, &mut [u32]) -> Result<Emended, EmendRefused>;
+
+/// Emends in a full window; one number out of how many days fit, or of the emendations, every number of which is turned into it.
+fn emended(emend: Emend, reading: &Reading, out: &mut [u32]) -> u64 {
+    match emend(black_box(reading), FIRST, FIRST + WINDOW - 1, out) {
+        Err(_) => 0,
+        Ok(Emended::Fits(total)) => u64::from(total) << 32,
+        Ok(Emended::Emendations(total)) => {
+            let turned = |sum: u64, number: &u32| sum.rotate_left(3) ^ u64::from(*number);
+            out[..4 * total as usize].iter().fold(total.into(), turned)
+        }
     }
 }
 

@@ -30,22 +30,23 @@ promised x =
     x .search .ensures .answered ∙ room-enough (s .args .r) (s .args .first) (s .args .last) (length (s .args .days .now)) (s .pre .0)
 
 pub answer-search-spec : {M : Type 1} → statement M
-unfolding searchText
+unfolding searchText foundLine
 answer-search-spec =
     tie.close
     (tie.spec
     (λ c κs. search needs)
     (λ c. search needs)
+    (λ c. search needs)
     (λ c κs. search needs)
     (λ c. search needs)
     (λ c κs.
     let p = c .before .before .before .before in
-    let q = p .before .before .before in
+    let q = p .before .before .before .before in
     let x = q .before .before .before .before in
     let s = x .search .ensures in
     let e = q .n .given .1 in
     let room = x .before .before .before .before .pre .1 in
-    (found-inside s e, found-in-range s e, omega (arith, found-few s e, put-kept (p .put-found .ensures), p .put-found .ensures .few, room)))
+    (found-inside s e, found-in-range s e, omega (arith, found-few s e, put-kept (p .put-total .ensures), p .put-total .ensures .few, room)))
     (λ c. search needs)
     (λ c κs. search needs)
     (λ c. search needs)
@@ -55,13 +56,13 @@ answer-search-spec =
     (λ c.
     let p2 = c .before .before in
     let p1 = p2 .before .before .before .before .before in
-    let q = p1 .before .before .before in
+    let q = p1 .before .before .before .before in
     let x = q .before .before .before .before in
     let s = x .search .ensures in
     let e = q .n .given .1 in
     tells (lines-of (x .before .before .before .before)) saidFound (promised x) e (omega (arith, found-few s e))
     (put-as (ap (λ (l : List ℕ). foundLine (q .n .given .0 .0) ++ each dayLine l) (found-days s e))
-    (then (p1 .put-found .ensures) (p2 .put-days .ensures))))
+    (then (p1 .put-total .ensures) (p2 .put-days .ensures))))
     (λ c. search needs)
     (λ c. search needs)
     (λ c.

@@ -35,8 +35,11 @@ form-number-spec =
     (λ c κs. search needs)
     (λ c. search needs)
     (λ c κs. search needs)
+    (λ c. search needs)
+    (λ c κs. search needs)
     (λ c.
-    let c11 = c .before .before in
+    let c12 = c .before .before in
+    let c11 = c12 .before .before in
     let c10 = c11 .before .before in
     let c9 = c10 .before .before in
     let c8 = c9 .before .before in
@@ -57,5 +60,6 @@ form-number-spec =
     let e9 = and-past _ _ _ e8 (c9 .past9 .ensures) in
     let e10 = and-past _ _ _ e9 (c10 .past10 .ensures) in
     let e11 = and-past _ _ _ e10 (c11 .past11 .ensures) in
-    let e12 = and-past _ _ _ e11 (c .past12 .ensures) in
-    e12 ∙ past-all _ forms))
+    let e12 = and-past _ _ _ e11 (c12 .past12 .ensures) in
+    let e13 = and-past _ _ _ e12 (c .past13 .ensures) in
+    e13 ∙ past-all _ forms))

@@ -18,6 +18,7 @@ query-of-spec =
     (tie.spec
     (λ c κs. search needs)
     (λ c κs. search needs)
+    (λ c κs. search needs)
     (λ c. arm (fieldsIn (c .before .before .before .args .line .now)) (c .before .read-places .ensures) (c .match .keys1) refl)
     (λ c. arm (fieldsIn (c .before .before .before .args .line .now)) (c .before .read-places .ensures) (c .match .keys2) refl)
     (λ c. arm (fieldsIn (c .before .before .before .args .line .now)) (c .before .read-places .ensures) (c .match .keys3) refl)
@@ -39,4 +40,9 @@ query-of-spec =
     let b4 = b2 .before .before in
     let w = b2 .read-places .result in
     ap (λ s. Query.Search s (w .n7) (w .n8)) (c .read-slip .ensures) ∙ arm (fieldsIn (b4 .args .line .now)) (b2 .read-places .ensures) (c .before .match .keys12) refl)
-    (λ c. sym (beyond (table _ _) _ (all-denied 12 _ (c .match .rest)))))
+    (λ c.
+    let b2 = c .before .before in
+    let b4 = b2 .before .before in
+    let w = b2 .read-places .result in
+    ap (λ s. Query.Emend s (w .n7) (w .n8)) (c .read-slip2 .ensures) ∙ arm (fieldsIn (b4 .args .line .now)) (b2 .read-places .ensures) (c .before .match .keys13) refl)
+    (λ c. sym (beyond (table _ _) _ (all-denied 13 _ (c .match .rest)))))

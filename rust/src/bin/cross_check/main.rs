@@ -3,6 +3,7 @@
 
 mod dates;
 mod drawers;
+mod emendings;
 mod facts;
 mod lent;
 mod lines;
@@ -69,6 +70,7 @@ fn all_rows() -> Vec<Row> {
     rows.extend(lines::rows(SEED + 50));
     rows.extend(planets::rows(SEED + 60));
     rows.extend(drawers::rows(SEED + 70));
+    rows.extend(emendings::rows(SEED + 80));
     rows.extend(walked::rows());
     rows
 }

@@ -7,10 +7,10 @@ use crate::{DAYS, YEARS};
 use oesterwrok::{self as capi, independent as own, Reading, LEAP, ORDINARY};
 
 /// The longest window that the paper allows.
-const WINDOW: u64 = 27_759;
+pub const WINDOW: u64 = 27_759;
 
 /// The longest of the short windows.
-const SHORT: u64 = 300;
+pub const SHORT: u64 = 300;
 
 /// The rows of searches. The independent one has two ways, a day at a time and a month at a time; each is compared.
 pub fn rows(seed: u64) -> Vec<Row> {
@@ -123,7 +123,7 @@ fn any_places(total: usize, random: &mut Random) -> usize {
 }
 
 /// A window of up to so many days; now and then one that is wrong.
-fn short_window(random: &mut Random) -> (u64, u64) {
+pub fn short_window(random: &mut Random) -> (u64, u64) {
     let first = random.count(DAYS);
     let last = (first + random.below(SHORT)).min(DAYS - 1);
     match random.below(16) {
@@ -136,7 +136,7 @@ fn short_window(random: &mut Random) -> (u64, u64) {
 }
 
 /// A window of 27,759 days, among them the first and the last in range; one time in eight a day longer or shorter.
-fn full_window(random: &mut Random) -> (u64, u64) {
+pub fn full_window(random: &mut Random) -> (u64, u64) {
     let first = random.count(DAYS - WINDOW);
     let last = first + WINDOW - 1;
     match random.below(16) {
@@ -171,7 +171,7 @@ fn any_reading(first: u64, last: u64, random: &mut Random) -> Reading {
 }
 
 /// A day of the window, where it has one; one time in six, or where it has none, any day.
-fn day_to_read(first: u64, last: u64, random: &mut Random) -> u64 {
+pub fn day_to_read(first: u64, last: u64, random: &mut Random) -> u64 {
     if random.one_in(6) || last < first || last >= DAYS {
         random.below(DAYS)
     } else {
@@ -180,7 +180,7 @@ fn day_to_read(first: u64, last: u64, random: &mut Random) -> u64 {
 }
 
 /// All six fields of a day's true date.
-fn true_reading(day: u64) -> Reading {
+pub fn true_reading(day: u64) -> Reading {
     let Ok(date) = own::date_of_day(day) else {
         unreachable!("day {day} is in range")
     };

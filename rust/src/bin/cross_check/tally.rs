@@ -1,7 +1,7 @@
 //! Rows of the cross-check and their tallies.
 
 use crate::random::Random;
-use oesterwrok::{DrawerRefused, Reason, SearchRefused};
+use oesterwrok::{DrawerRefused, EmendRefused, Reason, SearchRefused};
 use std::fmt::Debug;
 use std::ops::Range;
 
@@ -127,6 +127,14 @@ impl<T: PartialEq + Debug> Answer for Result<T, Reason> {
 }
 
 impl Answer for Result<u32, SearchRefused> {
+    fn reason(&self) -> u32 {
+        self.as_ref()
+            .err()
+            .map_or(0, |refused| refused.reason.number())
+    }
+}
+
+impl<T: PartialEq + Debug> Answer for Result<T, EmendRefused> {
     fn reason(&self) -> u32 {
         self.as_ref()
             .err()
