@@ -70,6 +70,9 @@ unfolding daysFrom
 decided [] i = inl (λ j l. absurd (let n : j < 0 = l in omega arith), ap is (omega arith))
 decided (d ∷ ds) i = go (lt-or-le 14989859 d) (decided ds (i + 1))
   where
+    one-longer : length (d ∷ ds) ≡ suc (length ds)
+    one-longer = refl
+
     -- what holds of the first day and of those after it
     each : (P : ℕ → Type 0) → P d → (k : ℕ) → ((j : ℕ) → j < k → P (getD ds j 0)) → (j : ℕ) → j < suc k → P (getD (d ∷ ds) j 0)
     each P h k f zero l = h
@@ -81,11 +84,11 @@ decided (d ∷ ds) i = go (lt-or-le 14989859 d) (decided ds (i + 1))
         ⊎ ((j : ℕ) × FirstBad (d ∷ ds) j × (daysFrom (d ∷ ds) i ≡ refused-with 6 (i + j)))
     go (inl bad) later =
         inr (0, record { a-place = omega arith; bad = λ h. omega arith; good-before = λ j l. absurd (omega arith) }, head-bad d ds i bad ∙ ap (refused-with 6) (omega arith))
-    go (inr good) (inl (all, e)) = inl (each DayInRange good (length ds) all, head-good d ds i good ∙ e ∙ ap is (let n : length (d ∷ ds) ≡ suc (length ds) = refl in omega arith))
+    go (inr good) (inl (all, e)) = inl (each DayInRange good (length ds) all, head-good d ds i good ∙ e ∙ ap is (omega (arith, one-longer)))
     go (inr good) (inr (j, f, e)) =
         inr (
           suc j,
-          record { a-place = (let h : j < length ds = f .a-place in let n : length (d ∷ ds) ≡ suc (length ds) = refl in omega arith); bad = f .bad; good-before = each DayInRange good j (f .good-before) },
+          record { a-place = omega (arith, f .a-place, one-longer); bad = f .bad; good-before = each DayInRange good j (f .good-before) },
           head-good d ds i good ∙ e ∙ ap (refused-with 6) (omega arith),
         )
 
