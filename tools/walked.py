@@ -47,8 +47,11 @@ WORDS = {
     14: "a known field of a reading outside its range",
     15: "term, mid-term or quarter above its last",
     16: "no such month number in that year",
+    17: "going back to the old form with readings present",
+    18: "text too long",
     19: "planet outside 1 to 5",
     20: "no conjunction falls from the given day to the end of the range",
+    21: "bu outside 1 to 540",
 }
 
 

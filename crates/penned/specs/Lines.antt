@@ -24,8 +24,11 @@ use Rattle.rule.specs.declared.Reason.the-variants.{
   FieldOutOfRange,
   NoSuchTermOrQuarter,
   NoSuchNumberInYear,
+  ReadingsPresent,
+  TextTooLong,
   NoSuchPlanet,
   NoConjunctionLeft,
+  NoSuchBu,
 }
 use Rattle.dates.specs.declared.Date.{Date}
 use Rattle.dates.specs.Dates.{dateOf}
@@ -104,7 +107,7 @@ printed (refused-with k n) = refusedLine k
 unfoldable pub listing : List ℕ → List ℕ
 listing s = printed (readSheet s)
 
--- the words of the reasons: the paper's rows and those of W4 and W11; 1, 10, 13 and 15 so worded that they are true wherever the reason
+-- the words of the reasons: the paper's rows and those of W4, W9, W5, W11 and W3; 1, 10, 13 and 15 so worded that they are true wherever the reason
 -- is given (docs/PAPER.md has the paper's own)
 abbrev pub wordsOf : Reason → List ℕ
 wordsOf NoSuchYear = word "year outside its range"
@@ -123,5 +126,8 @@ wordsOf BadWindow = word "last before first, or a window of more than 27,759 day
 wordsOf FieldOutOfRange = word "a known field of a reading outside its range"
 wordsOf NoSuchTermOrQuarter = word "term, mid-term or quarter above its last"
 wordsOf NoSuchNumberInYear = word "no such month number in that year"
+wordsOf ReadingsPresent = word "going back to the old form with readings present"
+wordsOf TextTooLong = word "text too long"
 wordsOf NoSuchPlanet = word "planet outside 1 to 5"
 wordsOf NoConjunctionLeft = word "no conjunction falls from the given day to the end of the range"
+wordsOf NoSuchBu = word "bu outside 1 to 540"

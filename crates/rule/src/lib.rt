@@ -61,8 +61,11 @@ pub enum Reason {
     FieldOutOfRange,
     NoSuchTermOrQuarter,
     NoSuchNumberInYear,
+    ReadingsPresent,
+    TextTooLong,
     NoSuchPlanet,
     NoConjunctionLeft,
+    NoSuchBu,
 }
 
 // The place of a solstice year: ji 1 to 3, bu 1 to 20, year in bu 1 to 76.
@@ -125,8 +128,11 @@ pub fn reason_number(r: Reason) -> u8
         Reason::FieldOutOfRange => 14,
         Reason::NoSuchTermOrQuarter => 15,
         Reason::NoSuchNumberInYear => 16,
+        Reason::ReadingsPresent => 17,
+        Reason::TextTooLong => 18,
         Reason::NoSuchPlanet => 19,
         Reason::NoConjunctionLeft => 20,
+        Reason::NoSuchBu => 21,
     }
 }
 

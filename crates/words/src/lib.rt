@@ -48,9 +48,10 @@ pub fn put_words(why: Reason, out: &mut [u8], at: usize) -> usize
         \x2ca known field of a reading outside its range\
         \x28term, mid-term or quarter above its last\
         \x21no such month number in that year\
-        \x00\
-        \x00\
+        \x30going back to the old form with readings present\
+        \x0dtext too long\
         \x15planet outside 1 to 5\
-        \x3fno conjunction falls from the given day to the end of the range";
+        \x3fno conjunction falls from the given day to the end of the range\
+        \x13bu outside 1 to 540";
     put_row(rule::reason_number(why), rows, out, at)
 }
