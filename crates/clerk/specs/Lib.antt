@@ -1,0 +1,3 @@
+-- The clerk's own way: definitions, promises, and statements.
+pub mod Clerk
+pub mod Paper
