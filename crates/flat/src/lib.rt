@@ -4,6 +4,7 @@ ghost use mathlib.Core.Path.{_≡_};
 ghost use Rattle.rule.specs.Counts.{DayInRange};
 ghost use Rattle.dates.specs.Promises.{saidDate, saidDay};
 ghost use Rattle.facts.specs.Promises.{saidSolsticeYear, saidYear, saidMonth, saidQuarter, saidTerm};
+ghost use Rattle.clerk.specs.Clerk.{saidClerk};
 ghost use Rattle.planets.specs.Planets.{phaseNumber};
 ghost use Rattle.planets.specs.Promises.{saidConjunction, saidNext, saidPair};
 ghost use Rattle.reading.specs.Search.{saidFound};
@@ -20,6 +21,8 @@ ghost use Rattle.offered.specs.Flat.{
   flatYear,
   givenMonth,
   flatMonth,
+  noClerk,
+  flatClerk,
   flatQuarter,
   flatTerm,
   givenConjunction,
@@ -34,6 +37,8 @@ ghost use Rattle.offered.specs.Flat.{
   flatLength,
 };
 ghost use Rattle.offered.specs.Promises.{cDateAt};
+use clerk::Clerk;
+use clerk::ClerkTold;
 use dates::Date;
 use dates::Dated;
 use dates::DayTold;
@@ -47,6 +52,7 @@ use facts::SolsticeYearTold;
 use facts::TermTold;
 use facts::YearFacts;
 use facts::YearTold;
+use offered::CClerk;
 use offered::CConjunction;
 use offered::CDate;
 use offered::CDay;
@@ -200,8 +206,8 @@ pub fn flat_year(a: YearTold) -> CYear
     }
 }
 
-// The same of a month.
-fn given_month(f: MonthFacts) -> CMonth
+// The same of a month; what the clerk shows is laid flat as it is given.
+pub fn given_month(f: MonthFacts) -> CMonth
     ensures { λ r. ⌜ r ≡ givenMonth f ⌝ }
 {
     let m = f.month;
@@ -231,6 +237,40 @@ pub fn flat_month(a: MonthTold) -> CMonth
             month_length: 0,
             first_name: 0,
             eclipse: false,
+        },
+    }
+}
+
+// The same of the clerk at a month.
+fn no_clerk() -> Clerk
+    ensures { λ r. ⌜ r ≡ noClerk 0 .clerk ⌝ }
+{
+    Clerk {
+        month_count: 0,
+        first_day: 0,
+        term_day: 0,
+        small_remainder: 0,
+        number: 0,
+        leap: false,
+        month_length: 0,
+        first_name: 0,
+        eclipse: false,
+        eclipse_remainder: 0,
+        term_parts: 0,
+    }
+}
+
+pub fn flat_clerk(a: ClerkTold) -> CClerk
+    ensures { λ r. ⌜ r ≡ flatClerk (saidClerk a) ⌝ }
+{
+    match a {
+        ClerkTold::Is(c) => CClerk {
+            reason: 0,
+            clerk: c,
+        },
+        ClerkTold::Refused(why) => CClerk {
+            reason: rule::reason_number(why) as u32,
+            clerk: no_clerk(),
         },
     }
 }

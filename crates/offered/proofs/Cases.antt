@@ -5,13 +5,15 @@ use Rattle.rule.specs.Counts.{ji, bu}
 use Rattle.rule.specs.Rule.{leap, eclipse}
 use Rattle.dates.specs.Dates.{dateAt, dayOfDate}
 use Rattle.facts.specs.Facts.{solsticeYearAt, yearFactsAt, monthFactsAt, quarterAt, termAt}
+use Rattle.clerk.specs.Clerk.{startAt}
 use Rattle.planets.specs.Planets.{phase, conjunctionAt, nextAt, pairAt}
 use Rattle.reading.specs.declared.Field.the-variants.{Known, Unread}
-use Rattle.offered.specs.Flat.{flatDate, flatDay, flatSolstice, flatYear, flatMonth, flatQuarter, flatTerm, flatConjunction, flatNext, flatPair}
+use Rattle.offered.specs.Flat.{flatDate, flatDay, flatSolstice, flatYear, flatMonth, flatClerk, flatQuarter, flatTerm, flatConjunction, flatNext, flatPair}
 use Rattle.offered.specs.Promises.{readingOf}
 use Rattle.dates.proofs.Computing.{dates-computed}
 use Rattle.facts.proofs.Computing.{facts-computed}
 use Rattle.planets.proofs.Computing.{planets-computed}
+use Rattle.offered.proofs.Clerks.{clerks-computed}
 
 -- case 3: the last day, leap 10, and the day after it
 pub last-day :
@@ -110,6 +112,32 @@ pub month-134 :
     }
 unfolding facts-computed
 month-134 = refl
+
+-- W3: the clerk at the head of bu 2, whose mid-term ahead, the second of its solstice year, falls 30 days and 14 parts later; a bu after the last
+pub head-of-bu-2 :
+    flatClerk (startAt 2)
+    ≡ record {
+      reason = 0;
+      clerk = record {
+        «month_count» = 940;
+        «first_day» = 27759;
+        «term_day» = 27789;
+        «small_remainder» = 0;
+        number = 11;
+        leap = false;
+        «month_length» = 29;
+        «first_name» = 40;
+        eclipse = false;
+        «eclipse_remainder» = 43;
+        «term_parts» = 14;
+      };
+    }
+unfolding clerks-computed
+head-of-bu-2 = refl
+
+pub after-the-last-bu : flatClerk (startAt 541) .reason ≡ 21
+unfolding startAt
+after-the-last-bu = refl
 
 -- W11: the first conjunction of Venus, a morning one; the one that 004 counts to by the end of solstice year 9,455, an evening one;
 -- its pair

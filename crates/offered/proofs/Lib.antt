@@ -1,9 +1,10 @@
 -- Figures of the paper laid flat; a refusal is bare, and nothing is lost; every refusal is one of the reasons; a drawer's records; what an
--- emendation says; four printed texts; and the proofs of the statements.
-pub mod Cases
+-- emendation says; the clerk; four printed texts; and the proofs of the statements.
 pub mod Structs
 pub mod Sound
 pub mod Drawers
 pub mod Emended
+pub mod Clerks
+pub mod Cases
 pub mod Texts
 pub mod Paper

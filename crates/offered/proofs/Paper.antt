@@ -27,6 +27,11 @@ use Rattle.facts.specs.declared.QuarterTold.the-variants as Quarter'
 use Rattle.facts.specs.declared.TermTold.the-variants as Term'
 use Rattle.facts.specs.Facts.{solsticeYearAt, yearFactsAt, monthFactsAt, quarterAt, termAt}
 use Rattle.facts.specs.Promises.{saidSolsticeYear, saidYear, saidMonth, saidQuarter, saidTerm}
+use Rattle.clerk.specs.declared.Clerk.{Clerk}
+use Rattle.clerk.specs.declared.ClerkTold.{ClerkTold}
+use Rattle.clerk.specs.declared.ClerkTold.the-variants as Clerk'
+use Rattle.clerk.specs.Clerk.{stepAt, startAt, walked, shown, saidClerk}
+use Rattle.clerk.proofs.Paper as Clerks
 use Rattle.planets.specs.declared.ConjunctionTold.the-variants as Conjunction'
 use Rattle.planets.specs.declared.NextTold.the-variants as Next'
 use Rattle.planets.specs.declared.PairTold.the-variants as Pair'
@@ -55,6 +60,7 @@ use Rattle.offered.specs.declared.CDay.{CDay}
 use Rattle.offered.specs.declared.CSolstice.{CSolstice}
 use Rattle.offered.specs.declared.CYear.{CYear}
 use Rattle.offered.specs.declared.CMonth.{CMonth}
+use Rattle.offered.specs.declared.CClerk.{CClerk}
 use Rattle.offered.specs.declared.CQuarter.{CQuarter}
 use Rattle.offered.specs.declared.CTerm.{CTerm}
 use Rattle.offered.specs.declared.CConjunction.{CConjunction}
@@ -82,6 +88,9 @@ use Rattle.offered.specs.Flat.{
   givenMonth,
   noMonth,
   flatMonth,
+  givenClerk,
+  noClerk,
+  flatClerk,
   givenQuarter,
   noQuarter,
   flatQuarter,
@@ -113,6 +122,7 @@ use Rattle.offered.specs.Structs.{
   BareSolstice,
   BareYear,
   BareMonth,
+  BareClerk,
   BareQuarter,
   BareTerm,
   BareConjunction,
@@ -129,6 +139,7 @@ use Rattle.offered.specs.Paper.{CAgrees}
 use Rattle.offered.proofs.Sound as Sound
 use Rattle.offered.proofs.Sound.{Sound, given, numbered, none-is-0}
 use Rattle.offered.proofs.Drawers.{reason-of, place-of, drawer-bare, drawer-zero, single-record, record-given, says-the-drawer, of-noughts, overfull, full}
+use Rattle.offered.proofs.Clerks.{at-walk, step-more, shows-month, counts-month, clerks-computed}
 use Rattle.offered.proofs.Emended.{outcome-zero, emend-bare, emend-zero, emend-said, emendations-computed}
 use Rattle.offered.proofs.Texts.{text-said, unwritten, year-11, line-134, month-134, day-0}
 use Rattle.dates.specs.Paper.{AgreesWith}
@@ -155,6 +166,10 @@ unique-exported =
       solstice-year = λ y a b p q. p ∙ sym q;
       year-facts = λ y a b p q. p ∙ sym q;
       month-facts = λ n a b p q. p ∙ sym q;
+      clerk-start = λ b r s p q. p ∙ sym q;
+      clerk-step = λ c r s p q. p ∙ sym q;
+      clerk-walk = λ b k r s p q. p ∙ sym q;
+      clerk-show = λ c r s p q. p ∙ sym q;
       quarter = λ n i a b p q. p ∙ sym q;
       term = λ y k a b p q. p ∙ sym q;
       conjunction = λ n k a b p q. p ∙ sym q;
@@ -317,6 +332,17 @@ module _ (r : Reading) (first last n : ℕ) where
   unfolding searchAt
   search-found = row-found (leb first 14989859 && leb last 14989859) (windowHolds first last) (inRanges r) (leb (total r first last) n) (total r first last)
 
+-- the clerk's answers
+clerk-bare : (a : Answer Clerk) (r : CClerk) → r ≡ flatClerk a → r .reason ≢ 0 → BareClerk r
+clerk-bare = is-bare (λ (x : CClerk). x .reason) givenClerk noClerk (λ x. refl) BareClerk (λ i. refusals-flat .clerk i .1)
+
+clerk-zero : {a : Answer Clerk} → Sound a → (r : CClerk) → r ≡ flatClerk a → (r .reason ≡ 0) ↔ ((c : Clerk) × (is c ≡ a) × (r ≡ givenClerk c))
+clerk-zero = is-zero (λ (x : CClerk). x .reason) givenClerk noClerk (λ x. refl) (λ i. refl)
+
+clerk-said :
+    {a : Answer Clerk} → Sound a → (r : CClerk) → (r ≡ flatClerk a) ↔ ((e : ClerkTold) × (saidClerk e ≡ a) × (r ≡ flatClerk (saidClerk e)))
+clerk-said = as-said saidClerk Clerk'.Is Clerk'.Refused (λ x. refl) (λ w. refl) flatClerk
+
 pub refusal-is-bare : Paper.Refusal-is-bare
 refusal-is-bare =
     record {
@@ -330,6 +356,9 @@ refusal-is-bare =
       year-facts = λ y r. is-bare (λ (x : CYear). x .reason) givenYear noYear (λ x. refl) BareYear (λ i. refusals-flat .year i .1) (yearFactsAt y) r;
       month-facts = λ n r.
           is-bare (λ (x : CMonth). x .reason) givenMonth noMonth (λ x. refl) BareMonth (λ i. refusals-flat .month i .1) (monthFactsAt n) r;
+      clerk-start = λ b r. clerk-bare (startAt b) r;
+      clerk-step = λ c r. clerk-bare (stepAt c) r;
+      clerk-walk = λ b k r. clerk-bare (walked b k) r;
       quarter = λ n q r.
           is-bare (λ (x : CQuarter). x .reason) givenQuarter noQuarter (λ x. refl) BareQuarter (λ i. refusals-flat .quarter i .1) (quarterAt n q) r;
       term = λ y k r. is-bare (λ (x : CTerm). x .reason) givenTerm noTerm (λ x. refl) BareTerm (λ i. refusals-flat .term i .1) (termAt y k) r;
@@ -368,6 +397,10 @@ reason-0-iff-answered =
       solstice-year = λ y r. is-zero (λ (x : CSolstice). x .reason) givenSolstice noSolstice (λ x. refl) (λ i. refl) (Sound.solstice-sound y) r;
       year-facts = λ y r. is-zero (λ (x : CYear). x .reason) givenYear noYear (λ x. refl) (λ i. refl) (Sound.year-sound y) r;
       month-facts = λ n r. is-zero (λ (x : CMonth). x .reason) givenMonth noMonth (λ x. refl) (λ i. refl) (Sound.month-sound n) r;
+      clerk-start = λ b r. clerk-zero (Sound.start-sound b) r;
+      clerk-step = λ c r. clerk-zero (Sound.step-sound c) r;
+      clerk-walk = λ b k r. clerk-zero (Sound.walk-sound b k) r;
+      clerk-show = λ c r p. ap (λ (x : CMonth). x .reason) p;
       quarter = λ n q r. is-zero (λ (x : CQuarter). x .reason) givenQuarter noQuarter (λ x. refl) (λ i. refl) (Sound.quarter-sound n q) r;
       term = λ y k r. is-zero (λ (x : CTerm). x .reason) givenTerm noTerm (λ x. refl) (λ i. refl) (Sound.term-sound y k) r;
       conjunction = λ n k r.
@@ -412,6 +445,10 @@ says-what-the-call-says =
       solstice-year = λ y r. as-said saidSolsticeYear Solstice'.Is Solstice'.Refused (λ x. refl) (λ w. refl) flatSolstice (Sound.solstice-sound y) r;
       year-facts = λ y r. as-said saidYear Year'.Is Year'.Refused (λ x. refl) (λ w. refl) flatYear (Sound.year-sound y) r;
       month-facts = λ n r. as-said saidMonth Month'.Is Month'.Refused (λ x. refl) (λ w. refl) flatMonth (Sound.month-sound n) r;
+      clerk-start = λ b r. clerk-said (Sound.start-sound b) r;
+      clerk-step = λ c r. clerk-said (Sound.step-sound c) r;
+      clerk-walk = λ b k r. clerk-said (Sound.walk-sound b k) r;
+      clerk-show = λ c r. (λ p. (shown c, refl, p), λ w. w .2 ∙ ap givenMonth (w .1));
       quarter = λ n q r. as-said saidQuarter Quarter'.Is Quarter'.Refused (λ x. refl) (λ w. refl) flatQuarter (Sound.quarter-sound n q) r;
       term = λ y k r. as-said saidTerm Term'.Is Term'.Refused (λ x. refl) (λ w. refl) flatTerm (Sound.term-sound y k) r;
       conjunction = λ n k r. as-said saidConjunction Conjunction'.Is Conjunction'.Refused (λ x. refl) (λ w. refl) flatConjunction (Sound.conjunction-sound n k) r;
@@ -467,6 +504,22 @@ c-term-as-before y k r p =
     day-of (refused n) = refl
     day-of (refused-with n m) = refl
 
+pub c-clerk : Paper.C-clerk
+unfolding walked
+c-clerk =
+    record {
+      shows = λ b k r m p z s.
+          let (c, w, e) = reason-0-iff-answered .clerk-walk b k r p .0 z in
+          s ∙ ap (λ (x : CClerk). givenMonth (shown (x .clerk))) e ∙ ap flatMonth (shows-month b k c w);
+      counts = λ b k r p z.
+          let (c, w, e) = reason-0-iff-answered .clerk-walk b k r p .0 z in
+          ap (λ (x : CClerk). x .clerk .«month_count») e ∙ counts-month b k c w;
+      goes-on = λ b k r s p z q.
+          let (c, w, e) = reason-0-iff-answered .clerk-walk b k r p .0 z in
+          q ∙ ap (λ (x : CClerk). flatClerk (stepAt (x .clerk))) e ∙ ap flatClerk (step-more b k c w);
+      from-the-start = λ b r. (λ p. p, λ p. p);
+    }
+
 -- what agrees with its own day agrees laid flat
 agrees-flat : (d : ℕ) (x : Date) (r : CDate) → AgreesWith d x → r ≡ givenDate x → CAgrees d r
 agrees-flat d x r a e =
@@ -517,7 +570,7 @@ unfolding moved dates-computed
 dates = 0
 
 pub wrong-exported : Paper.Wrong-exported
-unfolding dates facts-computed planets-computed searches-computed emendations-computed drawerAt daysFrom reading writing
+unfolding dates facts-computed clerks-computed planets-computed searches-computed emendations-computed drawerAt daysFrom reading writing
 wrong-exported =
     record {
       refusing-days = λ r p. no-refusal (λ (x : CDate). x .reason) p refl;
@@ -569,6 +622,22 @@ wrong-exported =
       overfull-taken = λ r x new p z. omega (arith, of-noughts 4097, drawer-zero (replicate 4097 0) (replicate 4097 x) r new p .0 z .not-too-many);
       second-big-refused = λ r x new p. no-refusal reason-of (p .answer) refl;
       inventing-a-count = λ r x new p other. other (ap (λ (x : CFilled). x .count) (p .answer));
+      refusing-starts = λ r p. no-refusal (λ (x : CClerk). x .reason) p refl;
+      refusing-steps = λ r s p q. no-refusal (λ (x : CClerk). x .reason) (q ∙ ap (λ (x : CClerk). flatClerk (stepAt (x .clerk))) p) refl;
+      refusing-walks = λ r p. no-refusal (λ (x : CClerk). x .reason) (at-walk 1 129 p) refl;
+      refusing-shows = λ c r p. no-refusal (λ (x : CMonth). x .reason) p refl;
+      never-stepping = λ c p.
+          let (d, w, e) = reason-0-iff-answered .clerk-step c (givenClerk c) p .0 refl in
+          omega (arith, Clerks.one-step-by-additions c d w .count, ap (λ (x : CClerk). x .clerk .«month_count») e);
+      never-walking = λ r p q. not-alike (λ (x : CClerk). x .clerk .«month_count») p (at-walk 1 1 q) (λ e. let f : _≡_ {A = ℕ} 0 1 = e in omega arith);
+      one-month-shown = λ r s m p q u v.
+          not-alike (λ (x : CMonth). x .«first_day») (u ∙ ap (λ (x : CClerk). givenMonth (shown (x .clerk))) p)
+          (v ∙ ap (λ (x : CClerk). givenMonth (shown (x .clerk))) (at-walk 1 1 q)) (λ e. let f : _≡_ {A = ℕ} 0 29 = e in omega arith);
+      bu-from-0 = λ r p other. other (ap (λ (x : CClerk). x .clerk .«month_count») p);
+      bu-0-taken = λ r p other. other (ap (λ (x : CClerk). x .reason) p);
+      bu-541-taken = λ r p other. other (ap (λ (x : CClerk). x .reason) p);
+      past-the-last = λ r p other. other (ap (λ (x : CClerk). x .reason) (at-walk 540 940 p));
+      stopping-before = λ r p. no-refusal (λ (x : CClerk). x .reason) (at-walk 540 939 p) refl;
       reading-none = λ r m d p. unlike 0 (p .years) (λ e. let f : _≡_ {A = ℕ} 0 11 = e in omega arith);
       reading-first-over = λ r m d p. unlike 1 (p .years) (λ e. let f : _≡_ {A = ℕ} 11 12 = e in omega arith);
       reading-first-alone = λ r m d p. unlike 1 (p .years) (λ e. let f : _≡_ {A = ℕ} 0 12 = e in omega arith);
@@ -585,7 +654,7 @@ wrong-exported =
     differ-in-fits e = let o : _≡_ {A = ℕ} 0 1 = cc in omega arith
 
 pub wrong-low-bits : Paper.Wrong-low-bits
-unfolding dates facts-computed planets-computed searches-computed emendations-computed yearBlockAt monthLineAt monthItemAt dayItemAt
+unfolding dates facts-computed clerks-computed planets-computed searches-computed emendations-computed yearBlockAt monthLineAt monthItemAt dayItemAt
 wrong-low-bits =
     record {
       days = λ r p q. not-alike (λ (x : CDate). x .reason) p q (above 6 (omega arith));
@@ -599,6 +668,9 @@ wrong-low-bits =
       solstices = λ r p q. not-alike (λ (x : CSolstice). x .reason) p q (above 1 (omega arith));
       years = λ r p q. not-alike (λ (x : CYear). x .reason) p q (above 1 (omega arith));
       months = λ r p q. not-alike (λ (x : CMonth). x .reason) p q (above 7 (omega arith));
+      bu-of-starts = λ r p q. not-alike (λ (x : CClerk). x .reason) p q (above 21 (omega arith));
+      bu-of-walks = λ r p q. not-alike (λ (x : CClerk). x .reason) (at-walk 4294967297 0 p) (at-walk 1 0 q) (above 21 (omega arith));
+      steps-of-walks = λ r p q. not-alike (λ (x : CClerk). x .reason) (at-walk 1 4294967296 p) (at-walk 1 0 q) (above 7 (omega arith));
       months-of-quarters = λ r p q. not-alike (λ (x : CQuarter). x .reason) p q (above 7 (omega arith));
       quarters = λ r p q. not-alike (λ (x : CQuarter). x .reason) p q (above 15 (omega arith));
       years-of-terms = λ r p q. not-alike (λ (x : CTerm). x .reason) p q (above 1 (omega arith));

@@ -28,6 +28,7 @@ use Rattle.rule.specs.declared.Reason.the-variants.{
   NoSuchNumberInYear,
   NoSuchPlanet,
   NoConjunctionLeft,
+  NoSuchBu,
 }
 use Rattle.rule.proofs.Answers.{reason-back}
 use Rattle.dates.specs.Dates.{dateOf, dateAt, monthAsked, isThere, dayInMonth, dayOfNamed, dayOfDate, numberThere, midTermOf}
@@ -44,6 +45,8 @@ use Rattle.facts.specs.Facts.{
   termOf,
   termAt,
 }
+use Rattle.clerk.specs.declared.Clerk.{Clerk}
+use Rattle.clerk.specs.Clerk.{beforeLast, stepped, stepAt, head, startAt, walked}
 use Rattle.planets.specs.Planets.{numbersOf, conjunctionDay, conjunctionOf, conjunctionAt, nextCount, nextOf, nextAt, pairOf, pairAt}
 use Rattle.sheet.specs.declared.Items.{Items}
 use Rattle.bytes.specs.Bytes.{number, lay}
@@ -145,6 +148,20 @@ quarter-sound n q = guarded (leb n 507599) NoSuchMonth (guarded (leb q 3) NoSuch
 pub term-sound : (y k : ℕ) → Sound (termAt y k)
 unfolding termAt
 term-sound y k = guarded (within 1 41040 y) NoSuchYear (guarded (leb k 23) NoSuchTermOrQuarter (given (termOf y k)))
+
+-- the clerk
+pub start-sound : (b : ℕ) → Sound (startAt b)
+unfolding startAt
+start-sound b = guarded (within 1 540 b) NoSuchBu (given (head b))
+
+pub step-sound : (c : Clerk) → Sound (stepAt c)
+unfolding stepAt
+step-sound c = guarded (beforeLast c) NoSuchMonth (given (stepped c))
+
+pub walk-sound : (b k : ℕ) → Sound (walked b k)
+unfolding walked
+walk-sound b zero = start-sound b
+walk-sound b (suc k) = sound-then stepAt (walk-sound b k) step-sound
 
 -- planets
 pub conjunction-sound : (p k : ℕ) → Sound (conjunctionAt p k)

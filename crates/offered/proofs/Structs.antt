@@ -27,6 +27,7 @@ use Rattle.offered.specs.declared.CDay.{CDay}
 use Rattle.offered.specs.declared.CSolstice.{CSolstice}
 use Rattle.offered.specs.declared.CYear.{CYear}
 use Rattle.offered.specs.declared.CMonth.{CMonth}
+use Rattle.offered.specs.declared.CClerk.{CClerk}
 use Rattle.offered.specs.declared.CQuarter.{CQuarter}
 use Rattle.offered.specs.declared.CTerm.{CTerm}
 use Rattle.offered.specs.declared.CConjunction.{CConjunction}
@@ -98,6 +99,22 @@ refusals-flat =
           month-length = refl;
           first-name = refl;
           eclipse = refl;
+        },
+      );
+      clerk = λ k. (
+        refl,
+        record {
+          month-count = refl;
+          first-day = refl;
+          term-day = refl;
+          small-remainder = refl;
+          number = refl;
+          leap = refl;
+          month-length = refl;
+          first-name = refl;
+          eclipse = refl;
+          eclipse-remainder = refl;
+          term-parts = refl;
         },
       );
       quarter = λ k. (refl, record { day = refl; parts = refl });
@@ -213,6 +230,7 @@ nothing-lost =
       solstice = one-to-one givenSolstice solsticeFrom (λ s. refl);
       year = one-to-one givenYear yearFrom (λ y. rw (leap-back (y .«leap_month»)));
       month = one-to-one givenMonth monthFrom (λ f. rw (month-again (f .month)));
+      clerk = λ a b e. ap (λ (r : CClerk). r .clerk) e;
       quarter = one-to-one givenQuarter quarterFrom (λ q. refl);
       term = one-to-one givenTerm termFrom (λ t. refl);
       conjunction = one-to-one givenConjunction conjunctionFrom (λ c. rw (phase-back (c .phase)));

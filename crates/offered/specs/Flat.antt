@@ -12,6 +12,7 @@ use Rattle.facts.specs.declared.LeapMonth.{LeapMonth}
 use Rattle.facts.specs.declared.LeapMonth.the-variants.{Without, With}
 use Rattle.facts.specs.declared.YearFacts.{YearFacts}
 use Rattle.facts.specs.declared.MonthFacts.{MonthFacts}
+use Rattle.clerk.specs.declared.Clerk.{Clerk}
 use Rattle.planets.specs.declared.Conjunction.{Conjunction}
 use Rattle.planets.specs.declared.Next.{Next}
 use Rattle.planets.specs.declared.Pair.{Pair}
@@ -23,6 +24,7 @@ use Rattle.offered.specs.declared.CDay.{CDay}
 use Rattle.offered.specs.declared.CSolstice.{CSolstice}
 use Rattle.offered.specs.declared.CYear.{CYear}
 use Rattle.offered.specs.declared.CMonth.{CMonth}
+use Rattle.offered.specs.declared.CClerk.{CClerk}
 use Rattle.offered.specs.declared.CQuarter.{CQuarter}
 use Rattle.offered.specs.declared.CTerm.{CTerm}
 use Rattle.offered.specs.declared.CConjunction.{CConjunction}
@@ -188,6 +190,32 @@ noMonth k =
 
 abbrev pub flatMonth : Answer MonthFacts → CMonth
 flatMonth = flat givenMonth noMonth
+
+-- the clerk at a month: its state as it is
+abbrev pub givenClerk : Clerk → CClerk
+givenClerk c = record { reason = 0; clerk = c }
+
+abbrev pub noClerk : ℕ → CClerk
+noClerk k =
+    record {
+      reason = k;
+      clerk = record {
+        «month_count» = 0;
+        «first_day» = 0;
+        «term_day» = 0;
+        «small_remainder» = 0;
+        number = 0;
+        leap = false;
+        «month_length» = 0;
+        «first_name» = 0;
+        eclipse = false;
+        «eclipse_remainder» = 0;
+        «term_parts» = 0;
+      };
+    }
+
+abbrev pub flatClerk : Answer Clerk → CClerk
+flatClerk = flat givenClerk noClerk
 
 -- a quarter
 abbrev pub givenQuarter : Quarter → CQuarter

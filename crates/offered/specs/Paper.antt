@@ -46,6 +46,11 @@ use Rattle.facts.specs.Promises.{
   QuarterOfMonth,
   TermOfYear,
 }
+use Rattle.clerk.specs.declared.Clerk.{Clerk}
+use Rattle.clerk.specs.declared.ClerkTold.{ClerkTold}
+use Rattle.clerk.specs.declared.ClerkTold.the-variants as Clerk'
+use Rattle.clerk.specs.Clerk.{saidClerk, StartsAt, StepsOn, WalksOn, Shows}
+use Rattle.clerk.specs.Paper.{countOf}
 use Rattle.planets.specs.declared.Conjunction.{Conjunction}
 use Rattle.planets.specs.declared.ConjunctionTold.{ConjunctionTold}
 use Rattle.planets.specs.declared.ConjunctionTold.the-variants as Conjunction'
@@ -78,6 +83,7 @@ use Rattle.offered.specs.declared.CDay.{CDay}
 use Rattle.offered.specs.declared.CSolstice.{CSolstice}
 use Rattle.offered.specs.declared.CYear.{CYear}
 use Rattle.offered.specs.declared.CMonth.{CMonth}
+use Rattle.offered.specs.declared.CClerk.{CClerk}
 use Rattle.offered.specs.declared.CQuarter.{CQuarter}
 use Rattle.offered.specs.declared.CTerm.{CTerm}
 use Rattle.offered.specs.declared.CConjunction.{CConjunction}
@@ -99,6 +105,8 @@ use Rattle.offered.specs.Flat.{
   flatYear,
   givenMonth,
   flatMonth,
+  givenClerk,
+  flatClerk,
   givenQuarter,
   flatQuarter,
   givenTerm,
@@ -123,6 +131,7 @@ use Rattle.offered.specs.Structs.{
   BareSolstice,
   BareYear,
   BareMonth,
+  BareClerk,
   BareQuarter,
   BareTerm,
   BareConjunction,
@@ -143,6 +152,10 @@ use Rattle.offered.specs.Promises.{
   CSolsticeYear,
   CYearFacts,
   CMonthFacts,
+  CClerkStart,
+  CClerkStep,
+  CClerkWalk,
+  CClerkShow,
   CQuarterOf,
   CTermOf,
   CKthConjunction,
@@ -170,6 +183,10 @@ pub record Unique-exported : Type 0 where
   pub solstice-year : (y : ℕ) (a b : CSolstice) → CSolsticeYear y a → CSolsticeYear y b → a ≡ b
   pub year-facts : (y : ℕ) (a b : CYear) → CYearFacts y a → CYearFacts y b → a ≡ b
   pub month-facts : (n : ℕ) (a b : CMonth) → CMonthFacts n a → CMonthFacts n b → a ≡ b
+  pub clerk-start : (b : ℕ) (r s : CClerk) → CClerkStart b r → CClerkStart b s → r ≡ s
+  pub clerk-step : (c : Clerk) (r s : CClerk) → CClerkStep c r → CClerkStep c s → r ≡ s
+  pub clerk-walk : (b k : ℕ) (r s : CClerk) → CClerkWalk b k r → CClerkWalk b k s → r ≡ s
+  pub clerk-show : (c : Clerk) (r s : CMonth) → CClerkShow c r → CClerkShow c s → r ≡ s
   pub quarter : (n q : ℕ) (a b : CQuarter) → CQuarterOf n q a → CQuarterOf n q b → a ≡ b
   pub term : (y k : ℕ) (a b : CTerm) → CTermOf y k a → CTermOf y k b → a ≡ b
   pub conjunction : (p k : ℕ) (a b : CConjunction) → CKthConjunction p k a → CKthConjunction p k b → a ≡ b
@@ -206,6 +223,9 @@ pub record Refusal-is-bare : Type 0 where
   pub solstice-year : (y : ℕ) (r : CSolstice) → CSolsticeYear y r → r .reason ≢ 0 → BareSolstice r
   pub year-facts : (y : ℕ) (r : CYear) → CYearFacts y r → r .reason ≢ 0 → BareYear r
   pub month-facts : (n : ℕ) (r : CMonth) → CMonthFacts n r → r .reason ≢ 0 → BareMonth r
+  pub clerk-start : (b : ℕ) (r : CClerk) → CClerkStart b r → r .reason ≢ 0 → BareClerk r
+  pub clerk-step : (c : Clerk) (r : CClerk) → CClerkStep c r → r .reason ≢ 0 → BareClerk r
+  pub clerk-walk : (b k : ℕ) (r : CClerk) → CClerkWalk b k r → r .reason ≢ 0 → BareClerk r
   pub quarter : (n q : ℕ) (r : CQuarter) → CQuarterOf n q r → r .reason ≢ 0 → BareQuarter r
   pub term : (y k : ℕ) (r : CTerm) → CTermOf y k r → r .reason ≢ 0 → BareTerm r
   pub conjunction : (p k : ℕ) (r : CConjunction) → CKthConjunction p k r → r .reason ≢ 0 → BareConjunction r
@@ -256,6 +276,10 @@ pub record Says-what-the-call-says : Type 0 where
       CSolsticeYear y r ↔ ((a : SolsticeYearTold) × SolsticeYearFacts y a × (r ≡ flatSolstice (saidSolsticeYear a)))
   pub year-facts : (y : ℕ) (r : CYear) → CYearFacts y r ↔ ((a : YearTold) × YearOwnFacts y a × (r ≡ flatYear (saidYear a)))
   pub month-facts : (n : ℕ) (r : CMonth) → CMonthFacts n r ↔ ((a : MonthTold) × MonthByCount n a × (r ≡ flatMonth (saidMonth a)))
+  pub clerk-start : (b : ℕ) (r : CClerk) → CClerkStart b r ↔ ((a : ClerkTold) × StartsAt b a × (r ≡ flatClerk (saidClerk a)))
+  pub clerk-step : (c : Clerk) (r : CClerk) → CClerkStep c r ↔ ((a : ClerkTold) × StepsOn c a × (r ≡ flatClerk (saidClerk a)))
+  pub clerk-walk : (b k : ℕ) (r : CClerk) → CClerkWalk b k r ↔ ((a : ClerkTold) × WalksOn b k a × (r ≡ flatClerk (saidClerk a)))
+  pub clerk-show : (c : Clerk) (r : CMonth) → CClerkShow c r ↔ ((f : MonthFacts) × Shows c f × (r ≡ givenMonth f))
   pub quarter :
       (n q : ℕ) (r : CQuarter) → CQuarterOf n q r ↔ ((a : QuarterTold) × QuarterOfMonth n q a × (r ≡ flatQuarter (saidQuarter a)))
   pub term : (y k : ℕ) (r : CTerm) → CTermOf y k r ↔ ((a : TermTold) × TermOfYear y k a × (r ≡ flatTerm (saidTerm a)))
@@ -345,6 +369,13 @@ pub record Reason-0-iff-answered : Type 0 where
       (y : ℕ) (r : CYear) → CYearFacts y r → (r .reason ≡ 0) ↔ ((x : YearFacts) × YearOwnFacts y (Year'.Is x) × (r ≡ givenYear x))
   pub month-facts :
       (n : ℕ) (r : CMonth) → CMonthFacts n r → (r .reason ≡ 0) ↔ ((x : MonthFacts) × MonthByCount n (Month'.Is x) × (r ≡ givenMonth x))
+  pub clerk-start :
+      (b : ℕ) (r : CClerk) → CClerkStart b r → (r .reason ≡ 0) ↔ ((c : Clerk) × StartsAt b (Clerk'.Is c) × (r ≡ givenClerk c))
+  pub clerk-step :
+      (c : Clerk) (r : CClerk) → CClerkStep c r → (r .reason ≡ 0) ↔ ((d : Clerk) × StepsOn c (Clerk'.Is d) × (r ≡ givenClerk d))
+  pub clerk-walk :
+      (b k : ℕ) (r : CClerk) → CClerkWalk b k r → (r .reason ≡ 0) ↔ ((c : Clerk) × WalksOn b k (Clerk'.Is c) × (r ≡ givenClerk c))
+  pub clerk-show : (c : Clerk) (r : CMonth) → CClerkShow c r → r .reason ≡ 0
   pub quarter :
       (n q : ℕ) (r : CQuarter) →
       CQuarterOf n q r → (r .reason ≡ 0) ↔ ((x : Quarter) × QuarterOfMonth n q (Quarter'.Is x) × (r ≡ givenQuarter x))
@@ -380,6 +411,13 @@ pub record Reason-0-iff-answered : Type 0 where
   pub print-month-line : ZeroPrint CPrintMonthLine PrintMonthLine
   pub print-month : ZeroPrint CPrintMonth PrintMonth
   pub print-day : ZeroPrint CPrintDay PrintDay
+
+-- W3: what a walk leads to shows what the call for a month by its count gives; a step of it is the walk of one step more
+pub record C-clerk : Type 0 where
+  pub shows : (b k : ℕ) (r : CClerk) (m : CMonth) → CClerkWalk b k r → r .reason ≡ 0 → CClerkShow (r .clerk) m → CMonthFacts (countOf b k) m
+  pub counts : (b k : ℕ) (r : CClerk) → CClerkWalk b k r → r .reason ≡ 0 → r .clerk .«month_count» ≡ countOf b k
+  pub goes-on : (b k : ℕ) (r s : CClerk) → CClerkWalk b k r → r .reason ≡ 0 → CClerkStep (r .clerk) s → CClerkWalk b (k + 1) s
+  pub from-the-start : (b : ℕ) (r : CClerk) → CClerkStart b r ↔ CClerkWalk b 0 r
 
 -- a slip with six values, all read or none
 abbrev pub slip : Bool → ℕ → ℕ → ℕ → ℕ → ℕ → ℕ → CReading
@@ -420,7 +458,8 @@ Unwritten P x n = (o : List ℕ) (r : CLength) → n ≤ length o → getD o 0 0
 -- fills nothing where none does, or exchanges what was read and what it should be; that says of a day that it fits, or of none; an invented
 -- total, where it is answered, refused with 6 and refused with 12; and of a drawer: one that refuses all, or the thirtieth of the second of two big months; that fills no record,
 -- copies the first over the rest, skips every second or turns the list round; the last bad place; a record beyond the last changed, or one
--- filled before the refusal; an invented count; 6 before 12, 12 before 10; 4,096 days refused, 4,097 taken
+-- filled before the refusal; an invented count; 6 before 12, 12 before 10; 4,096 days refused, 4,097 taken; and of the clerk: one that refuses
+-- all, never steps, shows one month for all, counts bu from 0, goes past the last month, stops before it, or takes bu 0 or 541
 pub record Wrong-exported : Type 0 where
   pub refusing-days : (r : CDate) → CDateOfDay 0 r → r .reason ≢ 0 → ⊥
   pub refusing-dates : (r : CDay) → CDayOfDate 0 11 false 1 r → r .reason ≢ 0 → ⊥
@@ -485,6 +524,18 @@ pub record Wrong-exported : Type 0 where
       (r : CFilled) (x : CDate) (new : List CDate) → CFillDates (replicate 4097 0) (replicate 4097 x) r new → r .reason ≡ 0 → ⊥
   pub second-big-refused : (r : CFilled) (x : CDate) (new : List CDate) → CFillDates (3838 ∷ []) (x ∷ []) r new → r .reason ≢ 0 → ⊥
   pub inventing-a-count : (r : CFilled) (x : CDate) (new : List CDate) → CFillDates (0 ∷ []) (x ∷ []) r new → r .count ≢ 1 → ⊥
+  pub refusing-starts : (r : CClerk) → CClerkStart 1 r → r .reason ≢ 0 → ⊥
+  pub refusing-steps : (r s : CClerk) → CClerkStart 1 r → CClerkStep (r .clerk) s → s .reason ≢ 0 → ⊥
+  pub refusing-walks : (r : CClerk) → CClerkWalk 1 129 r → r .reason ≢ 0 → ⊥
+  pub refusing-shows : (c : Clerk) (r : CMonth) → CClerkShow c r → r .reason ≢ 0 → ⊥
+  pub never-stepping : (c : Clerk) → CClerkStep c (givenClerk c) → ⊥
+  pub never-walking : (r : CClerk) → CClerkStart 1 r → CClerkWalk 1 1 r → ⊥
+  pub one-month-shown : (r s : CClerk) (m : CMonth) → CClerkStart 1 r → CClerkWalk 1 1 s → CClerkShow (r .clerk) m → CClerkShow (s .clerk) m → ⊥
+  pub bu-from-0 : (r : CClerk) → CClerkStart 2 r → r .clerk .«month_count» ≢ 940 → ⊥
+  pub bu-0-taken : (r : CClerk) → CClerkStart 0 r → r .reason ≢ 21 → ⊥
+  pub bu-541-taken : (r : CClerk) → CClerkStart 541 r → r .reason ≢ 21 → ⊥
+  pub past-the-last : (r : CClerk) → CClerkWalk 540 940 r → r .reason ≢ 7 → ⊥
+  pub stopping-before : (r : CClerk) → CClerkWalk 540 939 r → r .reason ≢ 0 → ⊥
   pub reading-none : (r : CSheetCounts) (m d : List ℕ) → CReadSheet sheetOf11 (0 ∷ []) [] [] r (0 ∷ []) m d → ⊥
   pub reading-first-over : (r : CSheetCounts) (m d : List ℕ) → CReadSheet sheetOfTwos (0 ∷ 0 ∷ []) (0 ∷ 0 ∷ []) (0 ∷ 0 ∷ []) r (11 ∷ 11 ∷ []) m d → ⊥
   pub reading-first-alone :
@@ -528,6 +579,9 @@ pub record Wrong-low-bits : Type 0 where
   pub solstices : LowBits 4294967296 CSolsticeYear 1
   pub years : LowBits 4294967296 CYearFacts 1
   pub months : LowBits 4294967296 CMonthFacts 0
+  pub bu-of-starts : LowBits 4294967296 CClerkStart 1
+  pub bu-of-walks : LowBits 4294967296 (λ b. CClerkWalk b 0) 1
+  pub steps-of-walks : LowBits 4294967296 (CClerkWalk 1) 0
   pub months-of-quarters : LowBits 4294967296 (λ n. CQuarterOf n 0) 0
   pub quarters : LowBits 4294967296 (CQuarterOf 0) 0
   pub years-of-terms : LowBits 4294967296 (λ y. CTermOf y 0) 1

@@ -10,6 +10,8 @@ use Rattle.rule.specs.Reasons.{Answer, is, andThen, afterwards}
 use Rattle.dates.specs.Dates.{dateAt, dayOfDate}
 use Rattle.moves.specs.Moves.{moved}
 use Rattle.facts.specs.Facts.{solsticeYearAt, yearFactsAt, monthFactsAt, quarterAt, termAt}
+use Rattle.clerk.specs.declared.Clerk.{Clerk}
+use Rattle.clerk.specs.Clerk.{stepAt, startAt, walked, shown}
 use Rattle.planets.specs.Planets.{conjunctionAt, nextAt, pairAt}
 use Rattle.reading.specs.declared.Field.{Field}
 use Rattle.reading.specs.declared.Field.the-variants.{Known, Unread}
@@ -26,6 +28,7 @@ use Rattle.offered.specs.declared.CDay.{CDay}
 use Rattle.offered.specs.declared.CSolstice.{CSolstice}
 use Rattle.offered.specs.declared.CYear.{CYear}
 use Rattle.offered.specs.declared.CMonth.{CMonth}
+use Rattle.offered.specs.declared.CClerk.{CClerk}
 use Rattle.offered.specs.declared.CQuarter.{CQuarter}
 use Rattle.offered.specs.declared.CTerm.{CTerm}
 use Rattle.offered.specs.declared.CConjunction.{CConjunction}
@@ -41,7 +44,9 @@ use Rattle.offered.specs.Flat.{
   flatDay,
   flatSolstice,
   flatYear,
+  givenMonth,
   flatMonth,
+  flatClerk,
   flatQuarter,
   flatTerm,
   flatConjunction,
@@ -86,6 +91,19 @@ CYearFacts y r = r ≡ flatYear (yearFactsAt y)
 -- a month by its count
 abbrev pub CMonthFacts : ℕ → CMonth → Type 0
 CMonthFacts n r = r ≡ flatMonth (monthFactsAt n)
+
+-- the clerk: a start at a bu's head, a step, a start and so many steps; and what it shows, which it always does
+abbrev pub CClerkStart : ℕ → CClerk → Type 0
+CClerkStart b r = r ≡ flatClerk (startAt b)
+
+abbrev pub CClerkStep : Clerk → CClerk → Type 0
+CClerkStep c r = r ≡ flatClerk (stepAt c)
+
+abbrev pub CClerkWalk : ℕ → ℕ → CClerk → Type 0
+CClerkWalk b k r = r ≡ flatClerk (walked b k)
+
+abbrev pub CClerkShow : Clerk → CMonth → Type 0
+CClerkShow c r = r ≡ givenMonth (shown c)
 
 -- a quarter of a month
 abbrev pub CQuarterOf : ℕ → ℕ → CQuarter → Type 0

@@ -12,6 +12,7 @@ use Rattle.dates.specs.declared.Date.{Date}
 use Rattle.facts.specs.declared.SolsticeYear.{SolsticeYear}
 use Rattle.facts.specs.declared.YearFacts.{YearFacts}
 use Rattle.facts.specs.declared.MonthFacts.{MonthFacts}
+use Rattle.clerk.specs.declared.Clerk.{Clerk}
 use Rattle.planets.specs.declared.Conjunction.{Conjunction}
 use Rattle.planets.specs.declared.Next.{Next}
 use Rattle.planets.specs.declared.Pair.{Pair}
@@ -22,6 +23,7 @@ use Rattle.offered.specs.declared.CDay.{CDay}
 use Rattle.offered.specs.declared.CSolstice.{CSolstice}
 use Rattle.offered.specs.declared.CYear.{CYear}
 use Rattle.offered.specs.declared.CMonth.{CMonth}
+use Rattle.offered.specs.declared.CClerk.{CClerk}
 use Rattle.offered.specs.declared.CQuarter.{CQuarter}
 use Rattle.offered.specs.declared.CTerm.{CTerm}
 use Rattle.offered.specs.declared.CConjunction.{CConjunction}
@@ -43,6 +45,8 @@ use Rattle.offered.specs.Flat.{
   noYear,
   givenMonth,
   noMonth,
+  givenClerk,
+  noClerk,
   givenQuarter,
   noQuarter,
   givenTerm,
@@ -105,6 +109,19 @@ pub record BareMonth (r : CMonth) : Type 0 where
   pub first-name : r .«first_name» ≡ 0
   pub eclipse : r .eclipse ≡ false
 
+pub record BareClerk (r : CClerk) : Type 0 where
+  pub month-count : r .clerk .«month_count» ≡ 0
+  pub first-day : r .clerk .«first_day» ≡ 0
+  pub term-day : r .clerk .«term_day» ≡ 0
+  pub small-remainder : r .clerk .«small_remainder» ≡ 0
+  pub number : r .clerk .number ≡ 0
+  pub leap : r .clerk .leap ≡ false
+  pub month-length : r .clerk .«month_length» ≡ 0
+  pub first-name : r .clerk .«first_name» ≡ 0
+  pub eclipse : r .clerk .eclipse ≡ false
+  pub eclipse-remainder : r .clerk .«eclipse_remainder» ≡ 0
+  pub term-parts : r .clerk .«term_parts» ≡ 0
+
 pub record BareQuarter (r : CQuarter) : Type 0 where
   pub day : r .day ≡ 0
   pub parts : r .parts ≡ 0
@@ -163,6 +180,7 @@ pub record Refusals-flat : Type 0 where
   pub solstice : (k : ℕ) → (noSolstice k .reason ≡ k) × BareSolstice (noSolstice k)
   pub year : (k : ℕ) → (noYear k .reason ≡ k) × BareYear (noYear k)
   pub month : (k : ℕ) → (noMonth k .reason ≡ k) × BareMonth (noMonth k)
+  pub clerk : (k : ℕ) → (noClerk k .reason ≡ k) × BareClerk (noClerk k)
   pub quarter : (k : ℕ) → (noQuarter k .reason ≡ k) × BareQuarter (noQuarter k)
   pub term : (k : ℕ) → (noTerm k .reason ≡ k) × BareTerm (noTerm k)
   pub conjunction : (k : ℕ) → (noConjunction k .reason ≡ k) × BareConjunction (noConjunction k)
@@ -184,6 +202,7 @@ pub record Nothing-lost : Type 0 where
   pub solstice : (a b : SolsticeYear) → givenSolstice a ≡ givenSolstice b → a ≡ b
   pub year : (a b : YearFacts) → givenYear a ≡ givenYear b → a ≡ b
   pub month : (a b : MonthFacts) → givenMonth a ≡ givenMonth b → a ≡ b
+  pub clerk : (a b : Clerk) → givenClerk a ≡ givenClerk b → a ≡ b
   pub quarter : (a b : Quarter) → givenQuarter a ≡ givenQuarter b → a ≡ b
   pub term : (a b : Term) → givenTerm a ≡ givenTerm b → a ≡ b
   pub conjunction : (a b : Conjunction) → givenConjunction a ≡ givenConjunction b → a ≡ b

@@ -1,6 +1,7 @@
 // What C is offered: one struct for each answer, with the reason in front, and one for a slip; in specs/ how an answer is laid flat into
-// its struct, what the twenty calls promise, and statements with their proofs. No code: answers are laid flat in the crate `flat`, and
+// its struct, what the twenty-four calls promise, and statements with their proofs. No code: answers are laid flat in the crate `flat`, and
 // the calls are the crate `capi`. So an edit of a definition is refused without checking those again.
+use clerk::Clerk;
 
 // A date. `number` is the month's, `leap` whether it is the leap month of that number, `year` the civil one; ji, bu and year in the bu are
 // the place of the solstice year in which the day lies, `eclipse` whether the month is an eclipse month.
@@ -63,6 +64,13 @@ pub struct CMonth {
     pub month_length: u32,
     pub first_name: u32,
     pub eclipse: bool,
+}
+
+// The clerk at a month: its state, by which it goes on.
+#[repr(C)]
+pub struct CClerk {
+    pub reason: u32,
+    pub clerk: Clerk,
 }
 
 // A quarter of a month: its day and the parts that are left.
