@@ -13,6 +13,10 @@ ghost use Rattle.offered.specs.Promises.{
   CSolsticeYear,
   CYearFacts,
   CMonthFacts,
+  CClerkStart,
+  CClerkStep,
+  CClerkWalk,
+  CClerkShow,
   CQuarterOf,
   CTermOf,
   CKthConjunction,
@@ -27,6 +31,8 @@ ghost use Rattle.offered.specs.Promises.{
   CPrintMonth,
   CPrintDay,
 };
+use clerk::Clerk;
+use offered::CClerk;
 use offered::CConjunction;
 use offered::CDate;
 use offered::CDay;
@@ -109,6 +115,35 @@ pub extern "C" fn oes_month_facts(month: u64) -> CMonth
     ensures { λ r. ⌜ CMonthFacts month r ⌝ }
 {
     flat::flat_month(facts::month_facts(capped::cap(month)))
+}
+
+// The clerk's own way: a start at a bu's head, a step, a start and so many steps, and what it shows.
+#[no_mangle]
+pub extern "C" fn oes_clerk_start(bu: u64) -> CClerk
+    ensures { λ r. ⌜ CClerkStart bu r ⌝ }
+{
+    flat::flat_clerk(clerk::start(capped::cap(bu)))
+}
+
+#[no_mangle]
+pub extern "C" fn oes_clerk_step(clerk: Clerk) -> CClerk
+    ensures { λ r. ⌜ CClerkStep clerk r ⌝ }
+{
+    flat::flat_clerk(clerk::step(clerk))
+}
+
+#[no_mangle]
+pub extern "C" fn oes_clerk_walk(bu: u64, steps: u64) -> CClerk
+    ensures { λ r. ⌜ CClerkWalk bu steps r ⌝ }
+{
+    flat::flat_clerk(clerk::walk(capped::cap(bu), capped::cap(steps)))
+}
+
+#[no_mangle]
+pub extern "C" fn oes_clerk_show(clerk: Clerk) -> CMonth
+    ensures { λ r. ⌜ CClerkShow clerk r ⌝ }
+{
+    flat::given_month(clerk::show(clerk))
 }
 
 // A quarter of a month.
