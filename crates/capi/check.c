@@ -50,6 +50,20 @@ AT(oes_month, month_length, 20);
 AT(oes_month, first_name, 24);
 AT(oes_month, eclipse, 28);
 SIZE(oes_month, 32);
+AT(oes_clerk, month_count, 0);
+AT(oes_clerk, first_day, 4);
+AT(oes_clerk, term_day, 8);
+AT(oes_clerk, small_remainder, 12);
+AT(oes_clerk, number, 14);
+AT(oes_clerk, leap, 15);
+AT(oes_clerk, month_length, 16);
+AT(oes_clerk, first_name, 17);
+AT(oes_clerk, eclipse, 18);
+AT(oes_clerk, eclipse_remainder, 19);
+AT(oes_clerk, term_parts, 20);
+SIZE(oes_clerk, 24);
+AT(oes_clerk_told, clerk, 4);
+SIZE(oes_clerk_told, 28);
 AT(oes_quarter_told, day, 4);
 AT(oes_quarter_told, parts, 8);
 SIZE(oes_quarter_told, 12);
@@ -373,6 +387,110 @@ static void month_is(oes_month m, const uint32_t want[8])
     for (int i = 0; i < 8; i++) {
         SAME(got[i], want[i]);
     }
+}
+
+static void clerk_is(int line, oes_clerk_told r, const uint32_t want[12])
+{
+    static const char *const names[12] = {"reason",       "month_count", "first_day",  "term_day", "small_remainder",   "number",
+                                          "leap", "month_length", "first_name", "eclipse",  "eclipse_remainder", "term_parts"};
+    const oes_clerk c = r.clerk;
+    const uint32_t got[12] = {r.reason, c.month_count,  c.first_day,  c.term_day, c.small_remainder,   c.number,
+                              c.leap,   c.month_length, c.first_name, c.eclipse,  c.eclipse_remainder, c.term_parts};
+    for (int i = 0; i < 12; i++) {
+        same(line, names[i], got[i], want[i]);
+    }
+}
+
+#define CLERK_IS(r, ...) clerk_is(__LINE__, (r), (const uint32_t[12]){__VA_ARGS__})
+#define CLERK_REFUSED(r, reason) CLERK_IS((r), (reason))
+
+/* A state put together, the bytes behind its fields set to a byte of their own. */
+static oes_clerk state(int behind, const uint32_t f[11])
+{
+    oes_clerk c;
+    memset(&c, behind, sizeof c);
+    c.month_count = f[0];
+    c.first_day = f[1];
+    c.term_day = f[2];
+    c.small_remainder = (uint16_t)f[3];
+    c.number = (uint8_t)f[4];
+    c.leap = f[5] != 0;
+    c.month_length = (uint8_t)f[6];
+    c.first_name = (uint8_t)f[7];
+    c.eclipse = f[8] != 0;
+    c.eclipse_remainder = (uint8_t)f[9];
+    c.term_parts = (uint8_t)f[10];
+    return c;
+}
+
+#define STATE(behind, ...) state((behind), (const uint32_t[11]){__VA_ARGS__})
+
+/* Starts and walks, worked out by hand. Months 1 and 2; leap 6, month 32, before whose end no mid-term comes (that of month 33 falls
+ * on day 974, at midnight), and the month after it; the two big months 128 and 129; the head of bu 2, started at and walked to; the last
+ * month, whose mid-term ahead is the solstice after the range. */
+static void clerk_walks(void)
+{
+    CLERK_IS(oes_clerk_start(1), 0, 0, 0, 30, 0, 11, 0, 29, 1, 0, 23, 14);
+    CLERK_IS(oes_clerk_start(2), 0, 940, 27759, 27789, 0, 11, 0, 29, 40, 0, 43, 14);
+    CLERK_IS(oes_clerk_start(540), 0, 506660, 14962101, 14962131, 0, 11, 0, 29, 22, 1, 3, 14);
+    CLERK_IS(oes_clerk_walk(1, 0), 0, 0, 0, 30, 0, 11, 0, 29, 1, 0, 23, 14);
+    CLERK_IS(oes_clerk_walk(1, 1), 0, 1, 29, 60, 499, 12, 0, 30, 30, 0, 46, 28);
+    CLERK_IS(oes_clerk_walk(1, 2), 0, 2, 59, 91, 58, 1, 0, 29, 60, 0, 69, 10);
+    CLERK_IS(oes_clerk_walk(1, 32), 0, 32, 944, 974, 928, 6, 1, 30, 45, 0, 84, 0);
+    CLERK_IS(oes_clerk_walk(1, 33), 0, 33, 974, 1004, 487, 7, 0, 30, 15, 0, 107, 14);
+    CLERK_IS(oes_clerk_walk(1, 128), 0, 128, 3779, 3835, 892, 4, 0, 30, 60, 0, 132, 4);
+    CLERK_IS(oes_clerk_walk(1, 129), 0, 129, 3809, 3865, 451, 5, 0, 30, 30, 1, 20, 18);
+    CLERK_IS(oes_clerk_walk(1, 940), 0, 940, 27759, 27789, 0, 11, 0, 29, 40, 0, 43, 14);
+    CLERK_IS(oes_clerk_walk(540, 939), 0, 507599, 14989830, 14989860, 441, 10, 1, 30, 31, 1, 0, 0);
+    CLERK_IS(oes_clerk_walk(1, 507599), 0, 507599, 14989830, 14989860, 441, 10, 1, 30, 31, 1, 0, 0);
+    const uint64_t no_bu[4] = {0, 541, wide(1), (uint64_t)-1};
+    for (int i = 0; i < 4; i++) {
+        CLERK_REFUSED(oes_clerk_start(no_bu[i]), 21);
+        CLERK_REFUSED(oes_clerk_walk(no_bu[i], 0), 21);
+        CLERK_REFUSED(oes_clerk_walk(no_bu[i], wide(0)), 21);
+    }
+    CLERK_REFUSED(oes_clerk_walk(540, 940), 7);
+    CLERK_REFUSED(oes_clerk_walk(1, 507600), 7);
+    CLERK_REFUSED(oes_clerk_walk(540, wide(0)), 7);
+    CLERK_REFUSED(oes_clerk_walk(1, (uint64_t)-1), 7);
+}
+
+/* Steps and what is shown: of states that a start leads to, then of others, up to all bits set, by the additions alone; the bytes
+ * behind the fields say nothing. */
+static void clerk_steps(void)
+{
+    for (int behind = 0; behind < 256; behind += 85) {
+        const oes_clerk big = STATE(behind, 128, 3779, 3835, 892, 4, 0, 30, 60, 0, 132, 4);
+        CLERK_IS(oes_clerk_step(big), 0, 129, 3809, 3865, 451, 5, 0, 30, 30, 1, 20, 18);
+        month_is(oes_clerk_show(big), (const uint32_t[8]){0, 4, 0, 3779, 892, 30, 60, 0});
+        const oes_clerk second = STATE(behind, 129, 3809, 3865, 451, 5, 0, 30, 30, 1, 20, 18);
+        month_is(oes_clerk_show(second), (const uint32_t[8]){0, 5, 0, 3809, 451, 30, 30, 1});
+        const oes_clerk all_set = STATE(behind, -1u, -1u, -1u, 65535, 255, 1, 255, 255, 1, 255, 255);
+        CLERK_REFUSED(oes_clerk_step(all_set), 7);
+        month_is(oes_clerk_show(all_set), (const uint32_t[8]){0, 255, 1, -1u, 65535, 255, 255, 1});
+        const oes_clerk before = STATE(behind, 507598, 14989829, -1u, 65535, 255, 1, 255, 255, 1, 255, 255);
+        CLERK_IS(oes_clerk_step(before), 0, 507599, 14989859, -1u, 65094, 255, 1, 30, 225, 0, 143, 255);
+        const oes_clerk held = STATE(behind, 0, 0, 0, 65535, 255, 1, 255, 255, 1, 255, 255);
+        CLERK_IS(oes_clerk_step(held), 0, 1, 30, 32, 65094, 244, 0, 30, 225, 0, 143, 205);
+        CLERK_REFUSED(oes_clerk_step(STATE(behind, 507599, 0, 0, 0, 11, 0, 29, 1, 0, 23, 14)), 7);
+        CLERK_REFUSED(oes_clerk_step(STATE(behind, 0, 14989830, 0, 0, 11, 0, 29, 1, 0, 23, 14)), 7);
+        CLERK_REFUSED(oes_clerk_step(STATE(behind, 507599, 14989830, 14989860, 441, 10, 1, 30, 31, 1, 0, 0)), 7);
+    }
+}
+
+/* From the head of bu 539 step by step: 940 steps lead to the head of bu 540, each month as oes_month_facts has it. */
+static void clerk_beside_months(void)
+{
+    oes_clerk_told r = oes_clerk_start(539);
+    for (uint32_t n = 505720; n < 506660; n++) {
+        const oes_month f = oes_month_facts(n);
+        SAME(r.reason, 0);
+        SAME(r.clerk.month_count, n);
+        month_is(oes_clerk_show(r.clerk), (const uint32_t[8]){0, f.number, f.leap, f.first_day, f.small_remainder, f.month_length,
+                                                              f.first_name, f.eclipse});
+        r = oes_clerk_step(r.clerk);
+    }
+    CLERK_IS(r, 0, 506660, 14962101, 14962131, 0, 11, 0, 29, 22, 1, 3, 14);
 }
 
 static void quarter_is(oes_quarter_told q, uint32_t reason, uint32_t day, uint32_t parts)
@@ -777,6 +895,9 @@ int main(void)
     bad_days();
     full_drawer();
     facts();
+    clerk_walks();
+    clerk_steps();
+    clerk_beside_months();
     planets();
     search();
     emend_a_day_of_month();

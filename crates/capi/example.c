@@ -63,6 +63,31 @@ static void facts(void)
     }
 }
 
+/* The clerk where a start, a step or a walk led, as `CLERK bu steps` has it. */
+static void show_clerk(const char *asked, oes_clerk_told r)
+{
+    puts(asked);
+    if (r.reason != 0) {
+        printf("REFUSED %u\n", r.reason);
+        return;
+    }
+    oes_month m = oes_clerk_show(r.clerk);
+    printf("CLERK %u %u %c %u %u %c %u %u\n", r.clerk.month_count, m.number, m.leap ? 'L' : '-', m.first_name, m.month_length,
+           m.eclipse ? 'E' : '-', m.first_day, m.small_remainder);
+}
+
+/* From the head of bu 2 a step at a time; the second of two big months at once; past the last month, and a bu too many. */
+static void clerk(void)
+{
+    oes_clerk_told r = oes_clerk_start(2);
+    show_clerk("CLERK 2 0", r);
+    r = oes_clerk_step(r.clerk);
+    show_clerk("CLERK 2 1", r);
+    show_clerk("CLERK 1 129", oes_clerk_walk(1, 129));
+    show_clerk("CLERK 540 940", oes_clerk_walk(540, 940));
+    show_clerk("CLERK 541 0", oes_clerk_start(541));
+}
+
 /* Venus by the end of solstice year 9,455: 11,826 conjunctions, the last of them an evening one. */
 static void planets(void)
 {
@@ -194,6 +219,7 @@ int main(void)
 {
     dates();
     facts();
+    clerk();
     planets();
     drawers();
     search();

@@ -18,6 +18,8 @@ STRUCTS = {
     "oes_solstice": "CSolstice",
     "oes_year": "CYear",
     "oes_month": "CMonth",
+    "oes_clerk": "Clerk",
+    "oes_clerk_told": "CClerk",
     "oes_quarter_told": "CQuarter",
     "oes_term_told": "CTerm",
     "oes_conjunction_told": "CConjunction",
@@ -68,7 +70,7 @@ def alike(declared, exported):
 
 def main():
     declared = of_header((HERE / "oesterwrok.h").read_text(encoding="utf8"))
-    exported = of_code("\n".join((HERE.parent / crate / "src/lib.rt").read_text(encoding="utf8") for crate in ("offered", "capi")))
+    exported = of_code("\n".join((HERE.parent / crate / "src/lib.rt").read_text(encoding="utf8") for crate in ("clerk", "offered", "capi")))
     wrong = sorted(set(declared) ^ set(exported))
     wrong += [name for name in declared if name in exported and not alike(declared[name], exported[name])]
     for name in wrong:

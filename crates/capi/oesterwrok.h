@@ -1,5 +1,5 @@
-/* The calls of Oesterwrok for C: days, dates, drawers, facts, planets, searches, emendings, sheets and printed lines of
- * the Quarter-Remainder rule.
+/* The calls of Oesterwrok for C: days, dates, drawers, facts, the clerk, planets, searches, emendings, sheets and printed
+ * lines of the Quarter-Remainder rule.
  *
  * Every call ends for every input. `reason` is 0 where there is an answer; else it is the paper's number, every other field
  * is 0 (but the total of a search or an emending that is refused with 12, which is the true one, and the place of a drawer that
@@ -91,6 +91,29 @@ typedef struct oes_month {
     uint32_t first_name;
     bool eclipse;
 } oes_month;
+
+/* The clerk at a month, by which it goes on: the month's count, its first day and small remainder (in parts of 940), number, leap
+ * mark, length, the first day's name and the eclipse mark; the eclipse remainder (in parts of 135), and the next mid-term after the
+ * month, its day and the rest in parts of 32. It is the caller's own: a start or a walk makes it, a step makes the next. */
+typedef struct oes_clerk {
+    uint32_t month_count;
+    uint32_t first_day;
+    uint32_t term_day;
+    uint16_t small_remainder;
+    uint8_t number;
+    bool leap;
+    uint8_t month_length;
+    uint8_t first_name;
+    bool eclipse;
+    uint8_t eclipse_remainder;
+    uint8_t term_parts;
+} oes_clerk;
+
+/* The clerk where a start, a step or a walk led. */
+typedef struct oes_clerk_told {
+    uint32_t reason;
+    oes_clerk clerk;
+} oes_clerk_told;
 
 /* A quarter of a month: its day and the parts that are left. */
 typedef struct oes_quarter_told {
@@ -196,6 +219,15 @@ oes_year oes_year_facts(uint64_t year);
 
 oes_month oes_month_facts(uint64_t month);
 oes_quarter_told oes_quarter(uint64_t month, uint64_t quarter);
+
+/* The clerk's own way, from month to month by additions. A bu is counted from the origin, 1 to 540, else 21; bu 1 starts at the
+ * origin. A step past the last month, 507,599, is 7. A walk is a start and so many steps. What it shows is what oes_month_facts
+ * gives for its count, `reason` always 0. A state that no start leads to is stepped by the same additions, and is refused with 7 where
+ * its count is above 507,598 or its first day above 14,989,829. */
+oes_clerk_told oes_clerk_start(uint64_t bu);
+oes_clerk_told oes_clerk_step(oes_clerk clerk);
+oes_clerk_told oes_clerk_walk(uint64_t bu, uint64_t steps);
+oes_month oes_clerk_show(oes_clerk clerk);
 
 /* Planets: 1 Jupiter, 2 Mars, 3 Saturn, 4 Venus, 5 Mercury. */
 oes_conjunction_told oes_conjunction(uint64_t planet, uint64_t k);
