@@ -4,7 +4,7 @@
 //! too; a lent slice overlaps no other, since it is borrowed alone; and a `bool` is 0 or 1.
 #![allow(unsafe_code)]
 
-use crate::types::{DateRecord, Reason};
+use crate::types::{Clerk, DateRecord, Reason};
 use std::fmt::Debug;
 
 /// How a refusal is told from an answer, in a struct of the header whose first field is `reason`.
@@ -127,6 +127,11 @@ answer! {
 }
 
 answer! {
+    /// `oes_clerk_told`
+    CClerk { clerk: Clerk }
+}
+
+answer! {
     /// `oes_quarter_told`
     CQuarter { day: u32, parts: u32 }
 }
@@ -210,6 +215,10 @@ unsafe extern "C" {
     pub safe fn oes_solstice_year(year: u64) -> CSolstice;
     pub safe fn oes_year_facts(year: u64) -> CYear;
     pub safe fn oes_month_facts(month: u64) -> CMonth;
+    pub safe fn oes_clerk_start(bu: u64) -> CClerk;
+    pub safe fn oes_clerk_step(clerk: Clerk) -> CClerk;
+    pub safe fn oes_clerk_walk(bu: u64, steps: u64) -> CClerk;
+    pub safe fn oes_clerk_show(clerk: Clerk) -> CMonth;
     pub safe fn oes_quarter(month: u64, quarter: u64) -> CQuarter;
     pub safe fn oes_term(year: u64, term: u64) -> CTerm;
     pub safe fn oes_conjunction(planet: u64, k: u64) -> CConjunction;

@@ -339,6 +339,115 @@ pub fn month_facts(month: u64) -> Result<MonthFacts, Reason> {
     })
 }
 
+// The clerk.
+
+/// The bu of the range, counted from the origin.
+const BU: u64 = 540;
+
+/// The months of a bu.
+const BU_MONTHS: u64 = 940;
+
+/// The clerk at month n, which is in range, by the floor divisions above and by no step: the mid-term ahead is the first on or after
+/// the day on which the next month starts.
+fn clerk_at(n: u64) -> Clerk {
+    let ahead = 2 * (16 * month_start(n + 1)).div_ceil(487);
+    Clerk {
+        month_count: n as u32,
+        first_day: month_start(n) as u32,
+        term_day: term_day(ahead) as u32,
+        small_remainder: (27_759 * n % 940) as u16,
+        number: month_number(n) as u8,
+        leap: is_leap(n),
+        month_length: month_length(n) as u8,
+        first_name: day_name(month_start(n)) as u8,
+        eclipse: is_eclipse(n),
+        eclipse_remainder: (23 * (n + 1) % 135) as u8,
+        term_parts: term_parts(ahead) as u8,
+    }
+}
+
+/// As [`crate::clerk_start`].
+pub fn clerk_start(bu: u64) -> Result<Clerk, Reason> {
+    clerk_walk(bu, 0)
+}
+
+/// As [`crate::clerk_walk`], without a step.
+pub fn clerk_walk(bu: u64, steps: u64) -> Result<Clerk, Reason> {
+    ensure((1..=BU).contains(&bu), Reason::Bu)?;
+    let n = steps.saturating_add(BU_MONTHS * (bu - 1));
+    check_month(n)?;
+    Ok(clerk_at(n))
+}
+
+/// A sum of parts with at most one whole taken off, and how many were.
+fn once_over(whole: u64, sum: u64) -> (u64, u64) {
+    let taken = u64::from(sum >= whole);
+    (taken, sum - taken * whole)
+}
+
+/// How many days a month has that starts with this remainder: 29, and one more where 499 parts more make a day.
+fn days_from(small_remainder: u64) -> u64 {
+    29 + once_over(940, small_remainder + 499).0
+}
+
+/// The term so many days and parts from the origin, two terms on.
+fn next_mid_term((mut day, mut parts): (u64, u64)) -> (u64, u64) {
+    for _ in 0..2 {
+        let (over, rest) = once_over(32, parts + 7);
+        (day, parts) = (day + 15 + over, rest);
+    }
+    (day, parts)
+}
+
+/// As [`crate::clerk_step`], by additions of 64 bits, which no state's numbers fill.
+pub fn clerk_step(clerk: Clerk) -> Result<Clerk, Reason> {
+    let (count, day) = (u64::from(clerk.month_count), u64::from(clerk.first_day));
+    ensure(
+        count + 1 < MONTHS && day < month_start(MONTHS - 1),
+        Reason::MonthCount,
+    )?;
+    let rest = u64::from(clerk.small_remainder);
+    let days = days_from(rest);
+    let (_, next_rest) = once_over(940, rest + 499);
+    let first_day = day + days;
+    let length = days_from(next_rest);
+    let ahead = (u64::from(clerk.term_day), u64::from(clerk.term_parts));
+    let leap = ahead.0 >= first_day + length;
+    let (term_day, term_parts) = if leap { ahead } else { next_mid_term(ahead) };
+    let number = u64::from(clerk.number) + u64::from(!leap);
+    let name = u64::from(clerk.first_name) + days;
+    let (_, eclipse) = once_over(135, u64::from(clerk.eclipse_remainder) + 23);
+    Ok(Clerk {
+        month_count: (count + 1) as u32,
+        first_day: first_day as u32,
+        term_day: term_day as u32,
+        small_remainder: next_rest as u16,
+        number: if !leap && number > 12 {
+            number - 12
+        } else {
+            number
+        } as u8,
+        leap,
+        month_length: length as u8,
+        first_name: if name > 60 { name - 60 } else { name } as u8,
+        eclipse: eclipse < 23,
+        eclipse_remainder: eclipse as u8,
+        term_parts: term_parts as u8,
+    })
+}
+
+/// As [`crate::clerk_show`].
+pub fn clerk_show(clerk: Clerk) -> MonthFacts {
+    MonthFacts {
+        month: Month::new(clerk.number.into(), clerk.leap),
+        first_day: clerk.first_day,
+        small_remainder: clerk.small_remainder.into(),
+        month_length: clerk.month_length.into(),
+        first_name: clerk.first_name.into(),
+        eclipse: clerk.eclipse,
+    }
+}
+
 /// As [`crate::quarter`].
 pub fn quarter(month: u64, quarter: u64) -> Result<Quarter, Reason> {
     check_month(month)?;

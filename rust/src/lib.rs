@@ -9,7 +9,7 @@
 //! is 11 or 12, leap or not. A date's ji, bu and year in the bu are of the solstice year in which its day lies, its eclipse mark
 //! is its month's.
 //!
-//! Many days are dated at once by [`dates`], into a lent list of records.
+//! Many days are dated at once by [`dates`], into a lent list of records. Month after month is gone through by a [`Clerk`].
 //!
 //! ```
 //! use oesterwrok::{day_of_date, date_of_day, Asked, Month, Reason};
@@ -134,15 +134,48 @@ pub fn year_facts(year: u64) -> Result<YearFacts, Reason> {
 /// The facts of a month by its count. Reason 7.
 #[inline]
 pub fn month_facts(month: u64) -> Result<MonthFacts, Reason> {
-    let c = ffi::oes_month_facts(month).told()?;
-    Ok(MonthFacts {
-        month: Month::new(c.number, c.leap),
-        first_day: c.first_day,
-        small_remainder: c.small_remainder,
-        month_length: c.month_length,
-        first_name: c.first_name,
-        eclipse: c.eclipse,
-    })
+    Ok(facts_of_month(ffi::oes_month_facts(month).told()?))
+}
+
+/// The clerk at the head of a bu, counted from the origin; bu 1 starts at the origin. Reason 21, outside 1 to 540.
+///
+/// ```
+/// use oesterwrok::{clerk_show, clerk_start, clerk_step, clerk_walk, month_facts, Reason};
+///
+/// let mut clerk = clerk_start(1).unwrap();
+/// for n in 1..=134 {
+///     clerk = clerk_step(clerk).unwrap();
+///     assert_eq!(Ok(clerk_show(clerk)), month_facts(n));
+/// }
+/// assert_eq!((clerk.month_count, clerk.number, clerk.leap), (134, 9, true));
+/// assert_eq!(clerk_walk(1, 134), Ok(clerk));
+/// assert_eq!(clerk_walk(540, 940), Err(Reason::MonthCount));
+/// assert_eq!(clerk_start(541), Err(Reason::Bu));
+/// ```
+#[inline]
+pub fn clerk_start(bu: u64) -> Result<Clerk, Reason> {
+    Ok(ffi::oes_clerk_start(bu).told()?.clerk)
+}
+
+/// The clerk at the next month. Reason 7, past the last month; of a state that no start leads to where its count is above 507,598 or
+/// its first day above 14,989,829.
+#[inline]
+pub fn clerk_step(clerk: Clerk) -> Result<Clerk, Reason> {
+    Ok(ffi::oes_clerk_step(clerk).told()?.clerk)
+}
+
+/// The clerk so many steps from the head of a bu. Reasons 21, 7.
+#[inline]
+pub fn clerk_walk(bu: u64, steps: u64) -> Result<Clerk, Reason> {
+    Ok(ffi::oes_clerk_walk(bu, steps).told()?.clerk)
+}
+
+/// What the clerk shows of its month; of a state that a start leads to, what [`month_facts`] gives for its count.
+#[inline]
+pub fn clerk_show(clerk: Clerk) -> MonthFacts {
+    let c = ffi::oes_clerk_show(clerk);
+    assert_eq!(c.reason, 0, "capi refused to show a clerk");
+    facts_of_month(c)
 }
 
 /// A quarter of a month: 0 new, 1 first, 2 full, 3 last. Reasons 7, 15.
@@ -310,6 +343,19 @@ pub fn print_month(month: u64, out: &mut [u8]) -> Result<usize, Reason> {
 #[inline]
 pub fn print_day(day: u64, out: &mut [u8]) -> Result<usize, Reason> {
     Ok(ffi::print_day(day, out).told()?.length)
+}
+
+/// The facts of a month that was answered.
+#[inline]
+fn facts_of_month(c: ffi::CMonth) -> MonthFacts {
+    MonthFacts {
+        month: Month::new(c.number, c.leap),
+        first_day: c.first_day,
+        small_remainder: c.small_remainder,
+        month_length: c.month_length,
+        first_name: c.first_name,
+        eclipse: c.eclipse,
+    }
 }
 
 /// How many records were filled, or why none was. Only reason 6 has a place.

@@ -2,7 +2,8 @@
 
 use std::fmt;
 
-/// Why a query comes back: the paper's fifteen reasons, that of the civil year and the two of the planets, under their numbers.
+/// Why a query comes back: the paper's fifteen reasons, that of the civil year, the two of the planets and that of
+/// the clerk, under their numbers.
 #[derive(Clone, Copy, Debug, PartialEq, Eq, Hash)]
 #[repr(u32)]
 pub enum Reason {
@@ -44,10 +45,12 @@ pub enum Reason {
     Planet = 19,
     /// 20: no conjunction falls from the given day to the end of the range.
     NoConjunctionLeft = 20,
+    /// 21: bu, counted from the origin, outside 1 to 540.
+    Bu = 21,
 }
 
 /// The reasons in the order of their numbers; 17 and 18 belong to requests that are not built.
-pub const REASONS: [Reason; 18] = [
+pub const REASONS: [Reason; 19] = [
     Reason::Year,
     Reason::MonthNumber,
     Reason::DayOfMonth,
@@ -66,10 +69,11 @@ pub const REASONS: [Reason; 18] = [
     Reason::NoSuchNumber,
     Reason::Planet,
     Reason::NoConjunctionLeft,
+    Reason::Bu,
 ];
 
 impl Reason {
-    /// The paper's number, 1 to 16, or 19 or 20.
+    /// The paper's number, 1 to 16, or 19 to 21.
     pub fn number(self) -> u32 {
         self as u32
     }
@@ -317,6 +321,35 @@ pub struct MonthFacts {
     pub first_name: u32,
     /// Whether it is an eclipse month.
     pub eclipse: bool,
+}
+
+/// The clerk at a month: what it keeps of the month, and to go on by the eclipse remainder and the next mid-term after the month. It
+/// is the `oes_clerk` of the C header, field by field. Any numbers may be put together.
+#[repr(C)]
+#[derive(Clone, Copy, Debug, Default, PartialEq, Eq)]
+pub struct Clerk {
+    /// The month's count, 0 to 507,599.
+    pub month_count: u32,
+    /// The day on which it starts.
+    pub first_day: u32,
+    /// The day of the next mid-term after it.
+    pub term_day: u32,
+    /// Its small remainder, in parts of 940.
+    pub small_remainder: u16,
+    /// Its number, 1 to 12.
+    pub number: u8,
+    /// Whether it is the leap month of that number.
+    pub leap: bool,
+    /// How many days it has, 29 or 30.
+    pub month_length: u8,
+    /// The name of its first day, 1 to 60.
+    pub first_name: u8,
+    /// Whether it is an eclipse month.
+    pub eclipse: bool,
+    /// Its eclipse remainder, in parts of 135.
+    pub eclipse_remainder: u8,
+    /// The rest of that mid-term beyond its whole days, in parts of 32.
+    pub term_parts: u8,
 }
 
 /// A quarter of a month.

@@ -1,4 +1,4 @@
-//! Holds what `src/ffi.rs` declares, and the record of `src/types.rs`, to the C header: every struct with its fields in their order,
+//! Holds what `src/ffi.rs` declares, and the record and the clerk of `src/types.rs`, to the C header: every struct with its fields in their order,
 //! every call with its arguments. The cross-check holds the same declarations to the archive, so the header and the archive agree
 //! too.
 
@@ -133,12 +133,14 @@ fn ffi_structs(text: &str) -> (Declared, BTreeMap<String, String>) {
             c_name.clone(),
         );
         let fields = parts(between(text, "{", "}"), ',').join(", ");
+        let fields = fields.replace(": Clerk", ": oes_clerk");
         structs.insert(c_name, format!("reason: u32, {fields}"));
     }
     let types = file("src/types.rs");
     for (text, name, c_name) in [
         (text, "CReading", "oes_reading"),
         (&types, "DateRecord", "oes_date"),
+        (&types, "Clerk", "oes_clerk"),
     ] {
         structs.insert(c_name.into(), written_out(text, name));
         names.insert(name.into(), c_name.into());
@@ -154,6 +156,7 @@ fn ffi_calls(text: &str, names: &BTreeMap<String, String>) -> Declared {
         let arguments = parts(arguments, ',')
             .join(", ")
             .replace("CReading", &names["CReading"])
+            .replace(": Clerk", ": oes_clerk")
             .replace("DateRecord", &names["DateRecord"]);
         (
             name.to_string(),
@@ -169,9 +172,9 @@ fn ffi_calls(text: &str, names: &BTreeMap<String, String>) -> Declared {
 fn ffi_declares_what_the_header_does() {
     let text = file("src/ffi.rs");
     let (structs, names) = ffi_structs(&text);
-    assert_eq!(structs.len(), 16);
+    assert_eq!(structs.len(), 18);
     assert_eq!(structs, header_structs());
     let calls = ffi_calls(&text, &names);
-    assert_eq!(calls.len(), 20);
+    assert_eq!(calls.len(), 24);
     assert_eq!(calls, header_calls());
 }

@@ -6,7 +6,7 @@ macro_rules! paper_of {
     ($side:ident, $calls:path) => {
         mod $side {
             use oesterwrok::{
-                Asked, Conjunction, Date, DateRecord, DrawerRefused, EmendRefused, Emended,
+                Asked, Clerk, Conjunction, Date, DateRecord, DrawerRefused, EmendRefused, Emended,
                 LeapMonth, Month, Pair, Phase, Reading, Reason, SearchRefused, SheetCounts, Term,
                 YearFacts,
             };
@@ -756,6 +756,137 @@ macro_rules! paper_of {
                     calls::read_sheet(&[0; 7], &mut [], &mut [], &mut []),
                     Err(Reason::BytesAfter)
                 );
+            }
+
+            /// W3, by hand: the first three months from the origin, with the mid-terms ahead 30 14/32, 60 28/32 and 91 10/32; leap 6,
+            /// month 32, before whose end no mid-term comes; and the month after it, which is the second of two big ones.
+            #[test]
+            fn the_clerk_steps() {
+                let origin = Clerk {
+                    month_count: 0,
+                    first_day: 0,
+                    term_day: 30,
+                    small_remainder: 0,
+                    number: 11,
+                    leap: false,
+                    month_length: 29,
+                    first_name: 1,
+                    eclipse: false,
+                    eclipse_remainder: 23,
+                    term_parts: 14,
+                };
+                let twelve = Clerk {
+                    month_count: 1,
+                    first_day: 29,
+                    term_day: 60,
+                    small_remainder: 499,
+                    number: 12,
+                    month_length: 30,
+                    first_name: 30,
+                    eclipse_remainder: 46,
+                    term_parts: 28,
+                    ..origin
+                };
+                let one = Clerk {
+                    month_count: 2,
+                    first_day: 59,
+                    term_day: 91,
+                    small_remainder: 58,
+                    number: 1,
+                    first_name: 60,
+                    eclipse_remainder: 69,
+                    term_parts: 10,
+                    ..origin
+                };
+                assert_eq!(calls::clerk_start(1), Ok(origin));
+                assert_eq!(calls::clerk_step(origin), Ok(twelve));
+                assert_eq!(calls::clerk_step(twelve), Ok(one));
+                assert_eq!(calls::clerk_walk(1, 2), Ok(one));
+                let leap = Clerk {
+                    month_count: 32,
+                    first_day: 944,
+                    term_day: 974,
+                    small_remainder: 928,
+                    number: 6,
+                    leap: true,
+                    month_length: 30,
+                    first_name: 45,
+                    eclipse: false,
+                    eclipse_remainder: 84,
+                    term_parts: 0,
+                };
+                let seven = Clerk {
+                    month_count: 33,
+                    first_day: 974,
+                    term_day: 1_004,
+                    small_remainder: 487,
+                    number: 7,
+                    leap: false,
+                    first_name: 15,
+                    eclipse_remainder: 107,
+                    term_parts: 14,
+                    ..leap
+                };
+                assert_eq!(calls::clerk_walk(1, 32), Ok(leap));
+                assert_eq!(calls::clerk_step(leap), Ok(seven));
+                assert_eq!(Ok(calls::clerk_show(leap)), calls::month_facts(32));
+            }
+
+            /// W3: the bu, 21 before 7, and the last month, past which no step goes.
+            #[test]
+            fn the_clerk_starts_and_ends() {
+                let second = calls::clerk_start(2).unwrap();
+                assert_eq!((second.month_count, second.first_day), (940, 27_759));
+                assert_eq!((second.eclipse_remainder, second.first_name), (43, 40));
+                assert_eq!(calls::clerk_walk(1, 940), Ok(second));
+                for no_bu in [0, 541, (1 << 32) + 1, u64::MAX] {
+                    assert_eq!(calls::clerk_start(no_bu), Err(Reason::Bu));
+                    assert_eq!(calls::clerk_walk(no_bu, u64::MAX), Err(Reason::Bu));
+                }
+                let last = calls::clerk_walk(540, 939).unwrap();
+                assert_eq!((last.month_count, last.first_day), (507_599, 14_989_830));
+                assert_eq!((last.number, last.leap, last.eclipse), (10, true, true));
+                assert_eq!(calls::clerk_walk(1, 507_599), Ok(last));
+                assert_eq!(calls::clerk_step(last), Err(Reason::MonthCount));
+                for steps in [940, 1 << 32, u64::MAX] {
+                    assert_eq!(calls::clerk_walk(540, steps), Err(Reason::MonthCount));
+                }
+            }
+
+            /// W3: a state that no start leads to, every bit of its numbers set, before the last month and not.
+            #[test]
+            fn the_clerk_of_any_numbers() {
+                let full = Clerk {
+                    month_count: u32::MAX,
+                    first_day: u32::MAX,
+                    term_day: u32::MAX,
+                    small_remainder: u16::MAX,
+                    number: u8::MAX,
+                    leap: true,
+                    month_length: u8::MAX,
+                    first_name: u8::MAX,
+                    eclipse: true,
+                    eclipse_remainder: u8::MAX,
+                    term_parts: u8::MAX,
+                };
+                assert_eq!(calls::clerk_step(full), Err(Reason::MonthCount));
+                assert_eq!(calls::clerk_show(full).month, Month::Leap(255));
+                let before = Clerk {
+                    month_count: 507_598,
+                    first_day: 14_989_829,
+                    ..full
+                };
+                let after = Clerk {
+                    month_count: 507_599,
+                    first_day: 14_989_859,
+                    small_remainder: 65_094,
+                    month_length: 30,
+                    first_name: 225,
+                    eclipse: false,
+                    eclipse_remainder: 143,
+                    ..full
+                };
+                assert_eq!(calls::clerk_step(before), Ok(after));
             }
 
             #[test]

@@ -1,10 +1,10 @@
 //! The benchmark: the time of capi, called through the wrapper, beside that of the independent implementation; that of a drawer also
-//! beside capi's own single call. Both sides get the same questions and the same lent memory, which is not cleared between calls;
+//! beside capi's own single call, that of a step of the clerk beside capi's own month by its count. Both sides get the same questions and the same lent memory, which is not cleared between calls;
 //! the sums of all answers must agree.
 
 use oesterwrok::{
-    self as capi, independent as own, Asked, Date, DateRecord, DrawerRefused, EmendRefused,
-    Emended, Reading, LEAP, ORDINARY,
+    self as capi, independent as own, Asked, Clerk, Date, DateRecord, DrawerRefused, EmendRefused,
+    Emended, MonthFacts, Reading, LEAP, ORDINARY,
 };
 use std::hint::black_box;
 use std::process::ExitCode;
@@ -16,6 +16,9 @@ const TIME: Duration = Duration::from_millis(1_500);
 
 /// The days of a yuan of 4,560 years.
 const YUAN_DAYS: u64 = 1_665_540;
+
+/// Its months.
+const YUAN_MONTHS: u64 = 56_400;
 
 /// The most days of a drawer.
 const DRAWER: usize = 4_096;
@@ -51,6 +54,7 @@ fn main() -> ExitCode {
     };
     bench.dates();
     bench.drawers();
+    bench.clerk();
     bench.searches();
     bench.emendings();
     bench.sheets();
@@ -163,6 +167,34 @@ impl Bench {
         };
         beside("single call", one_by_one);
         beside("independent", own::dates);
+    }
+
+    /// The clerk through the months of a yuan, after the first: a step, and a step with what it shows, beside capi's facts of the next
+    /// count; and a step beside the independent one's.
+    fn clerk(&mut self) {
+        let by_counts = || {
+            sum_of(1..=YUAN_MONTHS, |n| {
+                capi::month_facts(n).map_or(0, sum_of_month)
+            })
+        };
+        self.compare(
+            "a step, every month of a yuan; month_facts of the next count",
+            YUAN_MONTHS,
+            || stepped(capi::clerk_step, own::clerk_show),
+            by_counts,
+        );
+        self.compare(
+            "a step and show, every month of a yuan; month_facts",
+            YUAN_MONTHS,
+            || stepped(capi::clerk_step, capi::clerk_show),
+            by_counts,
+        );
+        self.compare(
+            "a step, every month of a yuan; independent",
+            YUAN_MONTHS,
+            || stepped(capi::clerk_step, own::clerk_show),
+            || stepped(own::clerk_step, own::clerk_show),
+        );
     }
 
     /// Searches of a full window, the lent list having a place for each of its days; and one into a list of one place, so that
@@ -313,6 +345,32 @@ fn sum_of_date(date: Date) -> u64 {
     ];
     let turned = |sum: u32, field: &u32| sum.rotate_left(3) ^ field;
     u64::from(fields.iter().fold(date.year, turned))
+}
+
+/// One number out of every field of a month's facts.
+fn sum_of_month(facts: MonthFacts) -> u64 {
+    let fields = [
+        facts.month.number(),
+        u32::from(facts.month.is_leap()),
+        facts.small_remainder,
+        facts.month_length,
+        facts.first_name,
+        u32::from(facts.eclipse),
+    ];
+    let turned = |sum: u32, field: &u32| sum.rotate_left(3) ^ field;
+    u64::from(fields.iter().fold(facts.first_day, turned))
+}
+
+/// Steps through the months of a yuan, each from the state before it, and the sum of what each shows.
+fn stepped(
+    step: impl Fn(Clerk) -> Result<Clerk, capi::Reason>,
+    show: impl Fn(Clerk) -> MonthFacts,
+) -> u64 {
+    let mut at = black_box(own::clerk_start(1));
+    repeat(YUAN_MONTHS, || {
+        at = at.and_then(&step);
+        at.map_or(0, |clerk| sum_of_month(show(clerk)))
+    })
 }
 
 /// A filling of a drawer, of either side.

@@ -1,6 +1,7 @@
 //! The cross-check: asks capi and the independent implementation the same, and compares whole answers and whole lent memory.
 //! It prints a table and ends with a non-zero status at any difference.
 
+mod clerks;
 mod dates;
 mod drawers;
 mod emendings;
@@ -71,6 +72,7 @@ fn all_rows() -> Vec<Row> {
     rows.extend(planets::rows(SEED + 60));
     rows.extend(drawers::rows(SEED + 70));
     rows.extend(emendings::rows(SEED + 80));
+    rows.extend(clerks::rows(SEED + 90));
     rows.extend(walked::rows());
     rows
 }

@@ -19,7 +19,7 @@ pub struct Tally {
     /// How many of them were equal.
     pub equal: u64,
     /// How often each reason was met by the independent one; 0 counts the answers.
-    pub met: [u64; 21],
+    pub met: [u64; 22],
     /// The first differences.
     pub first: Vec<String>,
 }

@@ -184,7 +184,7 @@ fn every_month(what: &'static str, compare: fn(Walked, &mut Tally)) -> Row {
 }
 
 /// A row of one walk from end to end.
-fn one_piece(what: &'static str, compare: fn(&mut Tally)) -> Row {
+pub fn one_piece(what: &'static str, compare: fn(&mut Tally)) -> Row {
     Row {
         what,
         pieces: vec![Box::new(compare)],
