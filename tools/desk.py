@@ -6,8 +6,8 @@ The desk's first lines are worked by hand from the issue's and the paper's own f
 by a generator with a fixed seed, sound and damaged, enough to pass the 65,536 bytes that the program reads at a time. After these
 stand the notes and the pairs, by hand and drawn by a second generator; then days about the turns of civil years and dates of the
 years at both ends, drawn by a third; then days about the heads of bu and the turns of eclipse months, drawn by a fourth; then the
-misread slips, by hand and drawn by a fifth: so no line before them changes. The last line has no newline. The lines of `echo` are a
-short page that tries what it does with notes, queries and lines of any length.
+misread slips, by hand and drawn by a fifth; then the clerk's walks, by hand and drawn by a sixth: so no line before them changes. The
+last line has no newline. The lines of `echo` are a short page that tries what it does with notes, queries and lines of any length.
 
 usage: tools/desk.py            write stdin and stdout of crates/desk and crates/echo
        tools/desk.py --check    say whether what stands is what it computes (exit status 1 if not)
@@ -462,6 +462,78 @@ def slips(desk):
     return lines
 
 
+# The clerk's walks.
+
+WALKS = """# the clerk from the origin: the first months of all, the first eclipse month, the first leap month, two big months in a row
+CLERK 1 0
+CLERK 1 1
+CLERK 1 2
+CLERK 1 3
+CLERK 1 5
+CLERK 1 31
+CLERK 1 32
+CLERK 1 33
+CLERK 1 128
+CLERK 1 129
+CLERK 1 134
+CLERK 1 135
+# a whole bu, the next bu's head, the last of them; all months at once
+CLERK 1 939
+CLERK 1 940
+CLERK 2 0
+CLERK 124 0
+CLERK 124 1
+CLERK 124 210
+CLERK 540 0
+CLERK 540 938
+CLERK 540 939
+CLERK 1 507598
+CLERK 1 507599
+# refused: 21, 7, and in this order
+CLERK 0 0
+CLERK 541 0
+CLERK 0 507600
+CLERK 541 507600
+CLERK 540 940
+CLERK 539 1880
+CLERK 1 507600
+CLERK 1 4294967295
+CLERK 1 4294967296
+CLERK 4294967297 0
+CLERK 4294967297 4294967296
+CLERK 18446744073709551617 0
+CLERK 1 18446744073709551616
+CLERK 541 18446744073709551616
+# no walks
+CLERK
+CLERK 1
+CLERK 1 2 3
+CLERK 01 2
+CLERK 1 02
+CLERK -1 2
+CLERK 1 -2
+CLERK ? 2
+CLERK 1 ?
+CLERK  1 2
+CLERK 1 2 
+ CLERK 1 2
+CLERKS 1 2
+CLER 1 2
+clerk 1 2
+CLERK 0 11 - 29 1 - 0 0
+""".split("\n")[:-1]
+
+
+def walks(desk):
+    draw = random.Random(20261120)
+    lines = list(WALKS)
+    for turn in range(120):
+        bu = draw.choice((draw.randint(1, 540), draw.randint(0, 541), 1, 540))
+        line = f"CLERK {bu} {draw.choice((draw.randint(0, 40), draw.randint(0, 940), draw.randint(0, 940 * max(0, 541 - bu) + 1)))}"
+        lines.append(damaged(line, draw) if turn % 8 == 0 else line)
+    return [line.encode() for line in lines]
+
+
 LAST = [b"# the last line has no newline", b"PAIR 3"]
 
 
@@ -488,6 +560,7 @@ SEARCH 27 9 ? 30 ? ? 3600 3700
 EMEND 27 9 ? 1 ? ? 3600 4000
 EMEND 27 9 - 29 ? 58 3600 4000
 EMEND 27 9 - 30 ? 59 3600 3700
+CLERK 1 134
 # and refused
 PLACE 0
 YEAR 41041
@@ -503,6 +576,8 @@ DATE 0 10 - 1
 MOVE 0 11 - 1 -1
 SEARCH 61 ? ? ? ? ? 0 5
 EMEND 61 ? ? ? ? ? 0 5
+CLERK 541 0
+CLERK 540 940
 # No queries: a word of the answers, a space before the mark of a note, letters for a number, an empty line, a space, a return
 UNREADABLE
  # not a note
@@ -531,7 +606,7 @@ def main():
             sys.stdout.buffer.write(b"".join(map(call, lines_in(sys.stdin.buffer.read()))))
             return 0
     files = {}
-    asked = queries(desk) + added(desk) + turns(desk) + places(desk) + slips(desk) + LAST
+    asked = queries(desk) + added(desk) + turns(desk) + places(desk) + slips(desk) + walks(desk) + LAST
     for program, lines, call in (("desk", asked, desk.answer), ("echo", echo_lines(), desk.echo)):
         files[ROOT / "crates" / program / "stdin"] = b"\n".join(lines)
         files[ROOT / "crates" / program / "stdout"] = b"".join(map(call, lines))

@@ -25,6 +25,7 @@ FOUND total
 FITS total
 EMENDED total
 EMENDATION day field read should-be
+CLERK count number mark first-name length eclipse first-day small-remainder
 """
 SHAPES = {line.split()[0]: line.split() for line in SHAPES.strip().split("\n")}
 

@@ -25,7 +25,7 @@ HOME = ROOT / "crates" / "tray"
 TRAY, KEPT = "# THE REJECT TRAY", "# WHAT MUST NOT BE REJECTED"
 SECOND, SECONDS = "# second of two big: month ", "# seconds of two big in a bu: "
 THIRTIETH = "EMENDATION 3838 4 29 30"
-REASONS = {1, 2, 3, 4, 5, 6, 7, 8, 13, 14, 15, 16, 19, 20}
+REASONS = {1, 2, 3, 4, 5, 6, 7, 8, 13, 14, 15, 16, 19, 20, 21}
 NOT_WHOLE = {0: (1, 10, 11, 12), YEARS: (10, 11, 12)}
 
 

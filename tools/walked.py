@@ -357,6 +357,7 @@ FORMS = {
     "MOVE": [N, N, M, N, S],
     "SEARCH": [F, F, G, F, F, F, N, N],
     "EMEND": [F, F, G, F, F, F, N, N],
+    "CLERK": [N, N],
 }
 FORMS = {word: re.compile(b" ".join([word.encode(), *fields])) for word, fields in FORMS.items()}
 MARKS = {b"-": 1, b"L": 2, b"?": None}
@@ -474,6 +475,13 @@ class Desk:
         if not 0 <= n < MONTHS:
             return [refused(7)]
         return [f"MONTH {month_fields(self, n)} {self.c.starts[n]} {self.c.small_remainder(n)}"]
+
+    def clerk(self, bu, steps):
+        """So many months on from a bu's head: each bu of 76 solstice years begins with the month of its first one."""
+        if not 1 <= bu <= YEARS // 76:
+            return [refused(21)]
+        n = self.c.months_of_solstice[76 * (bu - 1) + 1][0] + steps
+        return [self.month(n)[0].replace("MONTH", "CLERK")]
 
     def quarter(self, n, q):
         if not 0 <= n < MONTHS:

@@ -1,5 +1,6 @@
 // The desk program's answers, put into a lent buffer: one function a query, the query already taken apart into numbers. First those of
-// facts and planets, then those that are `DAY` lines: of a day, of a date, of a move, of a search; last that of an emendation. All are inner:
+// facts and planets, then those that are `DAY` lines: of a day, of a date, of a move, of a search; then that of an emendation, last that of
+// the clerk. All are inner:
 // each asks for room. A one-line answer takes 120 bytes at most, so that the caller has one need of room for all of them.
 ghost use mathlib.Core.List.{[], _∷_};
 ghost use Prim.Native.Nat.{ℕ, _+_, _*_, _≤_, _<_};
@@ -15,7 +16,7 @@ ghost use Rattle.told.specs.Answers.{
   placeText,
   yearLine,
   yearText,
-  monthLineOf,
+  lineOfMonth,
   monthText,
   quarterLine,
   quarterText,
@@ -43,7 +44,9 @@ ghost use Rattle.told.specs.Answers.{
   lineFrom,
   emendationLines,
   emendText,
+  clerkText,
 };
+use clerk::ClerkTold;
 use dates::Date;
 use dates::Dated;
 use dates::DayTold;
@@ -161,16 +164,17 @@ pub fn answer_place(year: u32, out: &mut [u8], at: usize) -> usize
     }
 }
 
-// A `MONTH` line: the listing's fields, then the first day and the small remainder.
-fn put_month_line(n: u32, f: MonthFacts, out: &mut [u8], at: usize) -> usize
-    requires { ⌜ at + 76 ≤ length (now out) ⌝ }
-    ensures { λ r. ⌜ Put 76 (now (out .entry)) at (monthLineOf n f) (now (out .exit)) r ⌝ }
+// A month's line behind a word: the listing's fields, then the first day and the small remainder.
+fn put_month_line(name: &[u8], n: u32, f: MonthFacts, out: &mut [u8], at: usize) -> usize
+    requires { ⌜ at + length (now name) + 71 ≤ length (now out) ⌝ }
+    ensures { λ r. ⌜ Put (length (now (name .entry)) + 71) (now (out .entry)) at (lineOfMonth (now (name .entry)) n f) (now (out .exit)) r ⌝ }
 {
-    let to1 = fields::put_bytes(b"MONTH ", out, at);
-    let to2 = lines::put_month_fields(n, f, out, to1);
-    let to3 = fields::put_next(f.first_day, out, to2);
-    let to4 = fields::put_next(f.small_remainder as u32, out, to3);
-    fields::put_byte(10, out, to4)
+    let to1 = fields::put_bytes(name, out, at);
+    let to2 = fields::put_byte(32, out, to1);
+    let to3 = lines::put_month_fields(n, f, out, to2);
+    let to4 = fields::put_next(f.first_day, out, to3);
+    let to5 = fields::put_next(f.small_remainder as u32, out, to4);
+    fields::put_byte(10, out, to5)
 }
 
 // The answer to `MONTH count`.
@@ -179,7 +183,7 @@ pub fn answer_month(n: u32, out: &mut [u8], at: usize) -> usize
     ensures { λ r. ⌜ Put 120 (now (out .entry)) at (monthText n) (now (out .exit)) r ⌝ }
 {
     match facts::month_facts(n) {
-        MonthTold::Is(f) => put_month_line(n, f, out, at),
+        MonthTold::Is(f) => put_month_line(b"MONTH", n, f, out, at),
         MonthTold::Refused(why) => put_refusal(why, out, at),
     }
 }
@@ -522,5 +526,16 @@ pub fn answer_emend(
         }
         Emended::TooShort(_) => put_refusal(Reason::LentTooShort, out, at),
         Emended::Refused(why) => put_refusal(why, out, at),
+    }
+}
+
+// The answer to `CLERK bu steps`: what the clerk shows after so many steps.
+pub fn answer_clerk(b: u32, steps: u32, out: &mut [u8], at: usize) -> usize
+    requires { ⌜ at + 120 ≤ length (now out) ⌝ }
+    ensures { λ r. ⌜ Put 120 (now (out .entry)) at (clerkText b steps) (now (out .exit)) r ⌝ }
+{
+    match clerk::walk(b, steps) {
+        ClerkTold::Is(c) => put_month_line(b"CLERK", c.month_count, clerk::show(c), out, at),
+        ClerkTold::Refused(why) => put_refusal(why, out, at),
     }
 }

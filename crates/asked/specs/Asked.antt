@@ -60,6 +60,7 @@ table p slip =
     ∷ row "MOVE n n m n s" (Query.Move (p .n1) (p .n2) (p .m3) (p .n4) (p .s5))
     ∷ row "SEARCH f f g f f f n n" (Query.Search slip (p .n7) (p .n8))
     ∷ row "EMEND f f g f f f n n" (Query.Emend slip (p .n7) (p .n8))
+    ∷ row "CLERK n n" (Query.Clerk (p .n1) (p .n2))
     ∷ []
 
 -- the table, with what stands in the places of a line

@@ -34,6 +34,7 @@ pub enum Query {
     Move(u32, u32, bool, u32, i64),
     Search(Slip, u32, u32),
     Emend(Slip, u32, u32),
+    Clerk(u32, u32),
 }
 
 // The slip in places 1 to 6 of a line.
@@ -116,7 +117,8 @@ fn form_number(line: &[u8]) -> usize
     let k10 = forms::past(k9, 9, b"DATE n n m n", line);
     let k11 = forms::past(k10, 10, b"MOVE n n m n s", line);
     let k12 = forms::past(k11, 11, b"SEARCH f f g f f f n n", line);
-    forms::past(k12, 12, b"EMEND f f g f f f n n", line)
+    let k13 = forms::past(k12, 12, b"EMEND f f g f f f n n", line);
+    forms::past(k13, 13, b"CLERK n n", line)
 }
 
 // The query of a line that is like a form, counted from 0.
@@ -138,6 +140,7 @@ fn query_of(k: usize, line: &[u8]) -> Query
         10 => Query::Move(w.n1, w.n2, w.m3, w.n4, w.s5),
         11 => Query::Search(read_slip(line), w.n7, w.n8),
         12 => Query::Emend(read_slip(line), w.n7, w.n8),
+        13 => Query::Clerk(w.n1, w.n2),
         _ => Query::Unreadable,
     }
 }

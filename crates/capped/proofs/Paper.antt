@@ -28,6 +28,11 @@ use Rattle.planets.specs.Planets.{numbersOf, conjunctionDay, conjunctionOf, con
 use Rattle.planets.specs.Paper.{Good}
 use Rattle.planets.proofs.Moments.{count-first}
 use Rattle.planets.proofs.Paper.{good-planets}
+use Rattle.clerk.specs.declared.Clerk.{Clerk}
+use Rattle.clerk.specs.Clerk.{head, startAt, walked}
+use Rattle.clerk.specs.Paper.{countOf}
+use Rattle.clerk.proofs.Steps.{clerkAt}
+use Rattle.clerk.proofs.Gone.{walk-closed}
 use Rattle.reading.specs.declared.Field.{Field}
 use Rattle.reading.specs.declared.Field.the-variants.{Known, Unread}
 use Rattle.reading.specs.declared.Reading.{Reading}
@@ -169,8 +174,22 @@ next-capped p d =
     guard (leb (conjunctionDay (numbersOf i) (nextCount (numbersOf i) j)) 14989859) 20 (is (nextOf (numbersOf i) (nextCount (numbersOf i) j))))
     p d
 
+-- of so many steps that were cut down none stays in range
+walk-capped : (b k : ℕ) → walked (capped b) (capped k) ≡ walked b k
+walk-capped b k =
+    walk-closed (capped b) (capped k)
+    ∙ behind-a-test Clerk (within 1 540) (from-one 540 (omega arith)) 21 (λ i. at i (capped k)) b
+    ∙ ap (guard (within 1 540 b) 21) (behind-a-test Clerk (λ j. leb (countOf b j) 507599) (steps-settled b) 7 (λ j. is (clerkAt (countOf b j))) k)
+    ∙ sym (walk-closed b k)
+  where
+    at : ℕ → ℕ → Answer Clerk
+    at i j = guard (leb (countOf i j) 507599) 7 (is (clerkAt (countOf i j)))
+
+    steps-settled : (c : ℕ) → Settled (λ j. leb (countOf c j) 507599)
+    steps-settled c = none-behind (λ j. leb (countOf c j) 507599) (λ j h. lt-leb (countOf c j) 507599 (omega arith))
+
 pub capped-alike : Capped-alike
-unfolding dateAt solsticeYearAt yearFactsAt monthFactsAt quarterAt termAt
+unfolding dateAt solsticeYearAt yearFactsAt monthFactsAt quarterAt termAt startAt
 capped-alike =
     record {
       date = λ d. behind-a-test Date (λ n. leb n 14989859) (at-most 14989859 (omega arith)) 6 (λ n. is (dateOf n)) d;
@@ -186,6 +205,8 @@ capped-alike =
       conjunction = λ p k. planet-capped p (capped k) ∙ count-capped p k;
       next = next-capped;
       pair = pair-capped;
+      clerk = λ b. behind-a-test Clerk (within 1 540) (from-one 540 (omega arith)) 21 (λ i. is (head i)) b;
+      walk = walk-capped;
     }
 
 -- a field, and a reading

@@ -9,6 +9,7 @@ use Rattle.dates.specs.Dates.{dateAt, dayOfDate}
 use Rattle.moves.specs.Moves.{moved}
 use Rattle.facts.specs.Facts.{solsticeYearAt, yearFactsAt, monthFactsAt, quarterAt, termAt}
 use Rattle.planets.specs.Planets.{conjunctionAt, nextAt, pairAt}
+use Rattle.clerk.specs.Clerk.{startAt, walked}
 use Rattle.reading.specs.declared.Reading.{Reading}
 use Rattle.reading.specs.Search.{whereGood}
 use Rattle.capped.specs.Capped.{capped, cappedMove, cappedReading}
@@ -38,6 +39,8 @@ pub record Capped-alike : Type 0 where
   pub conjunction : (p k : ℕ) → conjunctionAt (capped p) (capped k) ≡ conjunctionAt p k
   pub next : (p d : ℕ) → nextAt (capped p) (capped d) ≡ nextAt p d
   pub pair : (p : ℕ) → pairAt (capped p) ≡ pairAt p
+  pub clerk : (b : ℕ) → startAt (capped b) ≡ startAt b
+  pub walk : (b k : ℕ) → walked (capped b) (capped k) ≡ walked b k
 
 -- of a search and of an emendation: nothing was cut down, or both are refused with one reason, whatever comes after the tests
 pub data AlikeSearch (r : Reading) (first last : ℕ) : Type 1 where

@@ -6,14 +6,15 @@ use mathlib.Core.Logic.{_↔_}
 use mathlib.Core.Bool.{Bool, true, false}
 use lib.Dec.{leb}
 use borrow.Author.Tests.{leb-true, leb-false}
-use Rattle.rule.specs.Rule.{monthStart}
+use Rattle.rule.specs.Rule.{monthStart, monthAt}
 use Rattle.rule.specs.Reasons.{Answer, is, refused, refused-with, guard, within, andThen}
 use Rattle.rule.proofs.Answers.{within-true, holds-all, passes, stops, same-given, given-not, fails}
 use Rattle.rule.proofs.Months.{start-rises}
 use Rattle.rule.proofs.Computing.{rule-computed}
+use Rattle.facts.specs.Facts.{monthFacts}
 use Rattle.clerk.specs.declared.Clerk.{Clerk}
 use Rattle.clerk.specs.declared.ClerkTold.the-variants.{Is}
-use Rattle.clerk.specs.Clerk.{beforeLast, stepped, stepAt, head, startAt, walked, StartsAt, StepsOn}
+use Rattle.clerk.specs.Clerk.{beforeLast, stepped, stepAt, head, startAt, walked, shown, StartsAt, StepsOn}
 use Rattle.clerk.specs.Paper.{BuInRange, Gone, at-the-head, one-more, countOf}
 use Rattle.clerk.proofs.Answered.{before-last, walked-refused}
 use Rattle.clerk.proofs.Steps.{clerkAt, step-at, head-at}
@@ -34,14 +35,18 @@ step-given c d p = let g = given (beforeLast c) 7 (stepped c) d p in (before-las
 count-on : (b k : ℕ) → countOf b k + 1 ≡ countOf b (suc k)
 count-on b k = omega arith
 
--- the count of the clerk at month n, and its first day
-count-at : (n : ℕ) → clerkAt n .«month_count» ≡ n
+-- the count of the clerk at month n, its first day, and what it shows
+pub count-at : (n : ℕ) → clerkAt n .«month_count» ≡ n
 unfolding clerkAt
 count-at n = refl
 
 first-at : (n : ℕ) → clerkAt n .«first_day» ≡ monthStart n
 unfolding clerkAt
 first-at n = refl
+
+pub shown-at : (n : ℕ) → shown (clerkAt n) ≡ monthFacts n
+unfolding shown clerkAt monthFacts monthAt
+shown-at n = refl
 
 -- where they lead
 pub gone-at : (b k : ℕ) (c : Clerk) → Gone b k c → BuInRange b × (countOf b k ≤ 507599) × (c ≡ clerkAt (countOf b k))
@@ -100,13 +105,16 @@ step-last =
     stops (beforeLast (clerkAt 507599)) 7 (is (stepped (clerkAt 507599)))
     (fails (beforeLast (clerkAt 507599)) (before-last (clerkAt 507599)) .1 (λ h. omega (arith, h .0, count-at 507599)))
 
+pub walk-there : (b k : ℕ) → BuInRange b → countOf b k ≤ 507599 → walked b k ≡ is (clerkAt (countOf b k))
+walk-there b k r l = sym (gone-walk b k (clerkAt (countOf b k)) (gone-to b k r l))
+
 -- one that passes the last month
 passed-last : (b k : ℕ) → BuInRange b → 507599 < countOf b k → walked b k ≡ refused 7
 unfolding walked
 passed-last b k r l =
     let j = 507599 - 940 * (b - 1) in
     let e : countOf b j ≡ 507599 = omega (arith, r .1) in
-    let there : walked b j ≡ is (clerkAt 507599) = sym (gone-walk b j (clerkAt (countOf b j)) (gone-to b j r (omega (arith, e)))) ∙ ap (λ n. is (clerkAt n)) e in
+    let there : walked b j ≡ is (clerkAt 507599) = walk-there b j r (omega (arith, e)) ∙ ap (λ n. is (clerkAt n)) e in
     let over : walked b (suc j) ≡ refused 7 = ap (λ a. andThen a stepAt) there ∙ step-last in
     ap (walked b) {x = k} {y = suc j + (k - suc j)} (omega (arith, l, r .1)) ∙ walked-refused b (suc j) (k - suc j) 7 over
 
@@ -118,5 +126,5 @@ walk-closed b k = go (within 1 540 b) (leb (countOf b k) 507599) refl refl
     go false l e f =
         ap (walked b) {x = k} {y = 0 + k} (omega arith) ∙ walked-refused b 0 k 21 (stops (within 1 540 b) 21 (is (head b)) e)
     go true true e f =
-        sym (gone-walk b k (clerkAt (countOf b k)) (gone-to b k (within-true 1 540 b .0 e) (leb-true (countOf b k) 507599 f)))
+        walk-there b k (within-true 1 540 b .0 e) (leb-true (countOf b k) 507599 f)
     go true false e f = passed-last b k (within-true 1 540 b .0 e) (leb-false (countOf b k) 507599 f)

@@ -7,14 +7,13 @@ use mathlib.Core.Bool.{Bool, true, false, false≢true, and-eq-true-iff}
 use lib.Dec.{eqb, leb}
 use borrow.Author.Tests.{eqb-true}
 use Rattle.rule.specs.Counts.{yearInBu}
-use Rattle.rule.specs.Rule.{monthLength, termDay, midTermDay, solsticeFirstMonth, big, pairStarts, monthAt}
+use Rattle.rule.specs.Rule.{monthLength, termDay, midTermDay, solsticeFirstMonth, big, pairStarts}
 use Rattle.rule.specs.Reasons.{Answer, is, refused, reasonNumber, guard, within, reasonOf}
 use Rattle.rule.specs.declared.Reason.{Reason}
 use Rattle.rule.specs.declared.Reason.the-variants.{NoSuchMonth, NoSuchBu}
 use Rattle.rule.proofs.Answers.{reason-back, within-true, at-most, read-back, once, one-refused, one-only, two-first, two-second, two-only}
 use Rattle.rule.proofs.Computing.{rule-computed}
 use Rattle.facts.specs.declared.MonthFacts.{MonthFacts}
-use Rattle.facts.specs.Facts.{monthFacts}
 use Rattle.facts.proofs.Given.{month-given}
 use Rattle.clerk.specs.declared.Clerk.{Clerk}
 use Rattle.clerk.specs.declared.ClerkTold.{ClerkTold}
@@ -24,14 +23,10 @@ use Rattle.clerk.specs.Paper.{BuInRange, Gone, BuHead, OneOn, countOf}
 use Rattle.clerk.specs.Paper
 use Rattle.clerk.proofs.Answered.{before-last}
 use Rattle.clerk.proofs.Steps.{termAt, clerkAt}
-use Rattle.clerk.proofs.Gone.{start-given, step-given, gone-at, gone-to, before-at, walk-gone, gone-walk, walk-closed}
+use Rattle.clerk.proofs.Gone.{start-given, step-given, gone-at, gone-to, before-at, walk-gone, gone-walk, walk-there, walk-closed, shown-at}
 use Rattle.clerk.proofs.Additions.{one-on}
 
--- what the clerk at month n shows
-shown-at : (n : ℕ) → shown (clerkAt n) ≡ monthFacts n
-unfolding shown clerkAt monthFacts monthAt
-shown-at n = refl
-
+-- the count and the length of the clerk at month n
 fields-at : (n : ℕ) → (clerkAt n .«month_count» ≡ n) × (clerkAt n .«month_length» ≡ monthLength n)
 unfolding clerkAt
 fields-at n = (refl, refl)
@@ -233,7 +228,7 @@ day-29 c p = ap (λ (d : Clerk). d .«first_day») (walked-to 1 1 c p)
 -- no walk that stays in range is refused
 not-refused : (b k : ℕ) (why : Reason) → BuInRange b → countOf b k ≤ 507599 → WalksOn b k (Refused why) → ⊥
 not-refused b k why r l p =
-    let o : is (clerkAt (countOf b k)) ≡ refused (reasonNumber why) = gone-walk b k (clerkAt (countOf b k)) (gone-to b k r l) ∙ sym p in
+    let o : is (clerkAt (countOf b k)) ≡ refused (reasonNumber why) = sym (walk-there b k r l) ∙ sym p in
     let z : _≡_ {A = ℕ} 0 1 = cc in
     omega arith
 

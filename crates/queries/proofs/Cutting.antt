@@ -47,6 +47,8 @@ use Rattle.told.specs.Answers.{
   searchText,
   outcomeText,
   emendText,
+  clerkLine,
+  clerkText,
 }
 use Rattle.capped.specs.Capped.{capped, cappedMove, cappedField, cappedReading}
 use Rattle.capped.specs.Paper.{Settled, AlikeSearch, whole, both}
@@ -143,6 +145,10 @@ emend-capped =
     whereNoneFits (total r first last) (guard-with (leb (4 * n) places) 12 n (is (emended n)))
     )
 
+clerk-capped : (b k : ℕ) → clerkText (capped b) (capped k) ≡ clerkText b k
+unfolding clerkText
+clerk-capped b k = ap (told clerkLine) (capped-alike .walk b k)
+
 -- a move and a field in a line
 back-capped : (v : ℕ) → back (capped v) ≡ cappedMove (back v)
 back-capped zero = refl
@@ -208,6 +214,7 @@ module _ (s : List ℕ) where
         move-capped,
         search-capped,
         emend-capped,
+        clerk-capped,
       )
 
   same-answer : answered s (readBy capped s) ≡ answered s (read s)

@@ -62,6 +62,7 @@ each-query-literally =
       emend = λ a b c d e first last. written-is-answered (Query.Emend (slip (Known a) (Known b) (Seen true) (Known c) (Known d) (Known e)) first last);
       ordinary-emend = λ a first last. written-is-answered (Query.Emend (slip (Known a) Unread (Seen false) Unread Unread Unread) first last);
       unread-emend = λ first last. written-is-answered (Query.Emend (slip Unread Unread Unseen Unread Unread Unread) first last);
+      clerk = λ b k. written-is-answered (Query.Clerk b k);
     }
 
 pub note-as-it-stands : Note-as-it-stands

@@ -23,6 +23,7 @@ use Rattle.told.specs.Answers.{
   moveText,
   searchText,
   emendText,
+  clerkText,
 }
 use Rattle.asked.specs.declared.Query.{Query}
 use Rattle.asked.specs.Paper.{written}
@@ -83,6 +84,7 @@ pub record Each-query-literally : Type 0 where
       (emendText (slipRead (Known a) Unread (Known 1) Unread Unread Unread) first last)
   pub unread-emend : (first last : ℕ) →
       Line (word "EMEND ? ? ? ? ? ?" ++ (spaced first ++ spaced last)) (emendText (slipRead Unread Unread Unread Unread Unread Unread) first last)
+  pub clerk : (b k : ℕ) → Line (word "CLERK" ++ (spaced b ++ spaced k)) (clerkText b k)
 
 -- every query that is written in "at most 200 bytes without its newline" has its answer
 abbrev pub Written-is-answered : Type 0

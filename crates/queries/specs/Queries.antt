@@ -28,6 +28,7 @@ use Rattle.told.specs.Answers.{
   moveText,
   searchText,
   emendText,
+  clerkText,
 }
 
 -- "A line that is no query is `UNREADABLE`"
@@ -67,6 +68,7 @@ answered s (Query.Date y k l d) = dateText y k l d
 answered s (Query.Move y k l d n) = moveText y k l d n
 answered s (Query.Search r a b) = searchText (readingOf r) a b
 answered s (Query.Emend r a b) = emendText (readingOf r) a b
+answered s (Query.Clerk b k) = clerkText b k
 
 -- the answer to a line: "each at most 200 bytes without its newline"
 unfoldable pub answerTo : List ℕ → List ℕ

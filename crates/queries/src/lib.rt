@@ -101,6 +101,7 @@ fn answer(q: Query, line: &[u8], days: &mut [u32], out: &mut [u8], at: usize) ->
         Query::Move(y, k, l, d, n) => answers::answer_move(y, k, l, d, n, out, at),
         Query::Search(s, a, b) => answer_slip(s, a, b, days, out, at),
         Query::Emend(s, a, b) => emend_slip(s, a, b, days, out, at),
+        Query::Clerk(b, k) => answers::answer_clerk(b, k, out, at),
     }
 }
 

@@ -1,7 +1,7 @@
 -- The statements of specs/Paper, proved, each under its own name. Assumes nothing.
 use Prim.Native.Nat.{ℕ, _+_, _-_, _*_}
 use native.Mathlib.Omega.{arith}
-use mathlib.Core.Path.{_≡_, refl, ap, sym, subst, _∙_}
+use mathlib.Core.Path.{_≡_, refl, ap, ap₂, sym, subst, _∙_}
 use mathlib.Core.Bool.{Bool}
 use mathlib.Core.List.{List, [], _∷_, _++_, append-assoc}
 use lib.Dec.{leb}
@@ -47,6 +47,10 @@ use Rattle.reading.proofs.Rows as Searches
 use Rattle.emending.specs.Faults.{emendations}
 use Rattle.emending.specs.Emended.{Outcome, fit, emended, emendTotal, emendAt}
 use Rattle.emending.proofs.Rows as Emends
+use Rattle.clerk.specs.Clerk.{walked}
+use Rattle.clerk.specs.Paper.{countOf}
+use Rattle.clerk.proofs.Steps.{clerkAt}
+use Rattle.clerk.proofs.Gone.{count-at, shown-at, walk-there, walk-closed}
 use Rattle.fields.specs.Fields.{word, digits, decimal, followed, each}
 use Rattle.told.specs.Answers.{
   places,
@@ -57,6 +61,7 @@ use Rattle.told.specs.Answers.{
   leapCount,
   yearLine,
   yearText,
+  lineOfMonth,
   monthLineOf,
   monthText,
   quarterLine,
@@ -84,6 +89,8 @@ use Rattle.told.specs.Answers.{
   emendationLines,
   outcomeText,
   emendText,
+  clerkLine,
+  clerkText,
 }
 use Rattle.told.specs.Paper as Paper
 use Rattle.told.proofs.Telling.{words-back, as-refusal}
@@ -121,6 +128,14 @@ year-line-literally =
 pub month-line-literally : Paper.Month-line-literally
 unfolding monthText monthLineOf monthFacts followed
 month-line-literally n h = ap (told (monthLineOf n)) (Given.month-given n h) ∙ rw (number-at n, mark-at n) refl
+
+pub clerk-line-literally : Paper.Clerk-line-literally
+unfolding clerkText clerkLine monthFacts followed
+clerk-line-literally b k r h =
+    let n = countOf b k in
+    ap (told clerkLine) (walk-there b k r h)
+    ∙ ap₂ (lineOfMonth (word "CLERK")) (count-at n) (shown-at n)
+    ∙ rw (number-at n, mark-at n) refl
 
 pub quarter-line-literally : Paper.Quarter-line-literally
 unfolding quarterText quarterLine quarterOf followed
@@ -266,13 +281,18 @@ moved-never-with : (y k : ℕ) (l : Bool) (m : ℕ) (n : ℤ) → NeverWith (mov
 unfolding moved
 moved-never-with y k l m n = never-then (dayOfDate y k l m) _ (date-never-with y k l m) (λ d. landed-never-with (pos d +ℤ n))
 
+walked-never-with : (b k : ℕ) → NeverWith (walked b k)
+walked-never-with b k =
+    let n = countOf b k in
+    subst NeverWith (sym (walk-closed b k)) (never-two (within 1 540 b) 21 (leb n 507599) 7 (clerkAt n))
+
 -- what the texts, their first bytes and the answers they tell are computed with, for the `unfolding` line below
 texts : ℕ
-unfolding placeText yearText monthText quarterText termText conjunctionText nextText pairText dayText dateText moveText searchText emendText
+unfolding placeText yearText monthText quarterText termText conjunctionText nextText pairText dayText dateText moveText searchText emendText clerkText
 texts = 0
 
 firsts : ℕ
-unfolding placeLine yearLine monthLineOf quarterLine termLine conjunctionLine nextLine pairLine dayLine dayLineOf foundLine followed
+unfolding placeLine yearLine monthLineOf quarterLine termLine conjunctionLine nextLine pairLine dayLine dayLineOf foundLine clerkLine followed
 firsts = 0
 
 answered : ℕ
@@ -309,6 +329,7 @@ refusals-told =
       emend = λ r first last.
           tells-refusal (outcomeText (emendations r first (windowDays first last))) (emendAt r first last places)
           (λ x e. outcome-first (emendations r first (windowDays first last)) x) (emended-never-with r first last);
+      clerk = λ b k. tells-refusal clerkLine (walked b k) (λ x e. refl) (walked-never-with b k);
     }
 
 pub never-twelve : Paper.Never-twelve

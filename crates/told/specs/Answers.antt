@@ -30,6 +30,8 @@ use Rattle.reading.specs.Readings.{windowDays, fitting}
 use Rattle.reading.specs.Search.{searchAt}
 use Rattle.emending.specs.Faults.{emendations}
 use Rattle.emending.specs.Emended.{Outcome, fit, emended, emendAt}
+use Rattle.clerk.specs.declared.Clerk.{Clerk}
+use Rattle.clerk.specs.Clerk.{walked, shown}
 use Rattle.fields.specs.Fields.{word, decimal, mark, leapText, lined, each, letterE}
 use Rattle.penned.specs.Lines.{fieldsOfMonth, fieldsOfYear, fieldsOfDay, wordsOf}
 
@@ -76,9 +78,13 @@ yearLine y f = lined (fieldsOfYear y f ++ (word "FIRST" ∷ decimal (f .«first_
 unfoldable pub yearText : ℕ → List ℕ
 yearText y = told (yearLine y) (yearFactsAt y)
 
--- `MONTH count`: `MONTH count number mark first-name length eclipse first-day small-remainder`
+-- a line of month n behind a word: `count number mark first-name length eclipse first-day small-remainder`
+abbrev pub lineOfMonth : List ℕ → ℕ → MonthFacts → List ℕ
+lineOfMonth w n f = lined (w ∷ (fieldsOfMonth n f ++ (decimal (f .«first_day») ∷ decimal (f .«small_remainder») ∷ [])))
+
+-- `MONTH count`: `MONTH` and such a line
 unfoldable pub monthLineOf : ℕ → MonthFacts → List ℕ
-monthLineOf n f = lined (word "MONTH" ∷ (fieldsOfMonth n f ++ (decimal (f .«first_day») ∷ decimal (f .«small_remainder») ∷ [])))
+monthLineOf n f = lineOfMonth (word "MONTH") n f
 
 unfoldable pub monthText : ℕ → List ℕ
 monthText n = told (monthLineOf n) (monthFactsAt n)
@@ -199,3 +205,10 @@ outcomeText xs (emended n) = emendedLine n ++ emendationLines xs
 
 unfoldable pub emendText : Reading → ℕ → ℕ → List ℕ
 emendText r first last = told (outcomeText (emendations r first (windowDays first last))) (emendAt r first last places)
+
+-- `CLERK bu steps`: `CLERK` and the fields of `MONTH`'s answer, as the clerk keeps them after so many steps from that bu's head
+unfoldable pub clerkLine : Clerk → List ℕ
+clerkLine c = lineOfMonth (word "CLERK") (c .«month_count») (shown c)
+
+unfoldable pub clerkText : ℕ → ℕ → List ℕ
+clerkText b k = told clerkLine (walked b k)

@@ -46,6 +46,8 @@ use Rattle.reading.specs.Search.{searchAt}
 use Rattle.reading.specs.Paper.{FieldsInRange, IsWindow}
 use Rattle.emending.specs.Faults.{emendations, emendable}
 use Rattle.emending.specs.Emended.{emendAt}
+use Rattle.clerk.specs.Clerk.{walked}
+use Rattle.clerk.specs.Paper.{BuInRange, countOf}
 use Rattle.fields.specs.Fields.{word, decimal, mark, each, letterL, letterE}
 use Rattle.penned.specs.Lines.{wordsOf}
 use Rattle.told.specs.Answers.{
@@ -67,6 +69,7 @@ use Rattle.told.specs.Answers.{
   searchText,
   emendationLines,
   emendText,
+  clerkText,
 }
 
 -- the words of a number are those of the reason that has it
@@ -108,18 +111,24 @@ pub record Year-line-literally : Type 0 where
   pub with-leap : (y k n : ℕ) → CivilYearInRange y → InCivilYear y n → IsMonth n (Leap k) → yearText y ≡ yearWith y (decimal k ++ (32 ∷ decimal n))
   pub without : (y : ℕ) → CivilYearInRange y → ((n : ℕ) → InCivilYear y n → NoMidTerm n → ⊥) → yearText y ≡ yearWith y (word "- -")
 
--- "`MONTH count number mark first-name length eclipse first-day small-remainder` (eclipse `E` or `-`)"
-abbrev pub Month-line-literally : Type 0
-Month-line-literally =
-    (n : ℕ) → MonthInRange n →
-    monthText n
-    ≡ (word "MONTH " ++ (decimal n
+-- "`count number mark first-name length eclipse first-day small-remainder` (eclipse `E` or `-`)" of month n, behind a word
+abbrev pub monthWith : List ℕ → ℕ → List ℕ
+monthWith w n =
+    (w ++ (decimal n
     ++ (32 ∷ (decimal (monthNumber n)
     ++ (32 ∷ mark (leap n) letterL ∷ 32 ∷ (decimal (dayName (monthStart n))
     ++ (32 ∷ (decimal (monthLength n)
     ++ (32 ∷ mark (eclipse n) letterE ∷ 32 ∷ (decimal (monthStart n)
     ++ (32 ∷ decimal (smallRemainder n))))))))))))
     ++ (10 ∷ [])
+
+abbrev pub Month-line-literally : Type 0
+Month-line-literally = (n : ℕ) → MonthInRange n → monthText n ≡ monthWith (word "MONTH ") n
+
+-- "`CLERK bu steps` walks so many steps and is answered `CLERK ..` (the fields of `MONTH`'s answer)": what the rule gives for the month
+-- count to which they lead
+abbrev pub Clerk-line-literally : Type 0
+Clerk-line-literally = (b k : ℕ) → BuInRange b → MonthInRange (countOf b k) → clerkText b k ≡ monthWith (word "CLERK ") (countOf b k)
 
 -- "`QUARTER day parts`"
 abbrev pub Quarter-line-literally : Type 0
@@ -238,8 +247,8 @@ pub record Never-twelve : Type 0 where
   pub emend : (r : Reading) (first last : ℕ) → emendText r first last ≡ refusedText 12 → ⊥
 
 -- a text is the refusal of number k exactly where the query comes back with k: which that is, the statements Reasons-of-facts,
--- Reasons-of-planets, Reasons-of-a-day, Reasons-of-a-date, Move-of-a-date, Date's-own-reasons, Reasons-of-a-search and
--- Reasons-of-an-emendation say
+-- Reasons-of-planets, Reasons-of-a-day, Reasons-of-a-date, Move-of-a-date, Date's-own-reasons, Reasons-of-a-search,
+-- Reasons-of-an-emendation and Reasons-of-a-walk say
 abbrev pub TellsRefusals : {A : Type 0} → List ℕ → Answer A → Type 0
 TellsRefusals text a = (k : ℕ) → (text ≡ refusedText k) ↔ (a ≡ refused k)
 
@@ -257,3 +266,4 @@ pub record Refusals-told : Type 0 where
   pub move : (y k : ℕ) (l : Bool) (m : ℕ) (n : ℤ) → TellsRefusals (moveText y k l m n) (moved y k l m n)
   pub search : (r : Reading) (first last : ℕ) → TellsRefusals (searchText r first last) (searchAt r first last places)
   pub emend : (r : Reading) (first last : ℕ) → TellsRefusals (emendText r first last) (emendAt r first last places)
+  pub clerk : (b k : ℕ) → TellsRefusals (clerkText b k) (walked b k)

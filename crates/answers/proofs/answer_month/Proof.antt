@@ -8,11 +8,12 @@ use Rattle.answers.proofs.answer_month.Statement.{statement}
 use Rattle.answers.proofs.answer_month.Tie as tie
 
 pub answer-month-spec : {M : Type 1} → statement M
-unfolding monthText
+unfolding monthText monthLineOf
 answer-month-spec =
     tie.close
     (tie.spec
     (λ c κs. search needs)
+    (λ c. search needs)
     (λ c. search needs)
     (λ c κs. search needs)
     (λ c. search needs)
@@ -20,7 +21,7 @@ answer-month-spec =
     (λ c. search needs)
     (λ c.
     let p = c .before .before in
-    let q = p .before .before .before in
+    let q = p .before .before .before .before in
     let r = q .before .before in
     tells (monthLineOf (r .before .before .args .n)) saidMonth (r .month-facts .ensures) (q .f .given .1) (omega arith) (p .put-month-line .ensures))
     (λ c. search needs)

@@ -2,20 +2,19 @@
 use native.Mathlib.Omega.{arith}
 use mathlib.Core.List.{[], _∷_}
 use Rattle.fields.specs.Fields.{decimal, followed}
-use Rattle.fields.proofs.Putting.{then}
+use Rattle.fields.proofs.Putting.{wide, then}
 use Rattle.penned.specs.Lines.{fieldsOfMonth}
-use Rattle.told.specs.Answers.{monthLineOf}
 use Rattle.told.proofs.Telling.{more-fields}
 use borrow.Author.Needs.{needs}
 use Rattle.answers.proofs.put_month_line.Statement.{statement}
 use Rattle.answers.proofs.put_month_line.Tie as tie
 
 pub put-month-line-spec : {M : Type 1} → statement M
-unfolding monthLineOf followed
+unfolding followed
 put-month-line-spec =
     tie.close
     (tie.spec
-    (λ c. search needs)
+    (λ c κs. search needs)
     (λ c κs. search needs)
     (λ c κs. search needs)
     (λ c κs. search needs)
@@ -24,16 +23,19 @@ put-month-line-spec =
     (λ c κs. search needs)
     (λ c. search needs)
     (λ c.
-    let p5 = c .before .before in
-    let p4 = p5 .before .before .before .before in
-    let p3 = p4 .before .before .before .before .before in
+    let p6 = c .before .before in
+    let p5 = p6 .before .before .before .before in
+    let p4 = p5 .before .before .before .before .before in
+    let p3 = p4 .before .before .before .before in
     let p2 = p3 .before .before .before .before in
     let p1 = p2 .before .before .before .before in
     let s = p1 .before .before .before .before in
     let f = s .args .f in
-    then (p1 .put-bytes .ensures)
+    wide (omega arith)
     (then
+    (then (p1 .put-bytes .ensures)
+    (then (p2 .put-byte .ensures)
     (more-fields (fieldsOfMonth (s .args .n) f) (decimal (f .«first_day») ∷ decimal (f .«small_remainder») ∷ []) (omega arith) (omega arith)
-    (p2 .put-month-fields .ensures)
-    (then (p3 .put-next .ensures) (p4 .put-next2 .ensures)))
-    (p5 .put-byte .ensures))))
+    (p3 .put-month-fields .ensures)
+    (then (p4 .put-next .ensures) (p5 .put-next2 .ensures)))))
+    (p6 .put-byte2 .ensures))))

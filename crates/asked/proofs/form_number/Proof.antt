@@ -37,8 +37,11 @@ form-number-spec =
     (λ c κs. search needs)
     (λ c. search needs)
     (λ c κs. search needs)
+    (λ c. search needs)
+    (λ c κs. search needs)
     (λ c.
-    let c12 = c .before .before in
+    let c13 = c .before .before in
+    let c12 = c13 .before .before in
     let c11 = c12 .before .before in
     let c10 = c11 .before .before in
     let c9 = c10 .before .before in
@@ -61,5 +64,6 @@ form-number-spec =
     let e10 = and-past _ _ _ e9 (c10 .past10 .ensures) in
     let e11 = and-past _ _ _ e10 (c11 .past11 .ensures) in
     let e12 = and-past _ _ _ e11 (c12 .past12 .ensures) in
-    let e13 = and-past _ _ _ e12 (c .past13 .ensures) in
-    e13 ∙ past-all _ forms))
+    let e13 = and-past _ _ _ e12 (c13 .past13 .ensures) in
+    let e14 = and-past _ _ _ e13 (c .past14 .ensures) in
+    e14 ∙ past-all _ forms))

@@ -45,4 +45,5 @@ query-of-spec =
     let b4 = b2 .before .before in
     let w = b2 .read-places .result in
     ap (λ s. Query.Emend s (w .n7) (w .n8)) (c .read-slip2 .ensures) ∙ arm (fieldsIn (b4 .args .line .now)) (b2 .read-places .ensures) (c .before .match .keys13) refl)
-    (λ c. sym (beyond (table _ _) _ (all-denied 13 _ (c .match .rest)))))
+    (λ c. arm (fieldsIn (c .before .before .before .args .line .now)) (c .before .read-places .ensures) (c .match .keys14) refl)
+    (λ c. sym (beyond (table _ _) _ (all-denied 14 _ (c .match .rest)))))

@@ -46,6 +46,8 @@ answer-spec =
     (λ c. search needs)
     (λ c κs. search needs)
     (λ c. search needs)
+    (λ c κs. search needs)
+    (λ c. search needs)
     (λ c.
     let b2 = c .before .before in
     let b4 = b2 .before .before in
@@ -97,4 +99,6 @@ answer-spec =
     let b4 = c .before .before .before .before in
     let b8 = b4 .before .before .before .before in
     let b13 = b8 .before .before .before .before .before in
-    arm (b13 .args .line .now) (b8 .q13 .given .1) (omega arith) (b4 .emend-slip .ensures)))
+    arm (b13 .args .line .now) (b8 .q13 .given .1) (omega arith) (b4 .emend-slip .ensures))
+    (λ c. search needs)
+    (λ c. let b = c .before .before .before .before .before in line (b .before .before .before .before .before .args .line .now) (b .q14 .given .1) (c .before .before .answer-clerk .ensures)))
