@@ -52,7 +52,7 @@ AT(oes_month, eclipse, 28);
 SIZE(oes_month, 32);
 AT(oes_clerk, month_count, 0);
 AT(oes_clerk, first_day, 4);
-AT(oes_clerk, term_day, 8);
+AT(oes_clerk, mid_term_day, 8);
 AT(oes_clerk, small_remainder, 12);
 AT(oes_clerk, number, 14);
 AT(oes_clerk, leap, 15);
@@ -60,7 +60,7 @@ AT(oes_clerk, month_length, 16);
 AT(oes_clerk, first_name, 17);
 AT(oes_clerk, eclipse, 18);
 AT(oes_clerk, eclipse_remainder, 19);
-AT(oes_clerk, term_parts, 20);
+AT(oes_clerk, mid_term_parts, 20);
 SIZE(oes_clerk, 24);
 AT(oes_clerk_told, clerk, 4);
 SIZE(oes_clerk_told, 28);
@@ -391,11 +391,11 @@ static void month_is(oes_month m, const uint32_t want[8])
 
 static void clerk_is(int line, oes_clerk_told r, const uint32_t want[12])
 {
-    static const char *const names[12] = {"reason",       "month_count", "first_day",  "term_day", "small_remainder",   "number",
-                                          "leap", "month_length", "first_name", "eclipse",  "eclipse_remainder", "term_parts"};
+    static const char *const names[12] = {"reason",       "month_count", "first_day",  "mid_term_day", "small_remainder",   "number",
+                                          "leap", "month_length", "first_name", "eclipse",  "eclipse_remainder", "mid_term_parts"};
     const oes_clerk c = r.clerk;
-    const uint32_t got[12] = {r.reason, c.month_count,  c.first_day,  c.term_day, c.small_remainder,   c.number,
-                              c.leap,   c.month_length, c.first_name, c.eclipse,  c.eclipse_remainder, c.term_parts};
+    const uint32_t got[12] = {r.reason, c.month_count,  c.first_day,  c.mid_term_day, c.small_remainder,   c.number,
+                              c.leap,   c.month_length, c.first_name, c.eclipse,  c.eclipse_remainder, c.mid_term_parts};
     for (int i = 0; i < 12; i++) {
         same(line, names[i], got[i], want[i]);
     }
@@ -411,7 +411,7 @@ static oes_clerk state(int behind, const uint32_t f[11])
     memset(&c, behind, sizeof c);
     c.month_count = f[0];
     c.first_day = f[1];
-    c.term_day = f[2];
+    c.mid_term_day = f[2];
     c.small_remainder = (uint16_t)f[3];
     c.number = (uint8_t)f[4];
     c.leap = f[5] != 0;
@@ -419,7 +419,7 @@ static oes_clerk state(int behind, const uint32_t f[11])
     c.first_name = (uint8_t)f[7];
     c.eclipse = f[8] != 0;
     c.eclipse_remainder = (uint8_t)f[9];
-    c.term_parts = (uint8_t)f[10];
+    c.mid_term_parts = (uint8_t)f[10];
     return c;
 }
 

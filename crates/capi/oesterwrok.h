@@ -4,8 +4,8 @@
  * Every call ends for every input. `reason` is 0 where there is an answer; else it is the paper's number, every other field
  * is 0 (but the total of a search or an emending that is refused with 12, which is the true one, and the place of a drawer that
  * is refused with 6, which is that of its first day out of range), and nothing lent was changed.
- * Numbers are wide enough that no wrong one is taken for another, but the items of a list, which have the list's width
- * (docs/C.md): a negative one is refused like any that is too large.
+ * Numbers are wide enough that no wrong one is taken for another, but the items of a list, which have the list's width,
+ * and the fields of a clerk's state, which have their own (docs/C.md): a negative one is refused like any that is too large.
  * A name is 1 to 60. Lent memory: docs/C.md.
  *
  * A year is the civil year, 0 to 41,040, which opens with its month 1, but in oes_solstice_year and oes_term, which take the
@@ -98,7 +98,7 @@ typedef struct oes_month {
 typedef struct oes_clerk {
     uint32_t month_count;
     uint32_t first_day;
-    uint32_t term_day;
+    uint32_t mid_term_day;
     uint16_t small_remainder;
     uint8_t number;
     bool leap;
@@ -106,7 +106,7 @@ typedef struct oes_clerk {
     uint8_t first_name;
     bool eclipse;
     uint8_t eclipse_remainder;
-    uint8_t term_parts;
+    uint8_t mid_term_parts;
 } oes_clerk;
 
 /* The clerk where a start, a step or a walk led. */
@@ -221,8 +221,8 @@ oes_month oes_month_facts(uint64_t month);
 oes_quarter_told oes_quarter(uint64_t month, uint64_t quarter);
 
 /* The clerk's own way, from month to month by additions. A bu is counted from the origin, 1 to 540, else 21; bu 1 starts at the
- * origin. A step past the last month, 507,599, is 7. A walk is a start and so many steps. What it shows is what oes_month_facts
- * gives for its count, `reason` always 0. A state that no start leads to is stepped by the same additions, and is refused with 7 where
+ * origin. A step past the last month, 507,599, is 7. A walk is a start and so many steps. What it shows of a state
+ * that these led to is what oes_month_facts gives for its count, `reason` always 0. A state that no start leads to is stepped by the same additions, and is refused with 7 where
  * its count is above 507,598 or its first day above 14,989,829. */
 oes_clerk_told oes_clerk_start(uint64_t bu);
 oes_clerk_told oes_clerk_step(oes_clerk clerk);

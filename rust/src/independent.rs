@@ -354,7 +354,7 @@ fn clerk_at(n: u64) -> Clerk {
     Clerk {
         month_count: n as u32,
         first_day: month_start(n) as u32,
-        term_day: term_day(ahead) as u32,
+        mid_term_day: term_day(ahead) as u32,
         small_remainder: (27_759 * n % 940) as u16,
         number: month_number(n) as u8,
         leap: is_leap(n),
@@ -362,7 +362,7 @@ fn clerk_at(n: u64) -> Clerk {
         first_name: day_name(month_start(n)) as u8,
         eclipse: is_eclipse(n),
         eclipse_remainder: (23 * (n + 1) % 135) as u8,
-        term_parts: term_parts(ahead) as u8,
+        mid_term_parts: term_parts(ahead) as u8,
     }
 }
 
@@ -411,16 +411,16 @@ pub fn clerk_step(clerk: Clerk) -> Result<Clerk, Reason> {
     let (_, next_rest) = once_over(940, rest + 499);
     let first_day = day + days;
     let length = days_from(next_rest);
-    let ahead = (u64::from(clerk.term_day), u64::from(clerk.term_parts));
+    let ahead = (u64::from(clerk.mid_term_day), u64::from(clerk.mid_term_parts));
     let leap = ahead.0 >= first_day + length;
-    let (term_day, term_parts) = if leap { ahead } else { next_mid_term(ahead) };
+    let (mid_term_day, mid_term_parts) = if leap { ahead } else { next_mid_term(ahead) };
     let number = u64::from(clerk.number) + u64::from(!leap);
     let name = u64::from(clerk.first_name) + days;
     let (_, eclipse) = once_over(135, u64::from(clerk.eclipse_remainder) + 23);
     Ok(Clerk {
         month_count: (count + 1) as u32,
         first_day: first_day as u32,
-        term_day: term_day as u32,
+        mid_term_day: mid_term_day as u32,
         small_remainder: next_rest as u16,
         number: if !leap && number > 12 {
             number - 12
@@ -432,7 +432,7 @@ pub fn clerk_step(clerk: Clerk) -> Result<Clerk, Reason> {
         first_name: if name > 60 { name - 60 } else { name } as u8,
         eclipse: eclipse < 23,
         eclipse_remainder: eclipse as u8,
-        term_parts: term_parts as u8,
+        mid_term_parts: mid_term_parts as u8,
     })
 }
 

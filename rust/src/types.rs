@@ -333,7 +333,7 @@ pub struct Clerk {
     /// The day on which it starts.
     pub first_day: u32,
     /// The day of the next mid-term after it.
-    pub term_day: u32,
+    pub mid_term_day: u32,
     /// Its small remainder, in parts of 940.
     pub small_remainder: u16,
     /// Its number, 1 to 12.
@@ -349,7 +349,7 @@ pub struct Clerk {
     /// Its eclipse remainder, in parts of 135.
     pub eclipse_remainder: u8,
     /// The rest of that mid-term beyond its whole days, in parts of 32.
-    pub term_parts: u8,
+    pub mid_term_parts: u8,
 }
 
 /// A quarter of a month.

@@ -765,7 +765,7 @@ macro_rules! paper_of {
                 let origin = Clerk {
                     month_count: 0,
                     first_day: 0,
-                    term_day: 30,
+                    mid_term_day: 30,
                     small_remainder: 0,
                     number: 11,
                     leap: false,
@@ -773,29 +773,29 @@ macro_rules! paper_of {
                     first_name: 1,
                     eclipse: false,
                     eclipse_remainder: 23,
-                    term_parts: 14,
+                    mid_term_parts: 14,
                 };
                 let twelve = Clerk {
                     month_count: 1,
                     first_day: 29,
-                    term_day: 60,
+                    mid_term_day: 60,
                     small_remainder: 499,
                     number: 12,
                     month_length: 30,
                     first_name: 30,
                     eclipse_remainder: 46,
-                    term_parts: 28,
+                    mid_term_parts: 28,
                     ..origin
                 };
                 let one = Clerk {
                     month_count: 2,
                     first_day: 59,
-                    term_day: 91,
+                    mid_term_day: 91,
                     small_remainder: 58,
                     number: 1,
                     first_name: 60,
                     eclipse_remainder: 69,
-                    term_parts: 10,
+                    mid_term_parts: 10,
                     ..origin
                 };
                 assert_eq!(calls::clerk_start(1), Ok(origin));
@@ -805,7 +805,7 @@ macro_rules! paper_of {
                 let leap = Clerk {
                     month_count: 32,
                     first_day: 944,
-                    term_day: 974,
+                    mid_term_day: 974,
                     small_remainder: 928,
                     number: 6,
                     leap: true,
@@ -813,18 +813,18 @@ macro_rules! paper_of {
                     first_name: 45,
                     eclipse: false,
                     eclipse_remainder: 84,
-                    term_parts: 0,
+                    mid_term_parts: 0,
                 };
                 let seven = Clerk {
                     month_count: 33,
                     first_day: 974,
-                    term_day: 1_004,
+                    mid_term_day: 1_004,
                     small_remainder: 487,
                     number: 7,
                     leap: false,
                     first_name: 15,
                     eclipse_remainder: 107,
-                    term_parts: 14,
+                    mid_term_parts: 14,
                     ..leap
                 };
                 assert_eq!(calls::clerk_walk(1, 32), Ok(leap));
@@ -859,7 +859,7 @@ macro_rules! paper_of {
                 let full = Clerk {
                     month_count: u32::MAX,
                     first_day: u32::MAX,
-                    term_day: u32::MAX,
+                    mid_term_day: u32::MAX,
                     small_remainder: u16::MAX,
                     number: u8::MAX,
                     leap: true,
@@ -867,7 +867,7 @@ macro_rules! paper_of {
                     first_name: u8::MAX,
                     eclipse: true,
                     eclipse_remainder: u8::MAX,
-                    term_parts: u8::MAX,
+                    mid_term_parts: u8::MAX,
                 };
                 assert_eq!(calls::clerk_step(full), Err(Reason::MonthCount));
                 assert_eq!(calls::clerk_show(full).month, Month::Leap(255));

@@ -205,7 +205,7 @@ capped-alike =
       conjunction = λ p k. planet-capped p (capped k) ∙ count-capped p k;
       next = next-capped;
       pair = pair-capped;
-      clerk = λ b. behind-a-test Clerk (within 1 540) (from-one 540 (omega arith)) 21 (λ i. is (head i)) b;
+      start = λ b. behind-a-test Clerk (within 1 540) (from-one 540 (omega arith)) 21 (λ i. is (head i)) b;
       walk = walk-capped;
     }
 

@@ -39,7 +39,7 @@ pub record Capped-alike : Type 0 where
   pub conjunction : (p k : ℕ) → conjunctionAt (capped p) (capped k) ≡ conjunctionAt p k
   pub next : (p d : ℕ) → nextAt (capped p) (capped d) ≡ nextAt p d
   pub pair : (p : ℕ) → pairAt (capped p) ≡ pairAt p
-  pub clerk : (b : ℕ) → startAt (capped b) ≡ startAt b
+  pub start : (b : ℕ) → startAt (capped b) ≡ startAt b
   pub walk : (b k : ℕ) → walked (capped b) (capped k) ≡ walked b k
 
 -- of a search and of an emendation: nothing was cut down, or both are refused with one reason, whatever comes after the tests

@@ -4,27 +4,11 @@ use native.Mathlib.Omega.{arith}
 use mathlib.Core.Path.{_≡_, refl, ap, sym, _∙_}
 use mathlib.Core.Logic.{_↔_, _⊎_, inl, inr, ⊎-elim}
 use mathlib.Core.Bool.{Bool, true, false, not, false≢true}
-use lib.Dec.{ltb}
 use borrow.Author.Tests.{ltb-true, lt-ltb}
 use Rattle.rule.specs.declared.Term.{Term}
 use Rattle.rule.proofs.Pairs.{lt-or-le}
 use Rattle.clerk.specs.declared.Clerk.{Clerk}
-use Rattle.clerk.specs.Clerk.{
-  carried,
-  over,
-  round,
-  daysOn,
-  termAhead,
-  midTermAhead,
-  aheadOf,
-  aheadThen,
-  numberThen,
-  nextDay,
-  nextRemainder,
-  nextEclipse,
-  holds,
-  stepped,
-}
+use Rattle.clerk.specs.Clerk.{carried, round, daysOn, termAhead, midTermAhead, aheadOf, aheadThen, numberThen, nextDay, nextRemainder, nextEclipse, holds, stepped}
 use Rattle.clerk.specs.Paper.{OneOn}
 use Rattle.clerk.proofs.Carries.{carried-below, carried-over, over-below, over-over, round-within, round-past, days-small, days-big, days-range}
 
@@ -88,20 +72,20 @@ not-true false e = refl
 
 -- one step
 module _ (c : Clerk) where
-  held-if : (not (holds c) ≡ false) ↔ (c .«term_day» < nextDay c + daysOn (nextRemainder c))
+  held-if : (not (holds c) ≡ false) ↔ (c .«mid_term_day» < nextDay c + daysOn (nextRemainder c))
   unfolding holds
   held-if = (
-    λ e. ltb-true (c .«term_day») (nextDay c + daysOn (nextRemainder c)) (not-false (holds c) e),
-    λ l. ap not (lt-ltb (c .«term_day») (nextDay c + daysOn (nextRemainder c)) l),
+    λ e. ltb-true (c .«mid_term_day») (nextDay c + daysOn (nextRemainder c)) (not-false (holds c) e),
+    λ l. ap not (lt-ltb (c .«mid_term_day») (nextDay c + daysOn (nextRemainder c)) l),
   )
 
   kept : (b : Bool) → b ≡ false →
-      (numberThen b (c .number) ≡ c .number) × (aheadThen b (aheadOf c) .day ≡ c .«term_day») × (aheadThen b (aheadOf c) .parts ≡ c .«term_parts»)
+      (numberThen b (c .number) ≡ c .number) × (aheadThen b (aheadOf c) .day ≡ c .«mid_term_day») × (aheadThen b (aheadOf c) .parts ≡ c .«mid_term_parts»)
   kept true e = absurd (false≢true (sym e))
   kept false e = (refl, refl, refl)
 
-  gone-on : (b : Bool) → b ≡ true → c .«term_parts» < 32 →
-      (32 * aheadThen b (aheadOf c) .day + aheadThen b (aheadOf c) .parts ≡ 32 * (c .«term_day» + 2 * 15) + (c .«term_parts» + 2 * 7))
+  gone-on : (b : Bool) → b ≡ true → c .«mid_term_parts» < 32 →
+      (32 * aheadThen b (aheadOf c) .day + aheadThen b (aheadOf c) .parts ≡ 32 * (c .«mid_term_day» + 2 * 15) + (c .«mid_term_parts» + 2 * 7))
       × (aheadThen b (aheadOf c) .parts < 32)
   gone-on true e l = mid-term-on (aheadOf c) l
   gone-on false e l = absurd (false≢true e)

@@ -70,12 +70,12 @@ days-range r = go (leb 940 (r + 499))
 module _ (c : Clerk) (days rest length : ℕ) (held : Bool) (t : Term) (number name eclipse-rest : ℕ) where
   pub stepped-made :
       days ≡ daysOn (c .«small_remainder») → rest ≡ carried 940 (c .«small_remainder» + 499) → length ≡ daysOn rest →
-      held ≡ ltb (c .«term_day») (c .«first_day» + days + length) → t ≡ aheadThen held (aheadOf c) → number ≡ numberThen held (c .number) →
+      held ≡ ltb (c .«mid_term_day») (c .«first_day» + days + length) → t ≡ aheadThen held (aheadOf c) → number ≡ numberThen held (c .number) →
       name ≡ round 60 (c .«first_name» + days) → eclipse-rest ≡ carried 135 (c .«eclipse_remainder» + 23) →
       record {
         «month_count» = c .«month_count» + 1;
         «first_day» = c .«first_day» + days;
-        «term_day» = t .day;
+        «mid_term_day» = t .day;
         «small_remainder» = rest;
         number = number;
         leap = not held;
@@ -83,7 +83,7 @@ module _ (c : Clerk) (days rest length : ℕ) (held : Bool) (t : Term) (number n
         «first_name» = name;
         eclipse = ltb eclipse-rest 23;
         «eclipse_remainder» = eclipse-rest;
-        «term_parts» = t .parts;
+        «mid_term_parts» = t .parts;
       }
       ≡ stepped c
   unfolding stepped holds

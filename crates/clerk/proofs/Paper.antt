@@ -1,5 +1,5 @@
 -- The statements of specs/Paper.antt, proved. Assumes nothing.
-use Prim.Native.Nat.{ℕ, _+_, _-_, _*_, _/_, _%_, _≤_, _<_}
+use Prim.Native.Nat.{ℕ, _+_, _-_, _*_, _≤_, _<_}
 use native.Mathlib.Omega.{arith}
 use mathlib.Core.Path.{_≡_, refl, ap, sym, subst, _∙_}
 use mathlib.Core.Logic.{_↔_, Iff·trans}
@@ -7,7 +7,7 @@ use mathlib.Core.Bool.{Bool, true, false, false≢true, and-eq-true-iff}
 use lib.Dec.{eqb, leb}
 use borrow.Author.Tests.{eqb-true}
 use Rattle.rule.specs.Counts.{yearInBu}
-use Rattle.rule.specs.Rule.{monthLength, termDay, midTermDay, solsticeFirstMonth, big, pairStarts}
+use Rattle.rule.specs.Rule.{monthLength, termDay, termParts, midTermDay, solsticeFirstMonth, big, pairStarts}
 use Rattle.rule.specs.Reasons.{Answer, is, refused, reasonNumber, guard, within, reasonOf}
 use Rattle.rule.specs.declared.Reason.{Reason}
 use Rattle.rule.specs.declared.Reason.the-variants.{NoSuchMonth, NoSuchBu}
@@ -19,7 +19,7 @@ use Rattle.clerk.specs.declared.Clerk.{Clerk}
 use Rattle.clerk.specs.declared.ClerkTold.{ClerkTold}
 use Rattle.clerk.specs.declared.ClerkTold.the-variants.{Is, Refused}
 use Rattle.clerk.specs.Clerk.{beforeLast, stepped, stepAt, head, startAt, walked, shown, saidClerk, StartsAt, StepsOn, WalksOn, Shows}
-use Rattle.clerk.specs.Paper.{BuInRange, Gone, BuHead, OneOn, countOf}
+use Rattle.clerk.specs.Paper.{BuInRange, BuHead, OneOn, countOf}
 use Rattle.clerk.specs.Paper
 use Rattle.clerk.proofs.Answered.{before-last}
 use Rattle.clerk.proofs.Steps.{termAt, clerkAt}
@@ -82,9 +82,9 @@ module _ (k : ℕ) where
   unfolding solsticeFirstMonth
   first-month = omega arith
 
-  mid-term : midTermDay (912 * k) ≡ 27759 * k
-  unfolding midTermDay termDay
-  mid-term = omega arith
+  mid-term : (midTermDay (912 * k) ≡ 27759 * k) × (termParts (2 * (912 * k)) ≡ 0)
+  unfolding midTermDay termDay termParts
+  mid-term = (omega arith, omega arith)
 
 pub starts-at-a-bu's-head : Paper.Starts-at-a-bu's-head
 unfolding head
@@ -161,7 +161,7 @@ month-2 : clerkAt 2
     ≡ record {
       «month_count» = 2;
       «first_day» = 59;
-      «term_day» = 91;
+      «mid_term_day» = 91;
       «small_remainder» = 58;
       number = 1;
       leap = false;
@@ -169,17 +169,17 @@ month-2 : clerkAt 2
       «first_name» = 60;
       eclipse = false;
       «eclipse_remainder» = 69;
-      «term_parts» = 10;
+      «mid_term_parts» = 10;
     }
 unfolding clerkAt termAt rule-computed
 month-2 = refl
 
-at-2 : (c : Clerk) → WalksOn 1 2 (Is c) → (c .«first_day» ≡ 59) × (c .«small_remainder» ≡ 58) × (c .«term_day» ≡ 91) × (c .«term_parts» ≡ 10) × (c .number ≡ 1)
+at-2 : (c : Clerk) → WalksOn 1 2 (Is c) → (c .«first_day» ≡ 59) × (c .«small_remainder» ≡ 58) × (c .«mid_term_day» ≡ 91) × (c .«mid_term_parts» ≡ 10) × (c .number ≡ 1)
 at-2 c p = let e = walked-to 1 2 c p ∙ month-2 in (
   ap (λ (d : Clerk). d .«first_day») e,
   ap (λ (d : Clerk). d .«small_remainder») e,
-  ap (λ (d : Clerk). d .«term_day») e,
-  ap (λ (d : Clerk). d .«term_parts») e,
+  ap (λ (d : Clerk). d .«mid_term_day») e,
+  ap (λ (d : Clerk). d .«mid_term_parts») e,
   ap (λ (d : Clerk). d .number) e,
 )
 
@@ -217,6 +217,10 @@ shown-day : (c : Clerk) (f : MonthFacts) → Shows c f → f .«first_day» ≡ 
 unfolding shown
 shown-day c f s = ap (λ (g : MonthFacts). g .«first_day») s
 
+shown-eclipse : (c : Clerk) (f : MonthFacts) → Shows c f → f .eclipse ≡ c .eclipse
+unfolding shown
+shown-eclipse c f s = ap (λ (g : MonthFacts). g .eclipse) s
+
 day-0 : (c : Clerk) → WalksOn 1 0 (Is c) → c .«first_day» ≡ 0
 unfolding clerkAt termAt rule-computed
 day-0 c p = ap (λ (d : Clerk). d .«first_day») (walked-to 1 0 c p)
@@ -252,7 +256,7 @@ wrong-clerks =
       name-not-round = λ c p e. omega (arith, e, at-3 c p);
       by-instant = λ c p e. false≢true (sym e ∙ at-32 c p .0);
       leap-renumbered = λ c p e. omega (arith, e, at-32 c p .1);
-      head-between = λ c p z e. omega (arith, e, head-2 c p .1);
+      head-between = λ c p e. omega (arith, e, head-2 c p .1);
       head-from-0 = λ c p e. omega (arith, e, head-2 c p .0);
       head-as-the-first = λ c p e. omega (arith, e, head-2 c p .2);
       never-stepping = λ c p. omega (arith, one-step-by-additions c c p .count);
@@ -268,5 +272,6 @@ wrong-clerks =
       bu-541 = λ c p. omega (arith, start-given 541 c p .0 .1);
       step-refused = λ c why p q. any-state c why .0 q .1 (omega (arith, head-1 c p .0), omega (arith, head-1 c p .1));
       by-turns = λ c p e. omega (arith, e, at-129 c p);
+      eclipse-not-shown = λ c f p s e. false≢true (sym e ∙ shown-eclipse c f s ∙ at-5 c p .1);
       shown-fixed = λ c d f p q s t. omega (arith, shown-day c f s, shown-day d f t, day-0 c p, day-29 d q);
     }

@@ -51,7 +51,7 @@ clerkAt n =
     record {
       «month_count» = n;
       «first_day» = monthStart n;
-      «term_day» = termAt (2 * midTermsBefore (n + 1)) .day;
+      «mid_term_day» = termAt (2 * midTermsBefore (n + 1)) .day;
       «small_remainder» = smallRemainder n;
       number = monthNumber n;
       leap = leap n;
@@ -59,11 +59,11 @@ clerkAt n =
       «first_name» = dayName (monthStart n);
       eclipse = eclipse n;
       «eclipse_remainder» = 23 * (n + 1) % 135;
-      «term_parts» = termAt (2 * midTermsBefore (n + 1)) .parts;
+      «mid_term_parts» = termAt (2 * midTermsBefore (n + 1)) .parts;
     }
 
 -- 29 days and 499 parts of 940
-pub days-at : (n : ℕ) → monthLength n ≡ daysOn (smallRemainder n)
+days-at : (n : ℕ) → monthLength n ≡ daysOn (smallRemainder n)
 days-at n =
     ⊎-elim
     (λ (h : smallRemainder n < 441). length-small n h ∙ sym (days-small (smallRemainder n) h))

@@ -38,7 +38,7 @@ midTermAhead t = termAhead (termAhead t)
 
 -- the next mid-term after the month at which the clerk stands
 abbrev pub aheadOf : Clerk → Term
-aheadOf c = record { day = c .«term_day»; parts = c .«term_parts» }
+aheadOf c = record { day = c .«mid_term_day»; parts = c .«mid_term_parts» }
 
 -- the next month's first day, small remainder and eclipse remainder
 abbrev pub nextDay : Clerk → ℕ
@@ -52,7 +52,7 @@ nextEclipse c = carried 135 (c .«eclipse_remainder» + 23)
 
 -- whether the mid-term ahead falls on one of the next month's days, whole days compared: it comes before that month ends
 unfoldable pub holds : Clerk → Bool
-holds c = ltb (c .«term_day») (nextDay c + daysOn (nextRemainder c))
+holds c = ltb (c .«mid_term_day») (nextDay c + daysOn (nextRemainder c))
 
 -- the mid-term ahead then: where the month holds it, the next
 abbrev pub aheadThen : Bool → Term → Term
@@ -70,7 +70,7 @@ stepped c =
     record {
       «month_count» = c .«month_count» + 1;
       «first_day» = nextDay c;
-      «term_day» = aheadThen (holds c) (aheadOf c) .day;
+      «mid_term_day» = aheadThen (holds c) (aheadOf c) .day;
       «small_remainder» = nextRemainder c;
       number = numberThen (holds c) (c .number);
       leap = not (holds c);
@@ -78,7 +78,7 @@ stepped c =
       «first_name» = round 60 (c .«first_name» + daysOn (c .«small_remainder»));
       eclipse = ltb (nextEclipse c) 23;
       «eclipse_remainder» = nextEclipse c;
-      «term_parts» = aheadThen (holds c) (aheadOf c) .parts;
+      «mid_term_parts» = aheadThen (holds c) (aheadOf c) .parts;
     }
 
 -- the clerk stands before the last month, 507,599, which starts on day 14,989,830. For every state that a start leads to the count alone says
@@ -98,7 +98,7 @@ head b =
     record {
       «month_count» = 940 * (b - 1);
       «first_day» = 27759 * (b - 1);
-      «term_day» = midTermAhead (record { day = 27759 * (b - 1); parts = 0 }) .day;
+      «mid_term_day» = midTermAhead (record { day = 27759 * (b - 1); parts = 0 }) .day;
       «small_remainder» = 0;
       number = 11;
       leap = false;
@@ -106,7 +106,7 @@ head b =
       «first_name» = dayName (27759 * (b - 1));
       eclipse = ltb ((23 + 20 * (b - 1)) % 135) 23;
       «eclipse_remainder» = (23 + 20 * (b - 1)) % 135;
-      «term_parts» = midTermAhead (record { day = 27759 * (b - 1); parts = 0 }) .parts;
+      «mid_term_parts» = midTermAhead (record { day = 27759 * (b - 1); parts = 0 }) .parts;
     }
 
 -- "It starts at the origin or at any bu's head": "Bu heads are counted from the origin, 1 to 540 .. a bu outside that range is 21"

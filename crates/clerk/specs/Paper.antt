@@ -4,7 +4,7 @@ use mathlib.Core.Path.{_≡_}
 use mathlib.Core.Logic.{_↔_, _⊎_}
 use mathlib.Core.Bool.{true, false}
 use Rattle.rule.specs.Counts.{MonthInRange, yearInBu}
-use Rattle.rule.specs.Rule.{monthStart, termDay, midTermDay, solsticeFirstMonth, pairStarts}
+use Rattle.rule.specs.Rule.{termParts, midTermDay, solsticeFirstMonth, pairStarts}
 use Rattle.rule.specs.declared.Reason.{Reason}
 use Rattle.rule.specs.declared.Reason.the-variants.{NoSuchMonth, NoSuchBu}
 use Rattle.facts.specs.declared.MonthFacts.{MonthFacts}
@@ -58,7 +58,7 @@ pub record BuHead (b : ℕ) (c : Clerk) : Type 0 where
   pub midnight : c .«small_remainder» ≡ 0
   pub eleven : c .number ≡ 11
   pub ordinary : c .leap ≡ false
-  pub mid-term : midTermDay (912 * (b - 1)) ≡ c .«first_day»
+  pub mid-term : (midTermDay (912 * (b - 1)) ≡ c .«first_day») × (termParts (2 * (912 * (b - 1))) ≡ 0)
 
 abbrev pub Starts-at-a-bu's-head : Type 0
 Starts-at-a-bu's-head = (b : ℕ) (c : Clerk) → StartsAt b (Is c) → BuHead b c
@@ -72,13 +72,13 @@ pub record OneOn (c d : Clerk) : Type 0 where
   pub thirty : (d .«month_length» ≡ 30) ↔ (441 ≤ d .«small_remainder»)
   pub twenty-nine : (d .«month_length» ≡ 29) ↔ (d .«small_remainder» < 441)
   -- a month is ordinary exactly when the mid-term ahead falls on a day before its end
-  pub ordinary : (d .leap ≡ false) ↔ (c .«term_day» < d .«first_day» + d .«month_length»)
-  pub leap-keeps : d .leap ≡ true → (d .number ≡ c .number) × (d .«term_day» ≡ c .«term_day») × (d .«term_parts» ≡ c .«term_parts»)
+  pub ordinary : (d .leap ≡ false) ↔ (c .«mid_term_day» < d .«first_day» + d .«month_length»)
+  pub leap-keeps : d .leap ≡ true → (d .number ≡ c .number) × (d .«mid_term_day» ≡ c .«mid_term_day») × (d .«mid_term_parts» ≡ c .«mid_term_parts»)
   -- the numbers go 11, 12, 1, 2 ..; "from one term to the next by 15 days and 7 parts of 32", twice: 32 parts are a day
   pub next-number : d .leap ≡ false → c .number < 12 → d .number ≡ c .number + 1
   pub after-twelve : d .leap ≡ false → c .number ≡ 12 → d .number ≡ 1
-  pub term : d .leap ≡ false → c .«term_parts» < 32 →
-      (32 * d .«term_day» + d .«term_parts» ≡ 32 * (c .«term_day» + 2 * 15) + (c .«term_parts» + 2 * 7)) × (d .«term_parts» < 32)
+  pub term : d .leap ≡ false → c .«mid_term_parts» < 32 →
+      (32 * d .«mid_term_day» + d .«mid_term_parts» ≡ 32 * (c .«mid_term_day» + 2 * 15) + (c .«mid_term_parts» + 2 * 7)) × (d .«mid_term_parts» < 32)
   -- the name of the first day goes on by the days between; 60 is followed by 1
   pub name : (1 ≤ c .«first_name») × (c .«first_name» ≤ 60) →
       ((c .«first_name» + (d .«first_day» - c .«first_day») ≡ d .«first_name») ⊎ (c .«first_name» + (d .«first_day» - c .«first_day») ≡ d .«first_name» + 60))
@@ -132,21 +132,22 @@ pub record Unique-clerk : Type 0 where
 -- "Comparing mid-term and new moon by the instant": month 32 is leap.
 -- A head that is not at a month's start: that of bu 2 is month 940, day 27,759, no parts; counted from 0 it would be month 1,880.
 -- Every bu begun like the first: the eclipse remainder at the head of bu 2 is 43.
--- A clerk that never steps; one that steps past the last month; one that refuses all, or each month after the first of a bu; bu 0 and bu 541.
+-- A clerk that never steps; one that steps past the last month; one that refuses all, the last month, or the month after a bu's last; bu 0 and
+-- bu 541.
 -- The second of two big months: month 129.
--- One that forgets a field: a month's facts that are those of another month.
+-- One that shows one month for all; one that never shows an eclipse month.
 pub record Wrong-clerks : Type 0 where
   pub day-not-carried : (c : Clerk) → WalksOn 1 2 (Is c) → c .«first_day» ≡ 58 → ⊥
   pub parts-not-carried : (c : Clerk) → WalksOn 1 2 (Is c) → c .«small_remainder» ≡ 998 → ⊥
-  pub term-day-not-carried : (c : Clerk) → WalksOn 1 2 (Is c) → c .«term_day» ≡ 90 → ⊥
-  pub term-parts-not-carried : (c : Clerk) → WalksOn 1 2 (Is c) → c .«term_parts» ≡ 42 → ⊥
+  pub term-day-not-carried : (c : Clerk) → WalksOn 1 2 (Is c) → c .«mid_term_day» ≡ 90 → ⊥
+  pub term-parts-not-carried : (c : Clerk) → WalksOn 1 2 (Is c) → c .«mid_term_parts» ≡ 42 → ⊥
   pub eclipse-not-carried : (c : Clerk) → WalksOn 1 5 (Is c) → c .«eclipse_remainder» ≡ 138 → ⊥
   pub eclipse-missed : (c : Clerk) → WalksOn 1 5 (Is c) → c .eclipse ≡ false → ⊥
   pub number-not-round : (c : Clerk) → WalksOn 1 2 (Is c) → c .number ≡ 13 → ⊥
   pub name-not-round : (c : Clerk) → WalksOn 1 3 (Is c) → c .«first_name» ≡ 89 → ⊥
   pub by-instant : (c : Clerk) → WalksOn 1 32 (Is c) → c .leap ≡ false → ⊥
   pub leap-renumbered : (c : Clerk) → WalksOn 1 32 (Is c) → c .number ≡ 7 → ⊥
-  pub head-between : (c : Clerk) → StartsAt 2 (Is c) → c .«small_remainder» ≡ 0 → c .«first_day» ≡ 27758 → ⊥
+  pub head-between : (c : Clerk) → StartsAt 2 (Is c) → c .«first_day» ≡ 27758 → ⊥
   pub head-from-0 : (c : Clerk) → StartsAt 2 (Is c) → c .«month_count» ≡ 1880 → ⊥
   pub head-as-the-first : (c : Clerk) → StartsAt 2 (Is c) → c .«eclipse_remainder» ≡ 23 → ⊥
   pub never-stepping : (c : Clerk) → StepsOn c (Is c) → ⊥
@@ -161,4 +162,5 @@ pub record Wrong-clerks : Type 0 where
   pub bu-541 : (c : Clerk) → StartsAt 541 (Is c) → ⊥
   pub step-refused : (c : Clerk) (why : Reason) → StartsAt 1 (Is c) → StepsOn c (Refused why) → ⊥
   pub by-turns : (c : Clerk) → WalksOn 1 129 (Is c) → c .«month_length» ≡ 29 → ⊥
+  pub eclipse-not-shown : (c : Clerk) (f : MonthFacts) → WalksOn 1 5 (Is c) → Shows c f → f .eclipse ≡ false → ⊥
   pub shown-fixed : (c d : Clerk) (f : MonthFacts) → WalksOn 1 0 (Is c) → WalksOn 1 1 (Is d) → Shows c f → Shows d f → ⊥

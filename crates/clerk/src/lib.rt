@@ -3,22 +3,7 @@
 ghost use mathlib.Core.Path.{_≡_};
 ghost use mathlib.Core.Bool.{true};
 ghost use Prim.Native.Nat.{_+_, _≤_, _<_};
-ghost use Rattle.clerk.specs.Clerk.{
-  carried,
-  round,
-  daysOn,
-  termAhead,
-  midTermAhead,
-  aheadThen,
-  numberThen,
-  head,
-  stepped,
-  shown,
-  StartsAt,
-  StepsOn,
-  WalksOn,
-  Shows,
-};
+ghost use Rattle.clerk.specs.Clerk.{carried, round, daysOn, termAhead, midTermAhead, aheadThen, numberThen, head, stepped, StartsAt, StepsOn, WalksOn, Shows};
 use facts::MonthFacts;
 use rule::Reason;
 use rule::Term;
@@ -30,7 +15,7 @@ use rule::Term;
 pub struct Clerk {
     pub month_count: u32,
     pub first_day: u32,
-    pub term_day: u32,
+    pub mid_term_day: u32,
     pub small_remainder: u16,
     pub number: u8,
     pub leap: bool,
@@ -38,7 +23,7 @@ pub struct Clerk {
     pub first_name: u8,
     pub eclipse: bool,
     pub eclipse_remainder: u8,
-    pub term_parts: u8,
+    pub mid_term_parts: u8,
 }
 
 pub enum ClerkTold {
@@ -140,13 +125,13 @@ fn next_month(c: Clerk) -> Clerk
     let first = c.first_day + days as u32;
     let next_rest = remainder_on(rest);
     let length = days_on(next_rest);
-    let term_day = c.term_day;
-    let held = term_day < first + length as u32;
-    let parts = c.term_parts;
+    let mid_term_day = c.mid_term_day;
+    let held = mid_term_day < first + length as u32;
+    let parts = c.mid_term_parts;
     let ahead = ahead_then(
         held,
         Term {
-            day: term_day,
+            day: mid_term_day,
             parts: parts,
         },
     );
@@ -156,7 +141,7 @@ fn next_month(c: Clerk) -> Clerk
     Clerk {
         month_count: c.month_count + 1,
         first_day: first,
-        term_day: ahead.day,
+        mid_term_day: ahead.day,
         small_remainder: next_rest,
         number: number_then(held, number),
         leap: !held,
@@ -164,7 +149,7 @@ fn next_month(c: Clerk) -> Clerk
         first_name: count_round(60, name, days),
         eclipse: eclipse_rest < 23,
         eclipse_remainder: eclipse_rest,
-        term_parts: ahead.parts,
+        mid_term_parts: ahead.parts,
     }
 }
 
@@ -193,7 +178,7 @@ fn at_head(b: u32) -> Clerk
     Clerk {
         month_count: 940 * before,
         first_day: day,
-        term_day: ahead.day,
+        mid_term_day: ahead.day,
         small_remainder: 0,
         number: 11,
         leap: false,
@@ -201,7 +186,7 @@ fn at_head(b: u32) -> Clerk
         first_name: rule::day_name(day),
         eclipse: eclipse_rest < 23,
         eclipse_remainder: eclipse_rest,
-        term_parts: ahead.parts,
+        mid_term_parts: ahead.parts,
     }
 }
 

@@ -248,7 +248,7 @@ fn no_clerk() -> Clerk
     Clerk {
         month_count: 0,
         first_day: 0,
-        term_day: 0,
+        mid_term_day: 0,
         small_remainder: 0,
         number: 0,
         leap: false,
@@ -256,7 +256,7 @@ fn no_clerk() -> Clerk
         first_name: 0,
         eclipse: false,
         eclipse_remainder: 0,
-        term_parts: 0,
+        mid_term_parts: 0,
     }
 }
 

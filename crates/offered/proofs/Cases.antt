@@ -121,7 +121,7 @@ pub head-of-bu-2 :
       clerk = record {
         «month_count» = 940;
         «first_day» = 27759;
-        «term_day» = 27789;
+        «mid_term_day» = 27789;
         «small_remainder» = 0;
         number = 11;
         leap = false;
@@ -129,7 +129,7 @@ pub head-of-bu-2 :
         «first_name» = 40;
         eclipse = false;
         «eclipse_remainder» = 43;
-        «term_parts» = 14;
+        «mid_term_parts» = 14;
       };
     }
 unfolding clerks-computed

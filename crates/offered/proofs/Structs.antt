@@ -106,7 +106,7 @@ refusals-flat =
         record {
           month-count = refl;
           first-day = refl;
-          term-day = refl;
+          mid-term-day = refl;
           small-remainder = refl;
           number = refl;
           leap = refl;
@@ -114,7 +114,7 @@ refusals-flat =
           first-name = refl;
           eclipse = refl;
           eclipse-remainder = refl;
-          term-parts = refl;
+          mid-term-parts = refl;
         },
       );
       quarter = λ k. (refl, record { day = refl; parts = refl });

@@ -202,7 +202,7 @@ noClerk k =
       clerk = record {
         «month_count» = 0;
         «first_day» = 0;
-        «term_day» = 0;
+        «mid_term_day» = 0;
         «small_remainder» = 0;
         number = 0;
         leap = false;
@@ -210,7 +210,7 @@ noClerk k =
         «first_name» = 0;
         eclipse = false;
         «eclipse_remainder» = 0;
-        «term_parts» = 0;
+        «mid_term_parts» = 0;
       };
     }
 

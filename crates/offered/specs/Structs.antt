@@ -112,7 +112,7 @@ pub record BareMonth (r : CMonth) : Type 0 where
 pub record BareClerk (r : CClerk) : Type 0 where
   pub month-count : r .clerk .«month_count» ≡ 0
   pub first-day : r .clerk .«first_day» ≡ 0
-  pub term-day : r .clerk .«term_day» ≡ 0
+  pub mid-term-day : r .clerk .«mid_term_day» ≡ 0
   pub small-remainder : r .clerk .«small_remainder» ≡ 0
   pub number : r .clerk .number ≡ 0
   pub leap : r .clerk .leap ≡ false
@@ -120,7 +120,7 @@ pub record BareClerk (r : CClerk) : Type 0 where
   pub first-name : r .clerk .«first_name» ≡ 0
   pub eclipse : r .clerk .eclipse ≡ false
   pub eclipse-remainder : r .clerk .«eclipse_remainder» ≡ 0
-  pub term-parts : r .clerk .«term_parts» ≡ 0
+  pub mid-term-parts : r .clerk .«mid_term_parts» ≡ 0
 
 pub record BareQuarter (r : CQuarter) : Type 0 where
   pub day : r .day ≡ 0

@@ -1,8 +1,8 @@
 -- `capi::oes_clerk_start` meets its contract. Assumes nothing.
 use Rattle.clerk.specs.Clerk.{startAt}
+use Rattle.capped.proofs.Paper.{capped-alike}
 use Rattle.offered.specs.Flat.{flatClerk}
 use Rattle.capi.proofs.Asked.{asked-one}
-use Rattle.capi.proofs.Clerks.{start-capped}
 use borrow.Author.Needs.{needs}
 use Rattle.capi.proofs.oes_clerk_start.Statement.{statement}
 use Rattle.capi.proofs.oes_clerk_start.Tie as tie
@@ -14,4 +14,4 @@ oes-clerk-start-spec =
     (λ c κs. search needs)
     (λ c κs. search needs)
     (λ c κs. search needs)
-    (λ c. asked-one flatClerk startAt start-capped (c .before .before .cap .ensures) (c .before .start .ensures) (c .flat-clerk .ensures)))
+    (λ c. asked-one flatClerk startAt (capped-alike .start) (c .before .before .cap .ensures) (c .before .start .ensures) (c .flat-clerk .ensures)))

@@ -1,5 +1,4 @@
 -- `clerk::at_head` meets its contract: the parts, each as the definition has it. Assumes nothing.
-use mathlib.Core.Path.{_≡_}
 use borrow.Author.Needs.{needs}
 use Rattle.clerk.specs.Clerk.{head}
 use Rattle.clerk.proofs.at_head.Statement.{statement}

@@ -37,7 +37,7 @@ next-month-spec =
     (λ c. search needs)
     (λ c κs h.
     let b3 = c .before .before .before in
-    near (b3 .before .args .c .«term_day») (b3 .before .args .c .«first_day») (b3 .days-on .result) (c .days-on2 .result) _ _
+    near (b3 .before .args .c .«mid_term_day») (b3 .before .args .c .«first_day») (b3 .days-on .result) (c .days-on2 .result) _ _
     (b3 .before .pre .1) (b3 .days-on .ensures) (c .days-on2 .ensures) h)
     (λ c κs. search needs)
     (λ c. search needs)

@@ -1,5 +1,4 @@
 -- `clerk::start` meets its contract: reason 21, or the bu's head. Assumes nothing.
-use Prim.Native.Nat.{_≤_}
 use mathlib.Core.Path.{_≡_, ap, sym, _∙_}
 use mathlib.Core.Bool.{true}
 use Rattle.rule.specs.Reasons.{is, within}

@@ -1,9 +1,8 @@
 -- `clerk::step` meets its contract: reason 7 by the count or by the first day, or the next month. Assumes nothing.
 use native.Mathlib.Omega.{arith}
-use mathlib.Core.Path.{_≡_, ap, sym, _∙_}
+use mathlib.Core.Path.{ap, sym, _∙_}
 use Rattle.rule.specs.Reasons.{is}
 use Rattle.rule.proofs.Answers.{fails, stops, passes}
-use Rattle.clerk.specs.declared.Clerk.{Clerk}
 use Rattle.clerk.specs.Clerk.{beforeLast, stepped, stepAt}
 use Rattle.clerk.proofs.Answered.{before-last}
 use borrow.Author.Needs.{needs}

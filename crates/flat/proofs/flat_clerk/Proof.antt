@@ -1,5 +1,4 @@
 -- `flat::flat_clerk` meets its contract. Assumes nothing.
-use mathlib.Core.Path.{refl}
 use borrow.Author.Needs.{needs}
 use Rattle.flat.proofs.flat_clerk.Statement.{statement}
 use Rattle.flat.proofs.flat_clerk.Tie as tie

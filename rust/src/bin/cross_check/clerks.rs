@@ -135,7 +135,7 @@ fn any_state(random: &mut Random) -> Clerk {
         clerk.first_day = random.any(14_989_860) as u32;
     }
     if asked(2) {
-        clerk.term_day = term_near(clerk.first_day, random);
+        clerk.mid_term_day = term_near(clerk.first_day, random);
     }
     if asked(3) {
         clerk.small_remainder = random.any(940) as u16;
@@ -159,7 +159,7 @@ fn any_state(random: &mut Random) -> Clerk {
         clerk.eclipse_remainder = random.any(135) as u8;
     }
     if asked(10) {
-        clerk.term_parts = random.any(32) as u8;
+        clerk.mid_term_parts = random.any(32) as u8;
     }
     clerk
 }
