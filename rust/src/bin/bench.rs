@@ -170,7 +170,8 @@ impl Bench {
     }
 
     /// The clerk through the months of a yuan, after the first: a step, and a step with what it shows, beside capi's facts of the next
-    /// count; and a step beside the independent one's.
+    /// count; a step beside the independent one's; and, with no state handed over between steps, a walk of them all at once, of which the
+    /// last month alone is seen.
     fn clerk(&mut self) {
         let by_counts = || {
             sum_of(1..=YUAN_MONTHS, |n| {
@@ -194,6 +195,19 @@ impl Bench {
             YUAN_MONTHS,
             || stepped(capi::clerk_step, own::clerk_show),
             || stepped(own::clerk_step, own::clerk_show),
+        );
+        self.compare(
+            "a walk of a yuan's months, by the step; month_facts of each",
+            YUAN_MONTHS,
+            || {
+                let last = capi::clerk_walk(1, black_box(YUAN_MONTHS));
+                last.map_or(0, |clerk| sum_of_month(own::clerk_show(clerk)))
+            },
+            || {
+                (1..=YUAN_MONTHS).fold(0, |_, n| {
+                    black_box(capi::month_facts(black_box(n)).map_or(0, sum_of_month))
+                })
+            },
         );
     }
 
