@@ -360,7 +360,7 @@ def emended(desk, row, room):
 
 
 def example(desk):
-    out = echoed(desk, """DAY 14989859,DAY 14989860,DATE 0 12 - 1,DATE 11 8 L 1,DATE 11 9 L 30,MOVE 0 11 - 1 27759,MOVE 0 11 - 1 -1,PLACE 9366,MONTH 115830,QUARTER 115830 2,TERM 9366 0,YEAR 11,CONJUNCTION 4 11826,NEXT 4 3453334""".split(","))
+    out = echoed(desk, """DAY 14989859,DAY 14989860,DATE 0 12 - 1,DATE 11 8 L 1,DATE 11 9 L 30,MOVE 0 11 - 1 27759,MOVE 0 11 - 1 -1,PLACE 9366,MONTH 115830,QUARTER 115830 2,TERM 9366 0,YEAR 11,CLERK 2 0,CLERK 2 1,CLERK 1 129,CLERK 540 940,CLERK 541 0,CONJUNCTION 4 11826,NEXT 4 3453334""".split(","))
     row, sheet = "27 9 ? 1 ? ? 3600 4000", write_sheet(([11], [], []), 8)
     for days, room in (([DAYS - 1, 29, 3957], 3), ([29, DAYS, 3957], 3), ([DAYS - 1, 29, 3957], 2)):
         out += [f"DRAWER{spaced(days)} INTO {room}", *drawer(desk, days, room)]
