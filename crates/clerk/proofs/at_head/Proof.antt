@@ -1,4 +1,5 @@
 -- `clerk::at_head` meets its contract: the parts, each as the definition has it. Assumes nothing.
+use mathlib.Core.Path.{refl}
 use borrow.Author.Needs.{needs}
 use Rattle.clerk.specs.Clerk.{head}
 use Rattle.clerk.proofs.at_head.Statement.{statement}
@@ -6,7 +7,7 @@ use Rattle.clerk.proofs.at_head.Tie as tie
 
 returns : tie.Need-returns
 unfolding head
-returns c = rw (c .before .before .mid-term-ahead .ensures, c .before .days-on .ensures, c .day-name .ensures)
+returns c = rw (c .before .before .mid-term-ahead .ensures, c .before .days-on .ensures, c .day-name .ensures) refl
 
 pub at-head-spec : {M : Type 1} → statement M
 at-head-spec =
