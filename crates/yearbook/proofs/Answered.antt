@@ -1,15 +1,14 @@
 -- Laws of the answers: the figures made from their numbers, the range's months and days, and one law a return. Assumes nothing.
 use Prim.Native.Nat.{ℕ, _+_, _-_, _≤_, _<_}
 use native.Mathlib.Omega.{arith}
-use mathlib.Core.Path.{_≡_, refl, ap, sym, _∙_}
-use mathlib.Core.Bool.{Bool, true, false, _&&_}
+use mathlib.Core.Path.{_≡_, ap, sym, _∙_}
+use mathlib.Core.Bool.{true, false}
 use mathlib.Core.List.{List}
-use lib.Dec.{leb}
 use borrow.Author.Tests.{le-leb, lt-leb}
-use Rattle.rule.specs.Reasons.{Answer, is, refused, reasonNumber, within, guard}
+use Rattle.rule.specs.Reasons.{Answer, is, refused, reasonNumber, within}
 use Rattle.rule.specs.Rule.{monthStart, big, pairStarts, civilFirstMonth, eclipse}
 use Rattle.rule.specs.declared.Reason.{Reason}
-use Rattle.rule.proofs.Answers.{stops, passes, within-true}
+use Rattle.rule.proofs.Answers.{within-true}
 use Rattle.rule.proofs.Months.{start-end}
 use Rattle.yearbook.specs.declared.Figures.{Figures}
 use Rattle.yearbook.specs.declared.Figured.the-variants.{Are, Refused}

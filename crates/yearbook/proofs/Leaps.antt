@@ -1,6 +1,6 @@
 -- Laws of the leap months by number: those of a range are so many like each of the 28 of a bu. Assumes nothing.
 use Prim.Native.Nat.{ℕ, zero, suc, _+_, _-_, _*_, _/_, _%_, _≤_, _<_}
-use native.Mathlib.Nat.{eq-or-lt-of-le, le-of-suc-le-suc, not-suc-le-zero, zero-add}
+use native.Mathlib.Nat.{eq-or-lt-of-le, le-of-suc-le-suc, not-suc-le-zero}
 use native.Mathlib.Numerals.{add-one}
 use native.Mathlib.Omega.{arith}
 use mathlib.Core.Path.{_≡_, refl, ap, ap₂, sym, _∙_}
@@ -24,7 +24,7 @@ unfoldable pub adding : (ℕ → ℕ) → List ℕ → ℕ
 adding f [] = 0
 adding f (x ∷ xs) = f x + adding f xs
 
-pub adding-append : (f : ℕ → ℕ) (xs ys : List ℕ) → adding f (xs ++ ys) ≡ adding f xs + adding f ys
+adding-append : (f : ℕ → ℕ) (xs ys : List ℕ) → adding f (xs ++ ys) ≡ adding f xs + adding f ys
 unfolding adding
 adding-append f [] ys = omega arith
 adding-append f (x ∷ xs) ys = omega (arith, adding-append f xs ys)
@@ -34,7 +34,7 @@ unfolding adding
 adding-kept f true x = omega arith
 adding-kept f false x = refl
 
-adding-same : (f g : ℕ → ℕ) (xs : List ℕ) → ((x : ℕ) → f x ≡ g x) → adding f xs ≡ adding g xs
+pub adding-same : (f g : ℕ → ℕ) (xs : List ℕ) → ((x : ℕ) → f x ≡ g x) → adding f xs ≡ adding g xs
 unfolding adding
 adding-same f g [] h = refl
 adding-same f g (x ∷ xs) h = omega (arith, h x, adding-same f g xs h)
@@ -81,8 +81,8 @@ module _ (p : ℕ → Bool) (r : ℕ) where
   once (suc m) h =
       ⊎-elim
       (λ e.
-          let q : r ≡ 0 + m = omega (arith, e) in
-          omega (arith, adding-those isIt p 0 m, never m (omega (arith, e)), itself (p (0 + m)) (0 + m) q, ap (λ (n : ℕ). bit (p n)) q))
+      let q : r ≡ 0 + m = omega (arith, e) in
+      omega (arith, adding-those isIt p 0 m, never m (omega (arith, e)), itself (p (0 + m)) (0 + m) q, ap (λ (n : ℕ). bit (p n)) q))
       (λ l. omega (arith, adding-those isIt p 0 m, once m l, other (p (0 + m)) (0 + m) (λ e. omega (arith, e, l))))
       (eq-or-lt-of-le (le-of-suc-le-suc h))
 
@@ -140,10 +140,6 @@ leaps-counted k from to =
     by-places (leapNumbered k) (numbered-round k) from (to - from)
     ∙ adding-both (λ o. passing (atPlace o) from to) leap (λ n. eqb (monthNumber n) k) 0 940
 
-pub tally-none : (from to k : ℕ) → tally from to k [] ≡ 0
-unfolding tally adding
-tally-none from to k = refl
-
 pub tally-more : (from to k : ℕ) (xs : List ℕ) (x : ℕ) →
     tally from to k (xs ++ (x ∷ [])) ≡ tally from to k xs + cond (eqb (monthNumber x) k) (passing (atPlace x) from to) 0
 unfolding tally adding
@@ -187,7 +183,7 @@ module _ (from to : ℕ) (l : List ℕ) (table : l ≡ those leap 0 940) (i : �
   leap-step h counts number x e f g =
       ap (λ (m : List ℕ). set m (number - 1) (getD m (number - 1) 0 + x)) e
       ∙ each-added soFar (λ k. tally from to k (take (i + 1) l)) 12 number x
-          (omega (arith, f, number-range (getD l i 0))) (omega (arith, f, number-range (getD l i 0))) next
+      (omega (arith, f, number-range (getD l i 0))) (omega (arith, f, number-range (getD l i 0))) next
     where
       next : (k : ℕ) → tally from to k (take (i + 1) l) ≡ soFar k + cond (eqb number k) x 0
       next k =
@@ -217,7 +213,7 @@ module _ (from to : ℕ) (l : List ℕ) (table : l ≡ those leap 0 940) (i : �
   leaps-done h =
       each-same soFar (λ k. passing (leapNumbered k) from to) 12
       (λ k low high.
-          ap (tally from to k) (take-all i l (omega (arith, as-many)) ∙ table) ∙ sym (leaps-counted k from to))
+      ap (tally from to k) (take-all i l (omega (arith, as-many)) ∙ table) ∙ sym (leaps-counted k from to))
 
 -- before the first of them
 pub leaps-begin : (from to : ℕ) (l : List ℕ) → 0 ∷ 0 ∷ 0 ∷ 0 ∷ 0 ∷ 0 ∷ 0 ∷ 0 ∷ 0 ∷ 0 ∷ 0 ∷ 0 ∷ [] ≡ forEach (λ k. tally from to k (take 0 l)) 12

@@ -4,3 +4,9 @@ pub mod Passing
 pub mod Leaps
 pub mod Names
 pub mod Answered
+pub mod Literally
+pub mod Sums
+pub mod Closed
+pub mod Rows
+pub mod Joins
+pub mod Paper

@@ -1,8 +1,8 @@
 -- Laws of the walk along the names. Assumes nothing.
-use Prim.Native.Nat.{ℕ, _+_, _≤_}
+use Prim.Native.Nat.{ℕ, _≤_}
 use native.Mathlib.Omega.{arith}
 use mathlib.Core.Path.{_≡_, refl, ap, _∙_}
-use mathlib.Core.List.{List, [], _∷_, _++_, append-nil}
+use mathlib.Core.List.{_++_, append-nil}
 use lib.ListN.{drop, replicate}
 use Rattle.yearbook.specs.Figures.{passing, named, forEach, namesFrom}
 

@@ -17,7 +17,7 @@ use Rattle.rule.proofs.Eclipses.{goes-on}
 use Rattle.yearbook.specs.Figures.{passing, small, named}
 
 -- what u gains on v from one count up to another
-pub gained : (u v : ℕ → ℕ) (p : ℕ → Bool) → Gains u v p → (from to : ℕ) → from ≤ to → u to + v from ≡ u from + v to + passing p from to
+gained : (u v : ℕ → ℕ) (p : ℕ → Bool) → Gains u v p → (from to : ℕ) → from ≤ to → u to + v from ≡ u from + v to + passing p from to
 gained u v p step from to h =
     let e : from + (to - from) ≡ to = omega arith in omega (arith, ap u e, ap v e, counted u v p step from (to - from))
 

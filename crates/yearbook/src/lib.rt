@@ -1,8 +1,7 @@
 // The yearbook's figures: over a range of civil years the big and small months, big pairs, leap months by number, eclipse months, and the days of
 // each name. No month and no day of the range is walked.
 ghost use mathlib.Core.Path.{_≡_};
-ghost use Prim.Native.Nat.{_+_, _-_, _%_, _≤_, _<_};
-ghost use mathlib.Core.List.{List};
+ghost use Prim.Native.Nat.{_%_, _≤_, _<_};
 ghost use lib.Dec.{eqb};
 ghost use Rattle.rule.specs.Lists.{those};
 ghost use Rattle.rule.specs.Rule.{big, pairStarts, leap, eclipse};
@@ -26,8 +25,34 @@ pub enum Figured {
 
 // The leap months of a bu, counted from its head: 28 of its 940.
 const LEAPS: [u16; 28] = [
-    32, 66, 100, 134, 167, 200, 234, 268, 301, 334, 368, 402, 435, 468, 503, 537, 570, 603, 637, 671,
-    704, 737, 771, 805, 838, 871, 905, 939,
+    32,
+    66,
+    100,
+    134,
+    167,
+    200,
+    234,
+    268,
+    301,
+    334,
+    368,
+    402,
+    435,
+    468,
+    503,
+    537,
+    570,
+    603,
+    637,
+    671,
+    704,
+    737,
+    771,
+    805,
+    838,
+    871,
+    905,
+    939,
 ];
 
 // The table of them; that it has all leap months of a bu and no other is computed here, once for all.

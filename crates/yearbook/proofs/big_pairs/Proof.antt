@@ -15,14 +15,14 @@ big-pairs-spec =
     (λ c. search needs)
     (λ c κs. search needs)
     (λ c.
-        let a = c .before .before .args in
-        omega (arith, start-end (a .to) (omega arith), start-end (a .to + 1) (omega arith)))
+    let a = c .before .before .args in
+    omega (arith, start-end (a .to) (omega arith), start-end (a .to + 1) (omega arith)))
     (λ c κs. search needs)
     (λ c. search needs)
     (λ c κs. search needs)
     (λ c.
-        let a = c .before .before .before .before .args in
-        omega (arith, start-end (a .from) (omega arith), start-end (a .from + 1) (omega arith)))
+    let a = c .before .before .before .before .args in
+    omega (arith, start-end (a .from) (omega arith), start-end (a .from + 1) (omega arith)))
     (λ c. let s = c .before .before .before .before in omega (arith, pairs-counted (s .args .from) (s .args .to) (s .pre .0)))
     (λ c. search needs)
     (λ c. search needs)

@@ -16,5 +16,5 @@ figures-from-spec =
     (λ c κs. search needs)
     (λ c κs. search needs)
     (λ c.
-        let b = c .before .before in
-        made-figures (b .before .args .from) (b .before .args .to) _ _ _ (b .big-months .ensures) (c .before .big-pairs .ensures) (c .eclipse-months .ensures)))
+    let b = c .before .before in
+    made-figures (b .before .args .from) (b .before .args .to) _ _ _ (b .big-months .ensures) (c .before .big-pairs .ensures) (c .eclipse-months .ensures)))

@@ -1,9 +1,9 @@
 -- `yearbook::figures_of` meets its contract: either refusal, or both arrays and the four numbers. Assumes nothing.
-use Prim.Native.Nat.{ℕ, _+_, _≤_, _<_}
+use Prim.Native.Nat.{_≤_, _<_}
 use native.Mathlib.Omega.{arith}
-use mathlib.Core.Path.{_≡_, refl, ap, ap₂, sym, _∙_}
+use mathlib.Core.Path.{ap, ap₂, _∙_}
 use borrow.Author.Needs.{needs}
-use Rattle.rule.specs.Rule.{monthStart, civilFirstMonth}
+use Rattle.rule.specs.Rule.{monthStart}
 use Rattle.rule.specs.declared.Reason.the-variants.{NoSuchYear, BadWindow}
 use Rattle.rule.proofs.Answers.{failed, passed}
 use Rattle.yearbook.specs.Figures.{figuresFrom, leapsFrom, namesFrom}
