@@ -6,8 +6,9 @@ The desk's first lines are worked by hand from the issue's and the paper's own f
 by a generator with a fixed seed, sound and damaged, enough to pass the 65,536 bytes that the program reads at a time. After these
 stand the notes and the pairs, by hand and drawn by a second generator; then days about the turns of civil years and dates of the
 years at both ends, drawn by a third; then days about the heads of bu and the turns of eclipse months, drawn by a fourth; then the
-misread slips, by hand and drawn by a fifth; then the clerk's walks, by hand and drawn by a sixth: so no line before them changes. The
-last line has no newline. The lines of `echo` are a short page that tries what it does with notes, queries and lines of any length.
+misread slips, by hand and drawn by a fifth; then the clerk's walks, by hand and drawn by a sixth; then the yearbook's figures, by hand and
+drawn by a seventh: so no line before them changes. The last line has no newline. The lines of `echo` are a short page that tries what it
+does with notes, queries and lines of any length.
 
 usage: tools/desk.py            write stdin and stdout of crates/desk and crates/echo
        tools/desk.py --check    say whether what stands is what it computes (exit status 1 if not)
@@ -534,6 +535,59 @@ def walks(desk):
     return [line.encode() for line in lines]
 
 
+# The yearbook's figures.
+
+FIGURES = """# figures of civil years: of the request, of one year, of some, and of all
+FIGURES 8 8
+FIGURES 11 11
+FIGURES 1 1
+FIGURES 41039 41039
+FIGURES 9368 9460
+FIGURES 1 76
+FIGURES 40964 41039
+FIGURES 1 41039
+# a pair across a join
+FIGURES 47 47
+FIGURES 48 48
+FIGURES 47 48
+# refused: 1 for either end, then 13
+FIGURES 0 8
+FIGURES 8 0
+FIGURES 0 0
+FIGURES 41040 41040
+FIGURES 8 41040
+FIGURES 41040 8
+FIGURES 65544 65544
+FIGURES 9 8
+FIGURES 41039 1
+FIGURES 4294967304 8
+FIGURES 8 4294967304
+FIGURES 8 18446744073709551624
+FIGURES 4294967305 4294967304
+""".splitlines()
+WRONG_FIGURES = [
+    "FIGURES", "FIGURES ", "FIGURES 8", "FIGURES 8 ", "FIGURES 8 8 8", "FIGURES 8 8 ", " FIGURES 8 8", "FIGURES  8 8", "FIGURES 08 8",
+    "FIGURES 8 08", "FIGURES -8 8", "FIGURES 8 ?", "FIGURES ? 8", "FIGURES 8 L", "FIGURES 8 8\r", "FIGURE 8 8", "FIGURESS 8 8", "figures 8 8",
+    "FIGURES 7 6 1 3", "LEAP 0 0", "NAMES 6 6", "FIGURES 8,8",
+]
+
+
+def any_range(draw):
+    """The ends of a range of civil years, mostly of some years, now and then outside or turned round."""
+    first = draw.choice((draw.randint(1, YEARS - 1), draw.randint(1, YEARS - 1), draw.randint(0, 3), draw.randint(YEARS - 3, YEARS + 1)))
+    return f"FIGURES {first} {max(0, first + draw.choice((0, draw.randint(0, 20), draw.randint(0, 80), -draw.randint(0, 3))))}"
+
+
+def yearbook():
+    draw = random.Random(20261121)
+    lines = FIGURES + WRONG_FIGURES
+    for turn in range(120):
+        line = any_range(draw)
+        lines.append(damaged(line, draw) if turn % 8 == 0 else line)
+    long = [b"FIGURES 8 " + b"9" * 190, b"FIGURES 8 " + b"9" * 191, b"FIGURES " + b"9" * 190 + b" 8", b"FIGURES " + b"9" * 191 + b" 8"]
+    return [line.encode() for line in lines] + long
+
+
 LAST = [b"# the last line has no newline", b"PAIR 3"]
 
 
@@ -561,6 +615,7 @@ EMEND 27 9 ? 1 ? ? 3600 4000
 EMEND 27 9 - 29 ? 58 3600 4000
 EMEND 27 9 - 30 ? 59 3600 3700
 CLERK 1 134
+FIGURES 11 11
 # and refused
 PLACE 0
 YEAR 41041
@@ -578,6 +633,8 @@ SEARCH 61 ? ? ? ? ? 0 5
 EMEND 61 ? ? ? ? ? 0 5
 CLERK 541 0
 CLERK 540 940
+FIGURES 0 8
+FIGURES 9 8
 # No queries: a word of the answers, a space before the mark of a note, letters for a number, an empty line, a space, a return
 UNREADABLE
  # not a note
@@ -606,7 +663,7 @@ def main():
             sys.stdout.buffer.write(b"".join(map(call, lines_in(sys.stdin.buffer.read()))))
             return 0
     files = {}
-    asked = queries(desk) + added(desk) + turns(desk) + places(desk) + slips(desk) + walks(desk) + LAST
+    asked = queries(desk) + added(desk) + turns(desk) + places(desk) + slips(desk) + walks(desk) + yearbook() + LAST
     for program, lines, call in (("desk", asked, desk.answer), ("echo", echo_lines(), desk.echo)):
         files[ROOT / "crates" / program / "stdin"] = b"\n".join(lines)
         files[ROOT / "crates" / program / "stdout"] = b"".join(map(call, lines))

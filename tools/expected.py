@@ -369,6 +369,7 @@ def example(desk):
         out += [f"SEARCH {row} INTO {room}", *answer, *(line for d in days for line in desk.day(d))]
     for slip, room in (("27 5 - 29 59 30", 7), ("27 5 - 29 59 30", 8), ("27 9 - 5 2 58", 8), ("27 5 - 30 59 30", 0)):
         out += [f"EMEND {slip} 3600 4000 INTO {room}", *emended(desk, f"{slip} 3600 4000", room)]
+    out += echoed(desk, ["FIGURES 11 11", "FIGURES 9368 9443", "FIGURES 9 8"])
     out += ["WRITE 11,,", f"BYTES {len(sheet)}", "SHEET" + spaced(sheet), "COUNTS" + spaced(map(len, read_sheet(sheet, (1,) * 3)))]
     out += uses_printed(desk, "YEAR", 11)
     return [" ".join(line.split()[:2]) if line.startswith("REFUSED") else line for line in out]

@@ -238,10 +238,39 @@ def in_month(page, p, k, n, days, parts):
     page.ask(month)
 
 
+# The figures of request W13, counted apart.
+FIGURES = """
+# THE YEARBOOK: figures of civil years that request W13 was checked with
+FIGURES 8 8 | big=7 small=6 pairs=1 eclipses=3 | leap-1=0 leap-11=0 leap-12=1
+FIGURES 11 11 | big=7 small=6 pairs=1 eclipses=2 | leap-8=0 leap-9=1 leap-10=0
+# all of them; the last month of year 41,039 starts no pair
+FIGURES 1 41039 | big=269453 small=238134 pairs=31319 eclipses=86478 | leap-1=1620 leap-2=540 leap-3=1620 leap-4=1080 leap-5=1620 leap-6=1080 leap-7=1080 leap-8=1620 leap-9=1080 leap-10=1619 leap-11=540 leap-12=1620
+# seventy-six years, wherever they begin
+FIGURES 1 76 | big=499 small=441 pairs=58 | leap-1=3 leap-2=1 leap-3=3 leap-4=2 leap-5=3 leap-6=2 leap-7=2 leap-8=3 leap-9=2 leap-10=3 leap-11=1 leap-12=3
+FIGURES 9368 9443 | big=499 small=441 pairs=58 | leap-1=3 leap-2=1 leap-3=3 leap-4=2 leap-5=3 leap-6=2 leap-7=2 leap-8=3 leap-9=2 leap-10=3 leap-11=1 leap-12=3
+# 004's 196 eclipses in 93 years (H35)
+FIGURES 9368 9460 | eclipses=196
+# the last month of year 47 starts a pair: it counts with year 47, and once in both years
+FIGURES 47 47 | pairs=1
+FIGURES 48 48 | pairs=0
+FIGURES 47 48 | pairs=1
+"""
+
+
+def yearbook(page):
+    for line in FIGURES.strip().split("\n"):
+        query, *printed = line.split(" | ")
+        if line.startswith("# "):
+            page.note(line[2:])
+        else:
+            page.ask(query, *map(figures, printed))
+
+
 def main():
     page = Page()
     known_dates(page)
     planets(page)
+    yearbook(page)
     return hold(page.files("known"))
 
 

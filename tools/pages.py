@@ -26,7 +26,10 @@ FITS total
 EMENDED total
 EMENDATION day field read should-be
 CLERK count number mark first-name length eclipse first-day small-remainder
+FIGURES big small pairs eclipses
 """
+# The counts of a yearbook's figures by number and by name.
+SHAPES += "LEAP" + "".join(f" leap-{k}" for k in range(1, 13)) + "\nNAMES" + "".join(f" name-{k}" for k in range(1, 61)) + "\n"
 SHAPES = {line.split()[0]: line.split() for line in SHAPES.strip().split("\n")}
 
 

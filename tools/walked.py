@@ -358,6 +358,7 @@ FORMS = {
     "SEARCH": [F, F, G, F, F, F, N, N],
     "EMEND": [F, F, G, F, F, F, N, N],
     "CLERK": [N, N],
+    "FIGURES": [N, N],
 }
 FORMS = {word: re.compile(b" ".join([word.encode(), *fields])) for word, fields in FORMS.items()}
 MARKS = {b"-": 1, b"L": 2, b"?": None}
@@ -535,6 +536,22 @@ class Desk:
             return [f"FITS {fit}"]
         found = self.emendations(reading, first, last)
         return [f"EMENDED {len(found)}"] + [emendation_line(*one) for one in found]
+
+    def figures(self, first, last):
+        """The yearbook's figures of a range of civil years, each of its months and days walked."""
+        if not (1 <= first < YEARS and 1 <= last < YEARS):
+            return [refused(1)]
+        if last < first:
+            return [refused(13)]
+        c, leaps, names = self.c, [0] * 12, [0] * 60
+        months = [n for y in range(first, last + 1) for n in c.months_of_civil[y]]
+        for n in months:
+            leaps[c.number[n] - 1] += c.leap[n]
+            for day in range(c.starts[n], c.starts[n + 1]):
+                names[day_name(day) - 1] += 1
+        big = [n for n in months if c.length(n) == 30]
+        four = (len(big), len(months) - len(big), sum(c.length(n + 1) == 30 for n in big), sum(map(is_eclipse, months)))
+        return [" ".join([word, *map(str, counts)]) for word, counts in (("FIGURES", four), ("LEAP", leaps), ("NAMES", names))]
 
     # A line, which is bytes without its newline.
 

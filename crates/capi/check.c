@@ -101,6 +101,11 @@ SIZE(oes_found, 8);
 AT(oes_emended, fits, 4);
 AT(oes_emended, total, 8);
 SIZE(oes_emended, 12);
+AT(oes_figures_told, big, 4);
+AT(oes_figures_told, small, 8);
+AT(oes_figures_told, pairs, 12);
+AT(oes_figures_told, eclipses, 16);
+SIZE(oes_figures_told, 20);
 AT(oes_sheet_counts, years, 8);
 AT(oes_sheet_counts, months, 16);
 AT(oes_sheet_counts, days, 24);
@@ -771,6 +776,72 @@ static void emend_marks_and_ends(void)
     EMENDED(read_whole((const uint64_t[6]){16, 10, 1, 30, 60, 31}), 14989859, 14989859, 4, 1, last);
 }
 
+/* The two arrays of the yearbook's figures, with places before, between and behind that must stay. */
+typedef struct figured {
+    uint32_t before[GUARD];
+    uint32_t leaps[12];
+    uint32_t between[GUARD];
+    uint32_t names[60];
+    uint32_t behind[GUARD];
+} figured;
+
+/* Asks for the figures of a range and holds the answer, and every place in and about the arrays: where it is refused all are as they
+ * were, else the leap months are those that are wanted, and `name` has the most days, `most` of them, as have the `many` names from it
+ * on; the others have one fewer. */
+static void figures_are(int line, uint64_t first, uint64_t last, oes_figures_told want, const uint32_t leaps[12], uint32_t name,
+                        uint32_t many, uint32_t most)
+{
+    figured got;
+    figured kept;
+    uint32_t *place = (uint32_t *)&got;
+    for (uint32_t i = 0; i < sizeof got / sizeof *place; i++) {
+        place[i] = untouched - i;
+    }
+    kept = got;
+    if (want.reason == 0) {
+        memcpy(kept.leaps, leaps, sizeof kept.leaps);
+        for (uint32_t i = 0; i < 60; i++) {
+            kept.names[i] = most - ((i + 60 - (name - 1)) % 60 >= many);
+        }
+    }
+    oes_figures_told told = oes_figures(first, last, got.leaps, got.names);
+    same(line, "reason", told.reason, want.reason);
+    same(line, "big", told.big, want.big);
+    same(line, "small", told.small, want.small);
+    same(line, "pairs", told.pairs, want.pairs);
+    same(line, "eclipses", told.eclipses, want.eclipses);
+    bytes_same(line, &got, &kept, sizeof got);
+}
+
+#define FIGURES(first, last, b, s, p, e, leaps, name, many, most) \
+    figures_are(__LINE__, (first), (last), (oes_figures_told){0, (b), (s), (p), (e)}, (leaps), (name), (many), (most))
+#define FIGURES_REFUSED(first, last, reason) \
+    figures_are(__LINE__, (first), (last), (oes_figures_told){(reason), 0, 0, 0, 0}, NULL, 0, 0, 0)
+
+/* The figures of civil year 8, which has a leap 12, of 11, which has a leap 9, of 47, whose last month starts a pair with the first of
+ * 48, of both, and of all years; the names follow from the first day and how many there are. */
+static void figures(void)
+{
+    const uint32_t none[12] = {0};
+    const uint32_t leap_12[12] = {0, 0, 0, 0, 0, 0, 0, 0, 0, 0, 0, 1};
+    const uint32_t leap_9[12] = {0, 0, 0, 0, 0, 0, 0, 0, 1, 0, 0, 0};
+    const uint32_t all[12] = {1620, 540, 1620, 1080, 1620, 1080, 1080, 1620, 1080, 1619, 540, 1620};
+    FIGURES(8, 8, 7, 6, 1, 3, leap_12, 19, 24, 7);
+    FIGURES(11, 11, 7, 6, 1, 2, leap_9, 32, 24, 7);
+    FIGURES(47, 47, 6, 6, 1, 2, none, 3, 54, 6);
+    FIGURES(48, 48, 6, 6, 0, 2, none, 57, 54, 6);
+    FIGURES(47, 48, 12, 12, 1, 4, none, 3, 48, 12);
+    FIGURES(1, 41039, 269453, 238134, 31319, 86478, all, 60, 36, 249825);
+    FIGURES_REFUSED(0, 8, 1);
+    FIGURES_REFUSED(8, 0, 1);
+    FIGURES_REFUSED(41040, 8, 1);
+    FIGURES_REFUSED(8, 41040, 1);
+    FIGURES_REFUSED(wide(8), 8, 1);
+    FIGURES_REFUSED(8, wide(8), 1);
+    FIGURES_REFUSED(9, 8, 13);
+    FIGURES_REFUSED(41039, 1, 13);
+}
+
 /* Year 11, month 134 and day 3957 on a sheet, there and back; cut off, and with too little room. */
 static void sheet(void)
 {
@@ -903,6 +974,7 @@ int main(void)
     emend_a_day_of_month();
     emend_each_field();
     emend_marks_and_ends();
+    figures();
     sheet();
     counts();
     years_of_a_sheet();

@@ -191,6 +191,36 @@ static void emendings(void)
     show_emend("27 5 - 30 59 30", fitting, 0);
 }
 
+/* The yearbook's figures of a range, three lines as the desk has them. */
+static void show_figures(uint64_t first, uint64_t last)
+{
+    uint32_t leaps[12];
+    uint32_t names[60];
+    oes_figures_told f = oes_figures(first, last, leaps, names);
+    printf("FIGURES %llu %llu\n", (unsigned long long)first, (unsigned long long)last);
+    if (f.reason != 0) {
+        printf("REFUSED %u\n", f.reason);
+        return;
+    }
+    printf("FIGURES %u %u %u %u\nLEAP", f.big, f.small, f.pairs, f.eclipses);
+    for (int i = 0; i < 12; i++) {
+        printf(" %u", leaps[i]);
+    }
+    printf("\nNAMES");
+    for (int i = 0; i < 60; i++) {
+        printf(" %u", names[i]);
+    }
+    puts("");
+}
+
+/* Civil year 11; the 76 years from 9,368 on; and a range turned round. */
+static void yearbook(void)
+{
+    show_figures(11, 11);
+    show_figures(9368, 9443);
+    show_figures(9, 8);
+}
+
 /* The sheet with civil year 11 alone, written, read back and printed. */
 static void sheet(void)
 {
@@ -224,6 +254,7 @@ int main(void)
     drawers();
     search();
     emendings();
+    yearbook();
     sheet();
     return 0;
 }

@@ -1,7 +1,7 @@
 #!/usr/bin/env python3
 """Whether oesterwrok.h declares what the crates export: every struct field by field, every call argument by argument.
 
-A slice of the code is a pointer and a length in the header. (check.c holds the header to the compiled archive.)
+A slice of the code is a pointer and a length in the header, an array its element and its size. (check.c holds the header to the compiled archive.)
 
 usage: crates/capi/header.py    exit status 1 if the two differ
 """
@@ -28,6 +28,7 @@ STRUCTS = {
     "oes_reading": "CReading",
     "oes_found": "CFound",
     "oes_emended": "CEmended",
+    "oes_figures_told": "CFigures",
     "oes_sheet_counts": "CSheetCounts",
     "oes_length": "CLength",
 }
@@ -42,9 +43,10 @@ def of_header(text):
     for name, body in re.findall(r"typedef struct (\w+) \{(.*?)\}", text, re.DOTALL):
         found[STRUCTS[name]] = [(field, meant(kind)) for kind, field in re.findall(r"(\w+) (\w+);", body)]
     for result, name, body in re.findall(r"^(\w+) (oes_\w+)\((.*?)\);", text, re.DOTALL | re.MULTILINE):
-        given = re.findall(r"(const )?(\w+) (\*?)(\w+)\s*(?:,|$)", body)
+        given = re.findall(r"(const )?(\w+) (\*?)(\w+)(?:\[(\d+)\])?\s*(?:,|$)", body)
         found[name] = [
-            (arg, ("&" if const else "&mut ") + meant(kind) if star else meant(kind)) for const, kind, star, arg in given
+            (arg, f"&mut [{meant(kind)}; {size}]" if size else ("&" if const else "&mut ") + meant(kind) if star else meant(kind))
+            for const, kind, star, arg, size in given
         ] + [("->", STRUCTS[result])]
     return found
 

@@ -1,5 +1,5 @@
-/* The calls of Oesterwrok for C: days, dates, drawers, facts, the clerk, planets, searches, emendings, sheets and printed
- * lines of the Quarter-Remainder rule.
+/* The calls of Oesterwrok for C: days, dates, drawers, facts, the clerk, planets, searches, emendings, the yearbook's figures,
+ * sheets and printed lines of the Quarter-Remainder rule.
  *
  * Every call ends for every input. `reason` is 0 where there is an answer; else it is the paper's number, every other field
  * is 0 (but the total of a search or an emending that is refused with 12, which is the true one, and the place of a drawer that
@@ -187,6 +187,16 @@ typedef struct oes_emended {
     uint32_t total;
 } oes_emended;
 
+/* The figures of a range of civil years: its big months, small months, big pairs and eclipse months. A big pair counts by the month
+ * that starts it. */
+typedef struct oes_figures_told {
+    uint32_t reason;
+    uint32_t big;
+    uint32_t small;
+    uint32_t pairs;
+    uint32_t eclipses;
+} oes_figures_told;
+
 /* How many items each of a sheet's lists has; its years are civil years. */
 typedef struct oes_sheet_counts {
     uint32_t reason;
@@ -240,6 +250,11 @@ oes_found oes_search(oes_reading reading, uint64_t first, uint64_t last, uint32_
  * of `out` each: the day, the field (1 to 6, in the order of oes_reading), what was read and what it should be. 12 where `out` has
  * fewer than four places for each. Where some day fits, `out` stays as it was, and may be as short as it likes. */
 oes_emended oes_emend(oes_reading reading, uint64_t first, uint64_t last, uint32_t *out, size_t out_places);
+
+/* The figures of the civil years from `first` to `last`, both among them; 1 for a year outside 1 to 41,039, then 13 for a range turned
+ * round. `leaps` has the leap months of each number, of number 1 first; `names` the days of each name, of name 1 first. Both are
+ * filled wholly: they have 12 and 60 places, never fewer. The time does not grow with the range. */
+oes_figures_told oes_figures(uint64_t first, uint64_t last, uint32_t leaps[12], uint32_t names[60]);
 
 /* Years are civil years. */
 oes_sheet_counts oes_read_sheet(const uint8_t *bytes, size_t bytes_length, uint16_t *years, size_t years_places,

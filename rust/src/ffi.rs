@@ -167,6 +167,11 @@ answer! {
 }
 
 answer! {
+    /// `oes_figures_told`
+    CFigures { big: u32, small: u32, pairs: u32, eclipses: u32 }
+}
+
+answer! {
     /// `oes_sheet_counts`
     CSheetCounts { years: usize, months: usize, days: usize }
 }
@@ -238,6 +243,8 @@ unsafe extern "C" {
         out: *mut u32,
         out_places: usize,
     ) -> CEmended;
+    fn oes_figures(first: u64, last: u64, leaps: *mut [u32; 12], names: *mut [u32; 60])
+        -> CFigures;
     fn oes_read_sheet(
         bytes: *const u8,
         bytes_length: usize,
@@ -284,6 +291,13 @@ pub fn search(reading: CReading, first: u64, last: u64, out: &mut [u32]) -> CFou
 pub fn emend(reading: CReading, first: u64, last: u64, out: &mut [u32]) -> CEmended {
     // SAFETY: pointer and length are those of one slice, borrowed alone.
     unsafe { oes_emend(reading, first, last, out.as_mut_ptr(), out.len()) }
+}
+
+/// `oes_figures` over arrays.
+#[inline]
+pub fn figures(first: u64, last: u64, leaps: &mut [u32; 12], names: &mut [u32; 60]) -> CFigures {
+    // SAFETY: each pointer is that of an array of its size, borrowed alone.
+    unsafe { oes_figures(first, last, leaps, names) }
 }
 
 /// `oes_read_sheet` over slices.

@@ -7,6 +7,10 @@
 use crate::types::*;
 use std::ops::Range;
 
+mod yearbook;
+
+pub use yearbook::figures;
+
 /// Solstice years in range, one origin-and-eclipse cycle: 1 to 41,040. Civil years are 0 to 41,040.
 const YEARS: u64 = 41_040;
 

@@ -292,6 +292,39 @@ pub fn emend(
     emended(ffi::emend(c_reading(reading), first, last, out))
 }
 
+/// The figures of the civil years from `first` to `last`, both among them: big and small months, big pairs (by the month that starts
+/// them), eclipse months; `leaps` gets the leap months of each number, of number 1 first, `names` the days of each name, of name 1
+/// first. Reason 1 outside 1 to 41,039, then 13 for a range turned round; a refused call leaves both arrays as they were. The time
+/// does not grow with the range.
+///
+/// ```
+/// use oesterwrok::{figures, Figures, Reason};
+///
+/// let (mut leaps, mut names) = ([0; 12], [0; 60]);
+/// let year_8 = Figures { big: 7, small: 6, pairs: 1, eclipses: 3 };
+/// assert_eq!(figures(8, 8, &mut leaps, &mut names), Ok(year_8));
+/// assert_eq!(leaps, [0, 0, 0, 0, 0, 0, 0, 0, 0, 0, 0, 1]);
+/// assert_eq!(names.iter().sum::<u32>(), 7 * 30 + 6 * 29);
+///
+/// assert_eq!(figures(0, 8, &mut leaps, &mut names), Err(Reason::Year));
+/// assert_eq!(figures(9, 8, &mut leaps, &mut names), Err(Reason::Window));
+/// ```
+#[inline]
+pub fn figures(
+    first: u64,
+    last: u64,
+    leaps: &mut [u32; 12],
+    names: &mut [u32; 60],
+) -> Result<Figures, Reason> {
+    let c = ffi::figures(first, last, leaps, names).told()?;
+    Ok(Figures {
+        big: c.big,
+        small: c.small,
+        pairs: c.pairs,
+        eclipses: c.eclipses,
+    })
+}
+
 /// Reads a sheet of civil years, months and days into three lent lists; places beyond what it fills are untouched. Reasons 9, 10,
 /// 1, 7, 6, 11, 12.
 #[inline]

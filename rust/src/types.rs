@@ -485,6 +485,19 @@ impl fmt::Display for EmendRefused {
 
 impl std::error::Error for EmendRefused {}
 
+/// The figures of a range of civil years.
+#[derive(Clone, Copy, Debug, Default, PartialEq, Eq)]
+pub struct Figures {
+    /// Months of 30 days.
+    pub big: u32,
+    /// Months of 29 days.
+    pub small: u32,
+    /// Big months that are followed by another, be it in the range or the month after it.
+    pub pairs: u32,
+    /// Eclipse months.
+    pub eclipses: u32,
+}
+
 /// How many items each of a sheet's lists has.
 #[derive(Clone, Copy, Debug, PartialEq, Eq)]
 pub struct SheetCounts {

@@ -47,11 +47,14 @@ fn rust_type(c: &str) -> String {
     }
 }
 
-/// A variable of the header in Rust's words: `const uint8_t *bytes` is `bytes: *const u8`.
+/// A variable of the header in Rust's words: `const uint8_t *bytes` is `bytes: *const u8`, `uint32_t leaps[12]` `leaps: *mut [u32; 12]`.
 fn c_variable(text: &str) -> String {
     let (kind, name) = text
         .rsplit_once(' ')
         .unwrap_or_else(|| panic!("no name in {text}"));
+    if let Some((name, size)) = name.split_once('[') {
+        return format!("{name}: *mut [{}; {size}", rust_type(kind));
+    }
     match (name.strip_prefix('*'), kind.strip_prefix("const ")) {
         (Some(name), Some(kind)) => format!("{name}: *const {}", rust_type(kind)),
         (Some(name), None) => format!("{name}: *mut {}", rust_type(kind)),
@@ -152,19 +155,22 @@ fn ffi_structs(text: &str) -> (Declared, BTreeMap<String, String>) {
 fn ffi_calls(text: &str, names: &BTreeMap<String, String>) -> Declared {
     let one = |text: &str| {
         let (name, after) = text.split_once('(').expect("a call has arguments");
-        let (arguments, answer) = after.split_once(") -> ").expect("a call has an answer");
-        let arguments = parts(arguments, ',')
+        let (arguments, answer) = after.split_once("->").expect("a call has an answer");
+        let arguments = parts(arguments.trim().trim_end_matches(')'), ',')
             .join(", ")
             .replace("CReading", &names["CReading"])
             .replace(": Clerk", ": oes_clerk")
             .replace("DateRecord", &names["DateRecord"]);
         (
             name.to_string(),
-            format!("({arguments}) -> {}", names[answer.trim()]),
+            format!(
+                "({arguments}) -> {}",
+                names[answer.trim().trim_end_matches(';')]
+            ),
         )
     };
     let block = between(text, "unsafe extern \"C\" {", "\n}");
-    let calls = block.split(';').filter_map(|text| text.split_once("fn "));
+    let calls = block.split(";\n").filter_map(|text| text.split_once("fn "));
     calls.map(|(_, text)| one(text)).collect()
 }
 
@@ -172,9 +178,9 @@ fn ffi_calls(text: &str, names: &BTreeMap<String, String>) -> Declared {
 fn ffi_declares_what_the_header_does() {
     let text = file("src/ffi.rs");
     let (structs, names) = ffi_structs(&text);
-    assert_eq!(structs.len(), 18);
+    assert_eq!(structs.len(), 19);
     assert_eq!(structs, header_structs());
     let calls = ffi_calls(&text, &names);
-    assert_eq!(calls.len(), 24);
+    assert_eq!(calls.len(), 25);
     assert_eq!(calls, header_calls());
 }

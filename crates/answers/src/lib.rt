@@ -1,6 +1,6 @@
 // The desk program's answers, put into a lent buffer: one function a query, the query already taken apart into numbers. First those of
-// facts and planets, then those that are `DAY` lines: of a day, of a date, of a move, of a search; then that of an emendation, last that of
-// the clerk. All are inner:
+// facts and planets, then those that are `DAY` lines: of a day, of a date, of a move, of a search; then that of an emendation, that of the
+// clerk, last that of figures. All are inner:
 // each asks for room. A one-line answer takes 120 bytes at most, so that the caller has one need of room for all of them.
 ghost use mathlib.Core.List.{[], _∷_};
 ghost use Prim.Native.Nat.{ℕ, _+_, _*_, _≤_, _<_};
@@ -46,6 +46,7 @@ ghost use Rattle.told.specs.Answers.{
   emendText,
   clerkText,
 };
+ghost use Rattle.told.specs.Yearbook.{figuresLine, countsLine, figuresText, spaced};
 use clerk::ClerkTold;
 use dates::Date;
 use dates::Dated;
@@ -72,6 +73,8 @@ use reading::Reading;
 use rule::Quarter;
 use rule::Reason;
 use rule::Term;
+use yearbook::Figured;
+use yearbook::Figures;
 
 // A refusal: `REFUSED`, the reason's number and its words.
 fn put_refusal(why: Reason, out: &mut [u8], at: usize) -> usize
@@ -537,5 +540,59 @@ pub fn answer_clerk(b: u32, steps: u32, out: &mut [u8], at: usize) -> usize
     match clerk::walk(b, steps) {
         ClerkTold::Is(c) => put_month_line(b"CLERK", c.month_count, clerk::show(c), out, at),
         ClerkTold::Refused(why) => put_refusal(why, out, at),
+    }
+}
+
+// Numbers, each after a space.
+fn put_numbers(counts: &[u32], out: &mut [u8], at: usize) -> usize
+    requires { ⌜ at + 11 * length (now counts) ≤ length (now out) ⌝ }
+    ensures { λ r. ⌜ Put (11 * length (now (counts .entry))) (now (out .entry)) at (each spaced (now (counts .entry))) (now (out .exit)) r ⌝ }
+{
+    let mut to = at;
+    let mut i = 0;
+    while i < counts.len() {
+        to = fields::put_next(counts[i], out, to);
+        i += 1;
+    }
+    to
+}
+
+// A line of a word and counts.
+fn put_counts(name: &[u8], counts: &[u32], out: &mut [u8], at: usize) -> usize
+    requires { ⌜ at + (length (now name) + 11 * length (now counts) + 1) ≤ length (now out) ⌝ }
+    ensures { λ r. ⌜ Put (length (now (name .entry)) + 11 * length (now (counts .entry)) + 1) (now (out .entry)) at (countsLine (now (name .entry)) (now (counts .entry))) (now (out .exit)) r ⌝ }
+{
+    let to1 = fields::put_bytes(name, out, at);
+    let to2 = put_numbers(counts, out, to1);
+    fields::put_byte(10, out, to2)
+}
+
+// A `FIGURES` line.
+fn put_figures(f: Figures, out: &mut [u8], at: usize) -> usize
+    requires { ⌜ at + 52 ≤ length (now out) ⌝ }
+    ensures { λ r. ⌜ Put 52 (now (out .entry)) at (figuresLine f) (now (out .exit)) r ⌝ }
+{
+    let to1 = fields::put_bytes(b"FIGURES", out, at);
+    let to2 = fields::put_next(f.big, out, to1);
+    let to3 = fields::put_next(f.small, out, to2);
+    let to4 = fields::put_next(f.pairs, out, to3);
+    let to5 = fields::put_next(f.eclipses, out, to4);
+    fields::put_byte(10, out, to5)
+}
+
+// The answer to `FIGURES first last`: three lines, of 52, 137 and 666 bytes at most.
+pub fn answer_figures(first: u32, last: u32, out: &mut [u8], at: usize) -> usize
+    requires { ⌜ at + 855 ≤ length (now out) ⌝ }
+    ensures { λ r. ⌜ Put 855 (now (out .entry)) at (figuresText first last) (now (out .exit)) r ⌝ }
+{
+    let mut leaps = [0u32; 12];
+    let mut names = [0u32; 60];
+    match yearbook::figures_of(first, last, &mut leaps, &mut names) {
+        Figured::Are(f) => {
+            let to1 = put_figures(f, out, at);
+            let to2 = put_counts(b"LEAP", &leaps, out, to1);
+            put_counts(b"NAMES", &names, out, to2)
+        }
+        Figured::Refused(why) => put_refusal(why, out, at),
     }
 }

@@ -1,2 +1,3 @@
 -- What is asked with capped numbers is answered as of the numbers themselves.
 pub mod Asked
+pub mod Figured

@@ -31,12 +31,14 @@ ghost use Rattle.offered.specs.Promises.{
   CPrintMonth,
   CPrintDay,
 };
+ghost use Rattle.offered.specs.Yearbook.{CCountsFigures};
 use clerk::Clerk;
 use offered::CClerk;
 use offered::CConjunction;
 use offered::CDate;
 use offered::CDay;
 use offered::CEmended;
+use offered::CFigures;
 use offered::CFilled;
 use offered::CFound;
 use offered::CLength;
@@ -232,6 +234,19 @@ pub extern "C" fn oes_emend(reading: CReading, first: u64, last: u64, out: &mut 
 {
     let r = reading_of(reading);
     flat::flat_emended(emending::emend(r, capped::cap(first), capped::cap(last), out))
+}
+
+// The figures of a range of civil years; the leap months by number and the days by name go into the two arrays.
+#[no_mangle]
+pub extern "C" fn oes_figures(
+    first: u64,
+    last: u64,
+    leaps: &mut [u32; 12],
+    names: &mut [u32; 60],
+) -> CFigures
+    ensures { λ r. ⌜ CCountsFigures first last (now (leaps .entry)) (now (names .entry)) r (now (leaps .exit)) (now (names .exit)) ⌝ }
+{
+    flat::flat_figures(yearbook::figures_of(capped::cap(first), capped::cap(last), leaps, names))
 }
 
 // A drawer of days: the date of each, at the front of the lent records. What the days of a month share is kept from one day to the next.

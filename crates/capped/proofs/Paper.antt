@@ -38,6 +38,9 @@ use Rattle.reading.specs.declared.Field.the-variants.{Known, Unread}
 use Rattle.reading.specs.declared.Reading.{Reading}
 use Rattle.reading.specs.Readings.{fieldInRange, inRanges, windowHolds}
 use Rattle.reading.specs.Search.{total, whereGood, searchAt}
+use Rattle.yearbook.specs.declared.Figures.{Figures}
+use Rattle.yearbook.specs.Figures.{figuresOf}
+use Rattle.yearbook.specs.Counted.{figuresAt}
 use Rattle.capped.specs.Capped.{capped, cappedMove, cappedField, cappedReading}
 use Rattle.capped.specs.Paper.{Settled, Behind-a-test, Capped-alike, AlikeSearch, whole, both, Capped-search}
 
@@ -188,6 +191,20 @@ walk-capped b k =
     steps-settled : (c : ℕ) → Settled (λ j. leb (countOf c j) 507599)
     steps-settled c = none-behind (λ j. leb (countOf c j) 507599) (λ j h. lt-leb (countOf c j) 507599 (omega arith))
 
+-- one guard for two tests
+one-guard : {A : Type 0} (b c : Bool) (k : ℕ) (a : Answer A) → guard (b && c) k a ≡ guard b k (guard c k a)
+one-guard true c k a = refl
+one-guard false c k a = refl
+
+figures-capped : (first last : ℕ) → figuresAt (capped first) (capped last) ≡ figuresAt first last
+unfolding figuresAt
+figures-capped first last =
+    one-guard (within 1 41039 (capped first)) (within 1 41039 (capped last)) 1
+    (guard (leb (capped first) (capped last)) 13 (is (figuresOf (capped first) (capped last))))
+    ∙ two Figures (within 1 41039) (within 1 41039) (from-one 41039 (omega arith)) (from-one 41039 (omega arith)) 1 1
+    (λ i j. guard (leb i j) 13 (is (figuresOf i j))) first last
+    ∙ sym (one-guard (within 1 41039 first) (within 1 41039 last) 1 (guard (leb first last) 13 (is (figuresOf first last))))
+
 pub capped-alike : Capped-alike
 unfolding dateAt solsticeYearAt yearFactsAt monthFactsAt quarterAt termAt startAt
 capped-alike =
@@ -207,6 +224,7 @@ capped-alike =
       pair = pair-capped;
       start = λ b. behind-a-test Clerk (within 1 540) (from-one 540 (omega arith)) 21 (λ i. is (head i)) b;
       walk = walk-capped;
+      figures = figures-capped;
     }
 
 -- a field, and a reading

@@ -10,6 +10,7 @@ use Rattle.moves.specs.Moves.{moved}
 use Rattle.facts.specs.Facts.{solsticeYearAt, yearFactsAt, monthFactsAt, quarterAt, termAt}
 use Rattle.planets.specs.Planets.{conjunctionAt, nextAt, pairAt}
 use Rattle.clerk.specs.Clerk.{startAt, walked}
+use Rattle.yearbook.specs.Counted.{figuresAt}
 use Rattle.reading.specs.declared.Reading.{Reading}
 use Rattle.reading.specs.Search.{whereGood}
 use Rattle.capped.specs.Capped.{capped, cappedMove, cappedReading}
@@ -41,6 +42,7 @@ pub record Capped-alike : Type 0 where
   pub pair : (p : ℕ) → pairAt (capped p) ≡ pairAt p
   pub start : (b : ℕ) → startAt (capped b) ≡ startAt b
   pub walk : (b k : ℕ) → walked (capped b) (capped k) ≡ walked b k
+  pub figures : (first last : ℕ) → figuresAt (capped first) (capped last) ≡ figuresAt first last
 
 -- of a search and of an emendation: nothing was cut down, or both are refused with one reason, whatever comes after the tests
 pub data AlikeSearch (r : Reading) (first last : ℕ) : Type 1 where

@@ -9,6 +9,8 @@ ghost use Rattle.planets.specs.Planets.{phaseNumber};
 ghost use Rattle.planets.specs.Promises.{saidConjunction, saidNext, saidPair};
 ghost use Rattle.reading.specs.Search.{saidFound};
 ghost use Rattle.emending.specs.Emended.{saidEmended};
+ghost use Rattle.yearbook.specs.Counted.{saidFigured};
+ghost use Rattle.offered.specs.Yearbook.{flatFigures};
 ghost use Rattle.drawer.specs.Drawer.{drawerAt, saidFilled};
 ghost use Rattle.drawer.specs.Shared.{OfMonth, Holds};
 ghost use Rattle.sheet.specs.Promises.{saidCounts, saidHowMany};
@@ -57,6 +59,7 @@ use offered::CConjunction;
 use offered::CDate;
 use offered::CDay;
 use offered::CEmended;
+use offered::CFigures;
 use offered::CFilled;
 use offered::CFound;
 use offered::CLength;
@@ -77,6 +80,7 @@ use planets::Phase;
 use reading::Found;
 use sheet::HowMany;
 use sheet::SheetCounts;
+use yearbook::Figured;
 
 // A date laid flat, and an answer.
 fn given_date(d: Date) -> CDate
@@ -441,6 +445,28 @@ pub fn flat_emended(a: Emended) -> CEmended
             reason: rule::reason_number(why) as u32,
             fits: false,
             total: 0,
+        },
+    }
+}
+
+// The figures of a range of civil years.
+pub fn flat_figures(a: Figured) -> CFigures
+    ensures { λ r. ⌜ r ≡ flatFigures (saidFigured a) ⌝ }
+{
+    match a {
+        Figured::Are(f) => CFigures {
+            reason: 0,
+            big: f.big,
+            small: f.small,
+            pairs: f.pairs,
+            eclipses: f.eclipses,
+        },
+        Figured::Refused(why) => CFigures {
+            reason: rule::reason_number(why) as u32,
+            big: 0,
+            small: 0,
+            pairs: 0,
+            eclipses: 0,
         },
     }
 }

@@ -1,5 +1,5 @@
 -- Figures of the paper laid flat; a refusal is bare, and nothing is lost; every refusal is one of the reasons; a drawer's records; what an
--- emendation says; the clerk; four printed texts; and the proofs of the statements.
+-- emendation says; the clerk; the yearbook's figures; four printed texts; and the proofs of the statements.
 pub mod Structs
 pub mod Sound
 pub mod Drawers
@@ -7,4 +7,5 @@ pub mod Emended
 pub mod Clerks
 pub mod Cases
 pub mod Texts
+pub mod Yearbook
 pub mod Paper

@@ -2,4 +2,5 @@
 pub mod Flat
 pub mod Structs
 pub mod Promises
+pub mod Yearbook
 pub mod Paper

@@ -158,6 +158,16 @@ pub struct CLength {
     pub length: usize,
 }
 
+// The figures of a range of civil years: big months, small months, big pairs, eclipse months.
+#[repr(C)]
+pub struct CFigures {
+    pub reason: u32,
+    pub big: u32,
+    pub small: u32,
+    pub pairs: u32,
+    pub eclipses: u32,
+}
+
 // A reading of a slip: six values, and whether each was read. A leap mark is 1 for ordinary and 2 for leap.
 #[repr(C)]
 pub struct CReading {

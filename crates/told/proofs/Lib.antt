@@ -5,3 +5,4 @@ pub mod Refusing
 pub mod Finding
 pub mod Emending
 pub mod Paper
+pub mod Yearbook

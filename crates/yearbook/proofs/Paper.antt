@@ -41,7 +41,7 @@ pub record Given (first last : ℕ) (f : Figures) (leaps names : List ℕ) : Typ
   pub by-number : leaps ≡ leapFigures first last
   pub by-name : names ≡ nameFigures first last
 
-is-given : (first last : ℕ) (f : Figures) (leaps names leaps′ names′ : List ℕ) → CountsFigures first last leaps names (Are f) leaps′ names′ →
+pub is-given : (first last : ℕ) (f : Figures) (leaps names leaps′ names′ : List ℕ) → CountsFigures first last leaps names (Are f) leaps′ names′ →
     Given first last f leaps′ names′
 is-given first last f leaps names leaps′ names′ s =
     let g = given first last f (s .answered) in
@@ -316,14 +316,14 @@ pairsIn (Are f) = f .pairs
 pairsIn (Refused why) = 0
 
 -- what is promised of the ranges at which the wrong versions are tried
-year-8 : (l n l′ n′ : List ℕ) (a : Figured) → CountsFigures 8 8 l n a l′ n′ →
+pub year-8 : (l n l′ n′ : List ℕ) (a : Figured) → CountsFigures 8 8 l n a l′ n′ →
     (a ≡ Are (four 7 6 1 3)) × (l′ ≡ 0 ∷ 0 ∷ 0 ∷ 0 ∷ 0 ∷ 0 ∷ 0 ∷ 0 ∷ 0 ∷ 0 ∷ 0 ∷ 1 ∷ []) × (getD n′ 18 0 ≡ 7)
 unfolding computing
 year-8 l n l′ n′ a s =
     let c = computed 8 8 (good 8 8 (omega arith) (omega arith) (omega arith)) l n l′ n′ a s in
     (c .figures, c .by-number, ap (λ (m : List ℕ). getD m 18 0) (c .by-name))
 
-year-47 : (l n l′ n′ : List ℕ) (a : Figured) → CountsFigures 47 47 l n a l′ n′ → a ≡ Are (four 6 6 1 2)
+pub year-47 : (l n l′ n′ : List ℕ) (a : Figured) → CountsFigures 47 47 l n a l′ n′ → a ≡ Are (four 6 6 1 2)
 unfolding computing
 year-47 l n l′ n′ a s = computed 47 47 (good 47 47 (omega arith) (omega arith) (omega arith)) l n l′ n′ a s .figures
 

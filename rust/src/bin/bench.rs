@@ -42,6 +42,9 @@ const SEARCH_BY_MONTHS: f64 = 1.0;
 const EMEND_BY_DAYS: f64 = 0.1;
 const EMEND_BY_MONTHS: f64 = 1.2;
 
+/// And what the yearbook's figures of the slowest range may take, in times of the fastest.
+const FIGURES_APART: f64 = 3.0;
+
 fn main() -> ExitCode {
     println!("Times of one call, the best of {RUNS} runs or more; a ratio above 1 means that capi is slower.");
     println!(
@@ -57,6 +60,7 @@ fn main() -> ExitCode {
     bench.clerk();
     bench.searches();
     bench.emendings();
+    bench.figures();
     bench.sheets();
     for (what, ratio, most) in &bench.bars {
         let met = if ratio <= most { "met" } else { "NOT MET" };
@@ -290,6 +294,54 @@ impl Bench {
         )
     }
 
+    /// The yearbook's figures of one year, of 76 years and of all: beside the walk, and the three of capi beside one another.
+    fn figures(&mut self) {
+        let ranges = [
+            ("one year", 9_368, 9_368, 200),
+            ("76 years", 9_368, 9_443, 20),
+            ("all years", 1, 41_039, 1),
+        ];
+        let times = ranges.map(|(which, first, last, walks)| {
+            let (mut told, mut walked) = ([0; 72], [0; 72]);
+            self.compare_apart(
+                &format!("figures, {which}; the walk"),
+                (1_000, &mut || {
+                    counted(capi::figures, first, last, &mut told)
+                }),
+                (walks, &mut || {
+                    counted(own::figures, first, last, &mut walked)
+                }),
+            )
+        });
+        let slowest = times.iter().copied().fold(0.0, f64::max);
+        let fastest = times.iter().copied().fold(f64::MAX, f64::min);
+        self.hold(
+            "figures, slowest range to fastest",
+            slowest / fastest,
+            FIGURES_APART,
+        );
+    }
+
+    /// As `compare`, where one side is so much faster that each run has as many calls as suit it; gives the time of one call of capi.
+    fn compare_apart(&mut self, what: &str, capi: Side, own: Side) -> f64 {
+        let (mut capi_best, mut own_best) = (Duration::MAX, Duration::MAX);
+        let start = Instant::now();
+        let mut runs = 0;
+        while runs < RUNS || start.elapsed() < TIME {
+            let (capi_time, capi_last) = timed(&mut || last_of(capi.0, &mut *capi.1));
+            let (own_time, own_last) = timed(&mut || last_of(own.0, &mut *own.1));
+            capi_best = capi_best.min(capi_time);
+            own_best = own_best.min(own_time);
+            self.agreed &= capi_last == own_last;
+            runs += 1;
+        }
+        let (capi_call, own_call) = (per_call(capi_best, capi.0), per_call(own_best, own.0));
+        let one = |time: Duration, calls: u64| time.as_secs_f64() / calls as f64;
+        let ratio = one(capi_best, capi.0) / one(own_best, own.0);
+        println!("{what:<62}{capi_call:>12}{own_call:>14}{ratio:>8.5}");
+        one(capi_best, capi.0)
+    }
+
     /// Reading and writing of a full sheet.
     fn sheets(&mut self) {
         let years: Vec<u16> = (0..ITEMS).map(|i| (i * 41 + 1) as u16).collect();
@@ -449,6 +501,30 @@ fn emended(emend: Emend, reading: &Reading, out: &mut [u32]) -> u64 {
             out[..4 * total as usize].iter().fold(total.into(), turned)
         }
     }
+}
+
+/// One side of two that are far apart: how many calls a run has, and a call.
+type Side<'a> = (u64, &'a mut dyn FnMut() -> u64);
+
+/// What the last of so many calls gives.
+fn last_of(times: u64, call: &mut dyn FnMut() -> u64) -> u64 {
+    (0..times).fold(0, |_, _| black_box(call()))
+}
+
+/// The yearbook's figures, of either side.
+type Count = fn(u64, u64, &mut [u32; 12], &mut [u32; 60]) -> Result<capi::Figures, capi::Reason>;
+
+/// Counts the figures of a range; one number out of every one of them.
+fn counted(count: Count, first: u64, last: u64, lent: &mut [u32; 72]) -> u64 {
+    let (leaps, names) = lent.split_at_mut(12);
+    let leaps = leaps.try_into().expect("twelve places");
+    let names = names.try_into().expect("sixty places");
+    let Ok(told) = count(black_box(first), black_box(last), leaps, names) else {
+        return 0;
+    };
+    let four = [told.big, told.small, told.pairs, told.eclipses];
+    let turned = |sum: u64, number: &u32| sum.rotate_left(3) ^ u64::from(*number);
+    four.iter().chain(lent.iter()).fold(0, turned)
 }
 
 /// A writing of sheets, of either side.

@@ -6,6 +6,7 @@ mod dates;
 mod drawers;
 mod emendings;
 mod facts;
+mod figures;
 mod lent;
 mod lines;
 mod planets;
@@ -73,6 +74,7 @@ fn all_rows() -> Vec<Row> {
     rows.extend(drawers::rows(SEED + 70));
     rows.extend(emendings::rows(SEED + 80));
     rows.extend(clerks::rows(SEED + 90));
+    rows.extend(figures::rows(SEED + 100));
     rows.extend(walked::rows());
     rows
 }
