@@ -119,6 +119,7 @@ written-is-read (Query.Move y k l d z) = by _ _ _ refl refl (simp (number-is, nu
 written-is-read (Query.Search r a b) = by _ _ _ refl refl (simp (number-is, number-says, mark-is, mark-says, move-is, move-says, field-is, field-says, slip-mark-is, slip-mark-says))
 written-is-read (Query.Emend r a b) = by _ _ _ refl refl (simp (number-is, number-says, mark-is, mark-says, move-is, move-says, field-is, field-says, slip-mark-is, slip-mark-says))
 written-is-read (Query.Clerk b k) = by _ _ _ refl refl (simp (number-is, number-says, mark-is, mark-says, move-is, move-says, field-is, field-says, slip-mark-is, slip-mark-says))
+written-is-read (Query.Figures a b) = by _ _ _ refl refl (simp (number-is, number-says, mark-is, mark-says, move-is, move-says, field-is, field-says, slip-mark-is, slip-mark-says))
 
 pub one-query : One-query
 one-query p q e = sym (written-is-read p) ∙ ap (readBy itself) e ∙ written-is-read q

@@ -61,6 +61,7 @@ table p slip =
     ∷ row "SEARCH f f g f f f n n" (Query.Search slip (p .n7) (p .n8))
     ∷ row "EMEND f f g f f f n n" (Query.Emend slip (p .n7) (p .n8))
     ∷ row "CLERK n n" (Query.Clerk (p .n1) (p .n2))
+    ∷ row "FIGURES n n" (Query.Figures (p .n1) (p .n2))
     ∷ []
 
 -- the table, with what stands in the places of a line

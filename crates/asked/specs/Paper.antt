@@ -32,6 +32,7 @@ texts (Query.Move y k l d z) = w "MOVE" ∷ n y ∷ n k ∷ m l ∷ n d ∷ s z 
 texts (Query.Search r a b) = w "SEARCH" ∷ slip r (n a ∷ n b ∷ [])
 texts (Query.Emend r a b) = w "EMEND" ∷ slip r (n a ∷ n b ∷ [])
 texts (Query.Clerk b k) = w "CLERK" ∷ n b ∷ n k ∷ []
+texts (Query.Figures a b) = w "FIGURES" ∷ n a ∷ n b ∷ []
 
 unfoldable pub written : Query → List ℕ
 written q = line (texts q)

@@ -35,6 +35,7 @@ pub enum Query {
     Search(Slip, u32, u32),
     Emend(Slip, u32, u32),
     Clerk(u32, u32),
+    Figures(u32, u32),
 }
 
 // The slip in places 1 to 6 of a line.
@@ -118,7 +119,8 @@ fn form_number(line: &[u8]) -> usize
     let k11 = forms::past(k10, 10, b"MOVE n n m n s", line);
     let k12 = forms::past(k11, 11, b"SEARCH f f g f f f n n", line);
     let k13 = forms::past(k12, 12, b"EMEND f f g f f f n n", line);
-    forms::past(k13, 13, b"CLERK n n", line)
+    let k14 = forms::past(k13, 13, b"CLERK n n", line);
+    forms::past(k14, 14, b"FIGURES n n", line)
 }
 
 // The query of a line that is like a form, counted from 0.
@@ -141,6 +143,7 @@ fn query_of(k: usize, line: &[u8]) -> Query
         11 => Query::Search(read_slip(line), w.n7, w.n8),
         12 => Query::Emend(read_slip(line), w.n7, w.n8),
         13 => Query::Clerk(w.n1, w.n2),
+        14 => Query::Figures(w.n1, w.n2),
         _ => Query::Unreadable,
     }
 }

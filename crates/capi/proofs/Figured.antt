@@ -1,22 +1,16 @@
 -- What the yearbook's figures say of capped years, for the years themselves. Assumes nothing.
-use Prim.Native.Nat.{ℕ, _≤_}
-use native.Mathlib.Omega.{arith}
-use mathlib.Core.Path.{_≡_, refl, ap, ap₂, sym, _∙_}
+use Prim.Native.Nat.{ℕ}
+use mathlib.Core.Path.{_≡_, refl, ap, ap₂, _∙_}
 use mathlib.Core.List.{List}
 use Rattle.rule.specs.Reasons.{Answer, is, refused, refused-with}
 use Rattle.yearbook.specs.declared.Figures.{Figures}
 use Rattle.yearbook.specs.declared.Figured.{Figured}
 use Rattle.yearbook.specs.Figures.{leapFigures, nameFigures}
 use Rattle.yearbook.specs.Counted.{figuresAt, saidFigured, whollyAfter, CountsFigures}
-use Rattle.yearbook.proofs.Rows.{given}
 use Rattle.capped.specs.Capped.{capped}
-use Rattle.capped.proofs.Paper.{capped-alike}
+use Rattle.capped.proofs.Paper.{given-whole, capped-alike}
 use Rattle.offered.specs.declared.CFigures.{CFigures}
 use Rattle.offered.specs.Yearbook.{flatFigures, CCountsFigures}
-
--- a year of the range is not cut down
-whole : (y : ℕ) → y ≤ 41039 → capped y ≡ y
-whole y h = omega arith
 
 -- a list filled where figures are given alone: years that were cut down fill none
 same-list : (f : ℕ → ℕ → List ℕ) (first last : ℕ) (old : List ℕ) →
@@ -26,9 +20,8 @@ same-list f first last old =
   where
     go : (a : Answer Figures) → figuresAt first last ≡ a → whollyAfter (figuresAt first last) (f (capped first) (capped last)) old ≡ whollyAfter (figuresAt first last) (f first last) old
     go (is x) e =
-        let g = given first last x (sym e) .0 in
-        ap (λ (l : List ℕ). whollyAfter (figuresAt first last) l old)
-        (ap₂ f (whole first (omega (arith, g .in-order, g .to-the-end))) (whole last (omega (arith, g .to-the-end))))
+        let w = given-whole first last x e in
+        ap₂ (λ (a b : ℕ). whollyAfter (figuresAt first last) (f a b) old) (w .0) (w .1)
     go (refused k) e = rw (e) refl
     go (refused-with k n) e = rw (e) refl
 

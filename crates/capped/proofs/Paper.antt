@@ -41,6 +41,7 @@ use Rattle.reading.specs.Search.{total, whereGood, searchAt}
 use Rattle.yearbook.specs.declared.Figures.{Figures}
 use Rattle.yearbook.specs.Figures.{figuresOf}
 use Rattle.yearbook.specs.Counted.{figuresAt}
+use Rattle.yearbook.proofs.Rows.{given}
 use Rattle.capped.specs.Capped.{capped, cappedMove, cappedField, cappedReading}
 use Rattle.capped.specs.Paper.{Settled, Behind-a-test, Capped-alike, AlikeSearch, whole, both, Capped-search}
 
@@ -204,6 +205,12 @@ figures-capped first last =
     ∙ two Figures (within 1 41039) (within 1 41039) (from-one 41039 (omega arith)) (from-one 41039 (omega arith)) 1 1
     (λ i j. guard (leb i j) 13 (is (figuresOf i j))) first last
     ∙ sym (one-guard (within 1 41039 first) (within 1 41039 last) 1 (guard (leb first last) 13 (is (figuresOf first last))))
+
+-- years that have figures were not cut down
+pub given-whole : (first last : ℕ) (f : Figures) → figuresAt first last ≡ is f → (capped first ≡ first) × (capped last ≡ last)
+given-whole first last f e =
+    let g = given first last f (sym e) .0 in
+    (uncut first (omega (arith, g .in-order, g .to-the-end)), uncut last (omega (arith, g .to-the-end)))
 
 pub capped-alike : Capped-alike
 unfolding dateAt solsticeYearAt yearFactsAt monthFactsAt quarterAt termAt startAt

@@ -11,6 +11,8 @@ use Rattle.emending.specs.Emended.{emendAt}
 use Rattle.fields.specs.Fields.{word}
 use Rattle.fields.specs.Paper.{valueFrom}
 use Rattle.told.specs.Answers.{refusedText, yearText, termText, conjunctionText, nextText, pairText, quarterText, dayText, dateText, moveText, searchText, emendText}
+use Rattle.yearbook.specs.Counted.{figuresAt}
+use Rattle.told.specs.Yearbook.{figuresText}
 use Rattle.forms.specs.Forms.{
   fieldsIn,
   fieldAt,
@@ -263,3 +265,20 @@ planet-first = refl
 pub month-first : answerTo (word "QUARTER 115830 2") ≡ quarterText 115830 2
 unfolding lines
 month-first = refl
+
+-- of figures: 1 for either end, then 13
+figures : ℕ
+unfolding lines figuresText figuresAt
+figures = 0
+
+pub year-too-large : answerTo (word "FIGURES 99999999999 8") ≡ refusedText 1
+unfolding figures
+year-too-large = refl
+
+pub last-year-too-large : answerTo (word "FIGURES 9 99999999999") ≡ refusedText 1
+unfolding figures
+last-year-too-large = refl
+
+pub years-turned-round : answerTo (word "FIGURES 9 8") ≡ refusedText 13
+unfolding figures
+years-turned-round = refl

@@ -1,14 +1,14 @@
 -- Every answer is the same of numbers and of numbers cut down. Assumes nothing.
 use Prim.Native.Nat.{ℕ, zero, suc, _-_, _*_, _≤_, _<_}
 use native.Mathlib.Omega.{arith}
-use mathlib.Core.Path.{_≡_, refl, ap, sym, _∙_}
+use mathlib.Core.Path.{_≡_, refl, ap, ap₂, sym, _∙_}
 use mathlib.Core.Bool.{Bool, true, false, cond}
 use mathlib.Core.List.{List, [], _∷_, _++_}
 use lib.Dec.{leb}
 use lib.IntN.{ℤ, pos}
 use lib.ListN.{length, drop}
 use borrow.Author.Tests.{le-leb, lt-leb}
-use Rattle.rule.specs.Reasons.{Answer, is, guard, guard-with}
+use Rattle.rule.specs.Reasons.{Answer, is, refused, refused-with, guard, guard-with}
 use Rattle.dates.specs.Dates.{dateOf, dateAt}
 use Rattle.facts.specs.Facts.{yearFacts, yearFactsAt, monthFacts, monthFactsAt}
 use Rattle.reading.specs.declared.Field.the-variants.{Known, Unread}
@@ -50,9 +50,13 @@ use Rattle.told.specs.Answers.{
   clerkLine,
   clerkText,
 }
+use Rattle.told.specs.Yearbook.{figuresLines, figuresText}
+use Rattle.yearbook.specs.declared.Figures.{Figures}
+use Rattle.yearbook.specs.Figures.{leapFigures, nameFigures}
+use Rattle.yearbook.specs.Counted.{figuresAt}
 use Rattle.capped.specs.Capped.{capped, cappedMove, cappedField, cappedReading}
 use Rattle.capped.specs.Paper.{Settled, AlikeSearch, whole, both}
-use Rattle.capped.proofs.Paper.{at-most, capped-alike, capped-search}
+use Rattle.capped.proofs.Paper.{at-most, capped-alike, capped-search, given-whole}
 use Rattle.forms.specs.declared.Mark.{Mark}
 use Rattle.forms.specs.declared.Mark.the-variants.{Seen, Unseen}
 use Rattle.forms.specs.Forms.{fieldsIn, fieldAt, same, firstLike, back, isMinus, moveOf, slipFieldOf, moveIn, slipFieldIn}
@@ -149,6 +153,20 @@ clerk-capped : (b k : ℕ) → clerkText (capped b) (capped k) ≡ clerkText b k
 unfolding clerkText
 clerk-capped b k = ap (told clerkLine) (capped-alike .walk b k)
 
+figures-capped : (first last : ℕ) → figuresText (capped first) (capped last) ≡ figuresText first last
+unfolding figuresText
+figures-capped first last =
+    ap (told (figuresLines (leapFigures (capped first) (capped last)) (nameFigures (capped first) (capped last)))) (capped-alike .figures first last)
+    ∙ go (figuresAt first last) refl
+  where
+    text : ℕ → ℕ → List ℕ
+    text a b = told (figuresLines (leapFigures a b) (nameFigures a b)) (figuresAt first last)
+
+    go : (a : Answer Figures) → figuresAt first last ≡ a → text (capped first) (capped last) ≡ text first last
+    go (is x) e = let w = given-whole first last x e in ap₂ text (w .0) (w .1)
+    go (refused k) e = rw (e) refl
+    go (refused-with k n) e = rw (e) refl
+
 -- a move and a field in a line
 back-capped : (v : ℕ) → back (capped v) ≡ cappedMove (back v)
 back-capped zero = refl
@@ -215,6 +233,7 @@ module _ (s : List ℕ) where
         search-capped,
         emend-capped,
         clerk-capped,
+        figures-capped,
       )
 
   same-answer : answered s (readBy capped s) ≡ answered s (read s)

@@ -63,6 +63,7 @@ each-query-literally =
       ordinary-emend = λ a first last. written-is-answered (Query.Emend (slip (Known a) Unread (Seen false) Unread Unread Unread) first last);
       unread-emend = λ first last. written-is-answered (Query.Emend (slip Unread Unread Unseen Unread Unread Unread) first last);
       clerk = λ b k. written-is-answered (Query.Clerk b k);
+      figures = λ first last. written-is-answered (Query.Figures first last);
     }
 
 pub note-as-it-stands : Note-as-it-stands

@@ -25,6 +25,7 @@ use Rattle.told.specs.Answers.{
   emendText,
   clerkText,
 }
+use Rattle.told.specs.Yearbook.{figuresText}
 use Rattle.asked.specs.declared.Query.{Query}
 use Rattle.asked.specs.Paper.{written}
 use Rattle.queries.specs.Queries.{unreadable, answered, answerTo}
@@ -85,6 +86,7 @@ pub record Each-query-literally : Type 0 where
   pub unread-emend : (first last : ℕ) →
       Line (word "EMEND ? ? ? ? ? ?" ++ (spaced first ++ spaced last)) (emendText (slipRead Unread Unread Unread Unread Unread Unread) first last)
   pub clerk : (b k : ℕ) → Line (word "CLERK" ++ (spaced b ++ spaced k)) (clerkText b k)
+  pub figures : (first last : ℕ) → Line (word "FIGURES" ++ (spaced first ++ spaced last)) (figuresText first last)
 
 -- every query that is written in "at most 200 bytes without its newline" has its answer
 abbrev pub Written-is-answered : Type 0

@@ -30,6 +30,7 @@ use Rattle.told.specs.Answers.{
   emendText,
   clerkText,
 }
+use Rattle.told.specs.Yearbook.{figuresText}
 
 -- "A line that is no query is `UNREADABLE`"
 unfoldable pub unreadable : List ℕ
@@ -69,6 +70,7 @@ answered s (Query.Move y k l d n) = moveText y k l d n
 answered s (Query.Search r a b) = searchText (readingOf r) a b
 answered s (Query.Emend r a b) = emendText (readingOf r) a b
 answered s (Query.Clerk b k) = clerkText b k
+answered s (Query.Figures a b) = figuresText a b
 
 -- the answer to a line: "each at most 200 bytes without its newline"
 unfoldable pub answerTo : List ℕ → List ℕ

@@ -102,6 +102,7 @@ fn answer(q: Query, line: &[u8], days: &mut [u32], out: &mut [u8], at: usize) ->
         Query::Search(s, a, b) => answer_slip(s, a, b, days, out, at),
         Query::Emend(s, a, b) => emend_slip(s, a, b, days, out, at),
         Query::Clerk(b, k) => answers::answer_clerk(b, k, out, at),
+        Query::Figures(a, b) => answers::answer_figures(a, b, out, at),
     }
 }
 

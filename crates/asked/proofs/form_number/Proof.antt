@@ -39,8 +39,11 @@ form-number-spec =
     (λ c κs. search needs)
     (λ c. search needs)
     (λ c κs. search needs)
+    (λ c. search needs)
+    (λ c κs. search needs)
     (λ c.
-    let c13 = c .before .before in
+    let c14 = c .before .before in
+    let c13 = c14 .before .before in
     let c12 = c13 .before .before in
     let c11 = c12 .before .before in
     let c10 = c11 .before .before in
@@ -65,5 +68,6 @@ form-number-spec =
     let e11 = and-past _ _ _ e10 (c11 .past11 .ensures) in
     let e12 = and-past _ _ _ e11 (c12 .past12 .ensures) in
     let e13 = and-past _ _ _ e12 (c13 .past13 .ensures) in
-    let e14 = and-past _ _ _ e13 (c .past14 .ensures) in
-    e14 ∙ past-all _ forms))
+    let e14 = and-past _ _ _ e13 (c14 .past14 .ensures) in
+    let e15 = and-past _ _ _ e14 (c .past15 .ensures) in
+    e15 ∙ past-all _ forms))

@@ -46,4 +46,5 @@ query-of-spec =
     let w = b2 .read-places .result in
     ap (λ s. Query.Emend s (w .n7) (w .n8)) (c .read-slip2 .ensures) ∙ arm (fieldsIn (b4 .args .line .now)) (b2 .read-places .ensures) (c .before .match .keys13) refl)
     (λ c. arm (fieldsIn (c .before .before .before .args .line .now)) (c .before .read-places .ensures) (c .match .keys14) refl)
-    (λ c. sym (beyond (table _ _) _ (all-denied 14 _ (c .match .rest)))))
+    (λ c. arm (fieldsIn (c .before .before .before .args .line .now)) (c .before .read-places .ensures) (c .match .keys15) refl)
+    (λ c. sym (beyond (table _ _) _ (all-denied 15 _ (c .match .rest)))))

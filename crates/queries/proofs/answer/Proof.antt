@@ -48,6 +48,8 @@ answer-spec =
     (λ c. search needs)
     (λ c κs. search needs)
     (λ c. search needs)
+    (λ c κs. search needs)
+    (λ c. search needs)
     (λ c.
     let b2 = c .before .before in
     let b4 = b2 .before .before in
@@ -101,4 +103,10 @@ answer-spec =
     let b13 = b8 .before .before .before .before .before in
     arm (b13 .args .line .now) (b8 .q13 .given .1) (omega arith) (b4 .emend-slip .ensures))
     (λ c. search needs)
-    (λ c. let b = c .before .before .before .before .before in line (b .before .before .before .before .before .args .line .now) (b .q14 .given .1) (c .before .before .answer-clerk .ensures)))
+    (λ c. let b = c .before .before .before .before .before in line (b .before .before .before .before .before .args .line .now) (b .q14 .given .1) (c .before .before .answer-clerk .ensures))
+    (λ c. search needs)
+    (λ c.
+    let b2 = c .before .before in
+    let b5 = b2 .before .before .before in
+    let b10 = b5 .before .before .before .before .before in
+    arm (b10 .args .line .now) (b5 .q15 .given .1) (omega arith) (b2 .answer-figures .ensures)))
