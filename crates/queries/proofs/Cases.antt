@@ -271,14 +271,14 @@ figures : ℕ
 unfolding lines figuresText figuresAt
 figures = 0
 
-pub year-too-large : answerTo (word "FIGURES 99999999999 8") ≡ refusedText 1
+pub figures-too-large : answerTo (word "FIGURES 99999999999 8") ≡ refusedText 1
 unfolding figures
-year-too-large = refl
+figures-too-large = refl
 
-pub last-year-too-large : answerTo (word "FIGURES 9 99999999999") ≡ refusedText 1
+pub figures-last-too-large : answerTo (word "FIGURES 9 99999999999") ≡ refusedText 1
 unfolding figures
-last-year-too-large = refl
+figures-last-too-large = refl
 
-pub years-turned-round : answerTo (word "FIGURES 9 8") ≡ refusedText 13
+pub figures-turned-round : answerTo (word "FIGURES 9 8") ≡ refusedText 13
 unfolding figures
-years-turned-round = refl
+figures-turned-round = refl
