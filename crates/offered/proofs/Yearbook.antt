@@ -1,19 +1,18 @@
 -- The statements of the yearbook's figures for C, proved, each under its name in small letters. Assumes nothing.
 use Prim.Native.Nat.{ℕ}
-use native.Mathlib.Omega.{arith}
 use mathlib.Core.Path.{_≡_, refl, ap, sym, _∙_}
 use mathlib.Core.Logic.{_≢_}
 use mathlib.Core.Bool.{Bool, true, false, _&&_}
-use mathlib.Core.List.{List, _∷_, []}
+use mathlib.Core.List.{List}
 use lib.Dec.{leb}
 use lib.ListN.{getD}
-use Rattle.rule.specs.Reasons.{Answer, is, refused, within, guard}
+use Rattle.rule.specs.Reasons.{is, within, guard}
 use Rattle.rule.specs.declared.Reason.the-variants.{NoSuchYear, BadWindow}
 use Rattle.yearbook.specs.declared.Figures.{Figures}
 use Rattle.yearbook.specs.declared.Figured.{Figured}
 use Rattle.yearbook.specs.declared.Figured.the-variants.{Are, Refused}
-use Rattle.yearbook.specs.Figures.{figuresOf, leapFigures, nameFigures}
-use Rattle.yearbook.specs.Counted.{figuresAt, saidFigured, whollyAfter, CountsFigures}
+use Rattle.yearbook.specs.Figures.{figuresOf}
+use Rattle.yearbook.specs.Counted.{figuresAt, saidFigured, CountsFigures}
 use Rattle.yearbook.proofs.Paper.{refusal-changes-nothing, year-8, year-47}
 use Rattle.offered.specs.declared.CFigures.{CFigures}
 use Rattle.offered.specs.Yearbook.{givenFigures, flatFigures, CCountsFigures, BareFigures, Figures-exported, Wrong-figures-exported}

@@ -21,7 +21,7 @@ use Rattle.told.specs.Yearbook.{figuresLine, countsLine, figuresLines, f
 use Rattle.told.proofs.Refusing.{NoRefusal, never-two, tells-refusal}
 
 -- a word and numbers with single spaces: the word, and each number after a space
-pub after-spaces : (name xs : List ℕ) → followed name (map decimal xs) ≡ name ++ each spaced xs
+after-spaces : (name xs : List ℕ) → followed name (map decimal xs) ≡ name ++ each spaced xs
 unfolding followed each
 after-spaces name [] = sym (append-nil name)
 after-spaces name (x ∷ xs) = ap (λ (l : List ℕ). name ++ (32 ∷ l)) (after-spaces (decimal x) xs)
@@ -52,7 +52,7 @@ figures-refusals-told first last =
 
 -- what the two arrays hold where figures are given, and how long they are
 module _ {first last : ℕ} {l n l′ n′ : List ℕ} {a : Figured} {f : Figures} (s : CountsFigures first last l n a l′ n′) (e : a ≡ Are f) where
-  pub all-given : Given first last f l′ n′
+  all-given : Given first last f l′ n′
   all-given = is-given first last f l n l′ n′ (subst (λ (x : Figured). CountsFigures first last l n x l′ n′) e s)
 
   pub leaps-long : length l′ ≡ 12

@@ -1,7 +1,6 @@
 -- `answers::put_figures` meets its contract. Assumes nothing.
-use native.Mathlib.Omega.{arith}
 use Rattle.fields.specs.Fields.{followed}
-use Rattle.fields.proofs.Putting.{put-kept, then}
+use Rattle.fields.proofs.Putting.{then}
 use Rattle.told.specs.Yearbook.{figuresLine}
 use borrow.Author.Needs.{needs}
 use Rattle.answers.proofs.put_figures.Statement.{statement}
