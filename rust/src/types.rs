@@ -8,7 +8,7 @@ use std::fmt;
 #[repr(u32)]
 pub enum Reason {
     /// 1: year outside its range. That of a solstice year, asked for its place or a term, is 1 to 41,040; that of a civil year,
-    /// everywhere else, 0 to 41,040.
+    /// everywhere else, 0 to 41,040, but in a range of years that is counted over, 1 to 41,039: these are whole.
     Year = 1,
     /// 2: month number outside 1 to 12.
     MonthNumber = 2,
