@@ -12,7 +12,7 @@ use Rattle.rule.proofs.Months.{length-shift}
 use Rattle.rule.proofs.CivilYears.{civil-first-shift}
 use Rattle.yearbook.specs.Figures.{passing}
 use Rattle.yearbook.specs.Paper.{pairAcross}
-use Rattle.yearbook.proofs.Passing.{meet}
+use Rattle.yearbook.proofs.Passing.{meet, none-yet}
 
 -- pairs come round with each bu
 pair-shift : (n : ℕ) → pairStarts (n + 940) ≡ pairStarts n
@@ -35,10 +35,6 @@ across-shift y =
       opens-late (y + 1) (omega arith),
     ))
     ∙ pair-shift (civilFirstMonth (y + 1) - 1)
-
-none-yet : (p : ℕ → Bool) (a : ℕ) → length (those p a 0) ≡ 0
-unfolding those
-none-yet p a = refl
 
 -- as many of one run as of another on which the test is the same
 moved-on : (p : ℕ → Bool) (a b : ℕ) → ((i : ℕ) → p (b + i) ≡ p (a + i)) → (m : ℕ) → length (those p b m) ≡ length (those p a m)

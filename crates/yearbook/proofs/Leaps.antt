@@ -17,7 +17,7 @@ use Rattle.rule.proofs.Lists.{bit, length-more, complement, at-place}
 use Rattle.rule.proofs.Leap.{leap-shift, number-shift, number-range}
 use Rattle.yearbook.specs.Figures.{passing, leapNumbered, forEach, leapsFrom}
 use Rattle.yearbook.proofs.Each.{each-at, each-same, each-added}
-use Rattle.yearbook.proofs.Passing.{atPlace}
+use Rattle.yearbook.proofs.Passing.{atPlace, none-yet}
 
 -- the values of f over a list, added
 unfoldable pub adding : (ℕ → ℕ) → List ℕ → ℕ
@@ -48,10 +48,6 @@ adding-noughts : (f : ℕ → ℕ) (xs : List ℕ) → ((x : ℕ) → f x ≡ 0)
 unfolding adding
 adding-noughts f [] h = refl
 adding-noughts f (x ∷ xs) h = omega (arith, h x, adding-noughts f xs h)
-
-none-yet : (p : ℕ → Bool) (a : ℕ) → length (those p a 0) ≡ 0
-unfolding those
-none-yet p a = refl
 
 -- one count more
 adding-those : (f : ℕ → ℕ) (p : ℕ → Bool) (a k : ℕ) → adding f (those p a (suc k)) ≡ adding f (those p a k) + cond (p (a + k)) (f (a + k)) 0

@@ -16,6 +16,11 @@ use Rattle.rule.proofs.Pairs.{twoStarts, fiftyNine, pair-gains}
 use Rattle.rule.proofs.Eclipses.{goes-on}
 use Rattle.yearbook.specs.Figures.{passing, small, named}
 
+-- of no counts none passes
+pub none-yet : (p : ℕ → Bool) (a : ℕ) → length (those p a 0) ≡ 0
+unfolding those
+none-yet p a = refl
+
 -- what u gains on v from one count up to another
 gained : (u v : ℕ → ℕ) (p : ℕ → Bool) → Gains u v p → (from to : ℕ) → from ≤ to → u to + v from ≡ u from + v to + passing p from to
 gained u v p step from to h =

@@ -14,6 +14,7 @@ use Rattle.rule.proofs.Lists.{bit, length-more}
 use Rattle.rule.proofs.Pairs.{lt-or-le}
 use Rattle.yearbook.specs.Figures.{forEach}
 use Rattle.yearbook.specs.Paper.{sumOf}
+use Rattle.yearbook.proofs.Passing.{none-yet}
 use Rattle.yearbook.proofs.Each.{each-length, each-at, each-same}
 
 sum-last : (xs : List ℕ) (x : ℕ) → sumOf (xs ++ (x ∷ [])) ≡ sumOf xs + x
@@ -65,10 +66,6 @@ module _ (p : ℕ → Bool) (kind : ℕ → ℕ) (w : ℕ) (range : (n : ℕ) �
       go : (b : Bool) → sumOf (forEach (λ k. bit (b && eqb (kind n) k)) w) ≡ bit b
       go true = by-then (kind n) w (range n .0) (range n .1)
       go false = sum-noughts (λ k. 0) w (λ k. refl)
-
-  none-yet : (q : ℕ → Bool) (a : ℕ) → length (those q a 0) ≡ 0
-  unfolding those
-  none-yet q a = refl
 
   pub by-kind : (a m : ℕ) → sumOf (forEach (λ k. length (those (ofKind k) a m)) w) ≡ length (those p a m)
   by-kind a zero = sum-noughts (λ k. length (those (ofKind k) a 0)) w (λ k. none-yet (ofKind k) a) ∙ sym (none-yet p a)
