@@ -9,7 +9,8 @@
  * A name is 1 to 60. Lent memory: docs/C.md.
  *
  * A year is the civil year, 0 to 41,040, which opens with its month 1, but in oes_solstice_year and oes_term, which take the
- * solstice year, 1 to 41,040, which begins with its month 11. Outside these a year is refused with 1. The civil year of a month
+ * solstice year, 1 to 41,040, which begins with its month 11, and in oes_figures, whose civil years are 1 to 41,039. Outside these a
+ * year is refused with 1. The civil year of a month
  * is its solstice year, one less where its number is 11 or 12, leap or not. Civil year 0 has months 11 and 12 alone, and civil
  * year 41,040 ends with its leap month 10: a date by a month number that the year has not is refused with 16, after 3 and
  * before 4. */

@@ -6,7 +6,7 @@ use Rattle.rule.specs.Reasons.{Answer, is, refused, refused-with}
 use Rattle.yearbook.specs.declared.Figures.{Figures}
 use Rattle.yearbook.specs.declared.Figured.{Figured}
 use Rattle.yearbook.specs.Figures.{leapFigures, nameFigures}
-use Rattle.yearbook.specs.Counted.{figuresAt, saidFigured, whollyAfter, CountsFigures}
+use Rattle.yearbook.specs.Promise.{figuresAt, saidFigured, whollyAfter, CountsFigures}
 use Rattle.capped.specs.Capped.{capped}
 use Rattle.capped.proofs.Paper.{given-whole, capped-alike}
 use Rattle.offered.specs.declared.CFigures.{CFigures}

@@ -40,7 +40,7 @@ use Rattle.reading.specs.Readings.{fieldInRange, inRanges, windowHolds}
 use Rattle.reading.specs.Search.{total, whereGood, searchAt}
 use Rattle.yearbook.specs.declared.Figures.{Figures}
 use Rattle.yearbook.specs.Figures.{figuresOf}
-use Rattle.yearbook.specs.Counted.{figuresAt}
+use Rattle.yearbook.specs.Promise.{figuresAt}
 use Rattle.yearbook.proofs.Rows.{given}
 use Rattle.capped.specs.Capped.{capped, cappedMove, cappedField, cappedReading}
 use Rattle.capped.specs.Paper.{Settled, Behind-a-test, Capped-alike, AlikeSearch, whole, both, Capped-search}

@@ -10,7 +10,7 @@ use Rattle.moves.specs.Moves.{moved}
 use Rattle.facts.specs.Facts.{solsticeYearAt, yearFactsAt, monthFactsAt, quarterAt, termAt}
 use Rattle.planets.specs.Planets.{conjunctionAt, nextAt, pairAt}
 use Rattle.clerk.specs.Clerk.{startAt, walked}
-use Rattle.yearbook.specs.Counted.{figuresAt}
+use Rattle.yearbook.specs.Promise.{figuresAt}
 use Rattle.reading.specs.declared.Reading.{Reading}
 use Rattle.reading.specs.Search.{whereGood}
 use Rattle.capped.specs.Capped.{capped, cappedMove, cappedReading}

@@ -9,7 +9,7 @@ ghost use Rattle.planets.specs.Planets.{phaseNumber};
 ghost use Rattle.planets.specs.Promises.{saidConjunction, saidNext, saidPair};
 ghost use Rattle.reading.specs.Search.{saidFound};
 ghost use Rattle.emending.specs.Emended.{saidEmended};
-ghost use Rattle.yearbook.specs.Counted.{saidFigured};
+ghost use Rattle.yearbook.specs.Promise.{saidFigured};
 ghost use Rattle.offered.specs.Yearbook.{flatFigures};
 ghost use Rattle.drawer.specs.Drawer.{drawerAt, saidFilled};
 ghost use Rattle.drawer.specs.Shared.{OfMonth, Holds};

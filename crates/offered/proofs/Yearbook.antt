@@ -12,7 +12,7 @@ use Rattle.yearbook.specs.declared.Figures.{Figures}
 use Rattle.yearbook.specs.declared.Figured.{Figured}
 use Rattle.yearbook.specs.declared.Figured.the-variants.{Are, Refused}
 use Rattle.yearbook.specs.Figures.{figuresOf}
-use Rattle.yearbook.specs.Counted.{figuresAt, saidFigured, CountsFigures}
+use Rattle.yearbook.specs.Promise.{figuresAt, saidFigured, CountsFigures}
 use Rattle.yearbook.proofs.Paper.{refusal-changes-nothing, year-8, year-47}
 use Rattle.offered.specs.declared.CFigures.{CFigures}
 use Rattle.offered.specs.Yearbook.{givenFigures, flatFigures, CCountsFigures, BareFigures, Figures-exported, Wrong-figures-exported}
@@ -104,8 +104,8 @@ wrong-figures-exported =
       pair-across-lost = λ r l n l′ n′ s other. other (of-year-47 r l n l′ n′ s);
       leaps-left = λ r l n n′ other s. other (of-year-8 r l n l n′ s .1);
       names-left = λ r l n l′ other s. other (of-year-8 r l n l′ n s .2);
-      leaps-touched = λ r x y n n′ other s. other (sym (ap (λ (m : List ℕ). getD m 0 0) (s .by-number)));
-      names-touched = λ r x y l l′ other s. other (sym (ap (λ (m : List ℕ). getD m 0 0) (s .by-name)));
+      leaps-touched = λ r l n l′ n′ other s. other (sym (ap (λ (m : List ℕ). getD m 0 0) (s .by-number)));
+      names-touched = λ r l n l′ n′ other s. other (sym (ap (λ (m : List ℕ). getD m 0 0) (s .by-name)));
       first-by-its-low-bits = λ r l n l′ n′ s other. other (ap (λ (x : CFigures). x .reason) (s .answer));
       last-by-its-low-bits = λ r l n l′ n′ s other. other (ap (λ (x : CFigures). x .reason) (s .answer));
     }

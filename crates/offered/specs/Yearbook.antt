@@ -10,7 +10,7 @@ use Rattle.yearbook.specs.declared.Figures.{Figures}
 use Rattle.yearbook.specs.declared.Figured.{Figured}
 use Rattle.yearbook.specs.declared.Figured.the-variants as Figured'
 use Rattle.yearbook.specs.Figures.{leapFigures, nameFigures}
-use Rattle.yearbook.specs.Counted.{figuresAt, saidFigured, whollyAfter, CountsFigures}
+use Rattle.yearbook.specs.Promise.{figuresAt, saidFigured, whollyAfter, CountsFigures}
 use Rattle.offered.specs.declared.CFigures.{CFigures}
 
 abbrev pub givenFigures : Figures → CFigures
@@ -63,7 +63,7 @@ pub record Wrong-figures-exported : Type 0 where
   pub pair-across-lost : (r : CFigures) (l n l′ n′ : List ℕ) → CCountsFigures 47 47 l n r l′ n′ → r .pairs ≢ 1 → ⊥
   pub leaps-left : (r : CFigures) (l n n′ : List ℕ) → getD l 11 0 ≢ 1 → CCountsFigures 8 8 l n r l n′ → ⊥
   pub names-left : (r : CFigures) (l n l′ : List ℕ) → getD n 18 0 ≢ 7 → CCountsFigures 8 8 l n r l′ n → ⊥
-  pub leaps-touched : (r : CFigures) (x y : ℕ) (n n′ : List ℕ) → x ≢ y → CCountsFigures 9 8 (x ∷ []) n r (y ∷ []) n′ → ⊥
-  pub names-touched : (r : CFigures) (x y : ℕ) (l l′ : List ℕ) → x ≢ y → CCountsFigures 0 8 l (x ∷ []) r l′ (y ∷ []) → ⊥
+  pub leaps-touched : (r : CFigures) (l n l′ n′ : List ℕ) → getD l 0 0 ≢ getD l′ 0 0 → CCountsFigures 9 8 l n r l′ n′ → ⊥
+  pub names-touched : (r : CFigures) (l n l′ n′ : List ℕ) → getD n 0 0 ≢ getD n′ 0 0 → CCountsFigures 0 8 l n r l′ n′ → ⊥
   pub first-by-its-low-bits : (r : CFigures) (l n l′ n′ : List ℕ) → CCountsFigures (8 + 4294967296) 8 l n r l′ n′ → r .reason ≢ 1 → ⊥
   pub last-by-its-low-bits : (r : CFigures) (l n l′ n′ : List ℕ) → CCountsFigures 8 (8 + 4294967296) l n r l′ n′ → r .reason ≢ 1 → ⊥

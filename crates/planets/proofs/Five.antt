@@ -2,7 +2,7 @@
 use Prim.Native.Nat.{ℕ, zero, suc, _<_}
 use native.Mathlib.Omega.{arith}
 use mathlib.Core.Path.{_≡_, refl}
-use Rattle.planets.specs.Planets.{Planet, numbersOf, figuresOf, figures, longCircle, divisor, conjunctionDay, conjunctionParts}
+use Rattle.planets.specs.Planets.{Planet, numbersOf, planetFigures, figures, longCircle, divisor, conjunctionDay, conjunctionParts}
 use Rattle.planets.specs.Paper.{Good, Good-planets}
 
 -- what holds of 1, 2, 3, 4 and 5 holds of every planet
@@ -29,13 +29,13 @@ good-planets =
     (record { some = omega arith; apart = omega arith })
     (record { some = omega arith; apart = omega arith })
 
-pub figures-are-first : (p : ℕ) → Planet p → figuresOf p ≡ figures (conjunctionDay (numbersOf p) 1) (conjunctionParts (numbersOf p) 1) (divisor (numbersOf p))
-unfolding numbersOf figuresOf conjunctionDay conjunctionParts
+pub figures-are-first : (p : ℕ) → Planet p → planetFigures p ≡ figures (conjunctionDay (numbersOf p) 1) (conjunctionParts (numbersOf p) 1) (divisor (numbersOf p))
+unfolding numbersOf planetFigures conjunctionDay conjunctionParts
 figures-are-first =
     each-planet
-    (λ p. figuresOf p ≡ figures (conjunctionDay (numbersOf p) 1) (conjunctionParts (numbersOf p) 1) (divisor (numbersOf p)))
+    (λ p. planetFigures p ≡ figures (conjunctionDay (numbersOf p) 1) (conjunctionParts (numbersOf p) 1) (divisor (numbersOf p)))
     refl refl refl refl refl
 
-pub some-circle : (p : ℕ) → Planet p → 0 < longCircle (figuresOf p)
-unfolding figuresOf
-some-circle = each-planet (λ p. 0 < longCircle (figuresOf p)) (omega arith) (omega arith) (omega arith) (omega arith) (omega arith)
+pub some-circle : (p : ℕ) → Planet p → 0 < longCircle (planetFigures p)
+unfolding planetFigures
+some-circle = each-planet (λ p. 0 < longCircle (planetFigures p)) (omega arith) (omega arith) (omega arith) (omega arith) (omega arith)

@@ -55,7 +55,7 @@ use Rattle.planets.specs.Planets.{
   nextOf,
   nextAt,
   figures,
-  figuresOf,
+  planetFigures,
   pairOf,
   pairAt,
 }
@@ -289,7 +289,7 @@ pub figures-are-first : Paper.Figures-are-first
 unfolding conjunctionOf
 figures-are-first p c e =
     let q = conjunctions p 1 .given c .0 e in
-    subst (λ (x : Conjunction). figuresOf p ≡ figures (x .day) (x .parts) (x .divisor)) (sym (Literal.conjunction-is p 1 c (q .0) .0 (q .2)))
+    subst (λ (x : Conjunction). planetFigures p ≡ figures (x .day) (x .parts) (x .divisor)) (sym (Literal.conjunction-is p 1 c (q .0) .0 (q .2)))
     (Five.figures-are-first p (q .0))
 
 pub unique-planets : Paper.Unique-planets

@@ -9,7 +9,7 @@ use Rattle.rule.proofs.Answers.{within-true, same-given, holds-all, passes, one
 use Rattle.planets.specs.declared.Pair.{Pair}
 use Rattle.planets.specs.declared.PairTold.{PairTold}
 use Rattle.planets.specs.declared.PairTold.the-variants as Pair'
-use Rattle.planets.specs.Planets.{Planet, numbersOf, figuresOf, longDays, longCircle, pairOf, pairAt}
+use Rattle.planets.specs.Planets.{Planet, numbersOf, planetFigures, longDays, longCircle, pairOf, pairAt}
 use Rattle.planets.specs.Divisors.{CommonDivisor, Reduced}
 use Rattle.planets.specs.Promises.{saidPair, ReducedPair}
 use Rattle.planets.specs.Paper.{Common-divisor-of-004, Reduction}
@@ -35,24 +35,24 @@ one-pair a b x y d pos e f h r = (there, back)
 
 -- a multiple of the one long count and a multiple of the other differ by 5,844
 pub common-divisor-of-004 : Common-divisor-of-004
-unfolding figuresOf
+unfolding planetFigures
 common-divisor-of-004 =
-    each-planet (λ p. CommonDivisor (longDays (figuresOf p)) (longCircle (figuresOf p)) 5844)
+    each-planet (λ p. CommonDivisor (longDays (planetFigures p)) (longCircle (planetFigures p)) 5844)
     (by-difference 4725 4327 5844 3903 4262 refl)
     (by-difference 1876 879 5844 514 1097 refl)
     (by-difference 9415 9096 5844 5047 5224 refl)
     (by-difference 4661 5830 5844 5441 4350 refl)
     (by-difference 1889 11908 5844 1141 181 refl)
 
-pairs : (p : ℕ) → Planet p → (longDays (figuresOf p) ≡ numbersOf p .years * 5844) × (longCircle (figuresOf p) ≡ numbersOf p .conjunctions * 5844)
-unfolding numbersOf figuresOf
+pairs : (p : ℕ) → Planet p → (longDays (planetFigures p) ≡ numbersOf p .years * 5844) × (longCircle (planetFigures p) ≡ numbersOf p .conjunctions * 5844)
+unfolding numbersOf planetFigures
 pairs =
-    each-planet (λ p. (longDays (figuresOf p) ≡ numbersOf p .years * 5844) × (longCircle (figuresOf p) ≡ numbersOf p .conjunctions * 5844))
+    each-planet (λ p. (longDays (planetFigures p) ≡ numbersOf p .years * 5844) × (longCircle (planetFigures p) ≡ numbersOf p .conjunctions * 5844))
     (refl, refl) (refl, refl) (refl, refl) (refl, refl) (refl, refl)
 
-reduced-to : (p : ℕ) → Planet p → (r : Pair) → Reduced (longDays (figuresOf p)) (longCircle (figuresOf p)) r ↔ (r ≡ pairOf (numbersOf p))
+reduced-to : (p : ℕ) → Planet p → (r : Pair) → Reduced (longDays (planetFigures p)) (longCircle (planetFigures p)) r ↔ (r ≡ pairOf (numbersOf p))
 reduced-to p h =
-    one-pair (longDays (figuresOf p)) (longCircle (figuresOf p)) (numbersOf p .years) (numbersOf p .conjunctions) 5844 (omega arith)
+    one-pair (longDays (planetFigures p)) (longCircle (planetFigures p)) (numbersOf p .years) (numbersOf p .conjunctions) 5844 (omega arith)
     (pairs p h .0) (pairs p h .1) (common-divisor-of-004 p h)
 
 pub reduction : Reduction

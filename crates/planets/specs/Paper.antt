@@ -27,7 +27,7 @@ use Rattle.planets.specs.Planets.{
   phase,
   nextCount,
   figures,
-  figuresOf,
+  planetFigures,
   longDays,
   longCircle,
   pairOf,
@@ -145,11 +145,11 @@ Taking-remainders = (a b d : ℕ) → Remainders a b d ↔ CommonDivisor a b d
 
 -- the figures of one conjunction, which the long counts are made of, are the call's k = 1
 abbrev pub Figures-are-first : Type 0
-Figures-are-first = (p : ℕ) (c : Conjunction) → KthConjunction p 1 (Conjunction'.Is c) → figuresOf p ≡ figures (c .day) (c .parts) (c .divisor)
+Figures-are-first = (p : ℕ) (c : Conjunction) → KthConjunction p 1 (Conjunction'.Is c) → planetFigures p ≡ figures (c .day) (c .parts) (c .divisor)
 
 -- 004's common divisor of the two long counts, the same for all five
 abbrev pub Common-divisor-of-004 : Type 0
-Common-divisor-of-004 = (p : ℕ) → Planet p → CommonDivisor (longDays (figuresOf p)) (longCircle (figuresOf p)) 5844
+Common-divisor-of-004 = (p : ℕ) → Planet p → CommonDivisor (longDays (planetFigures p)) (longCircle (planetFigures p)) 5844
 
 -- "004 gets each pair by reducing two long counts against each other ..; show for all five that this yields the printed pair": the pair
 -- that the call promises, which its two long counts are reduced to, is the printed one

@@ -7,7 +7,7 @@ use lib.Dec.{eqb, leb}
 use lib.ListN.{getD}
 use Rattle.rule.specs.Reasons.{Answer, is, guard, within}
 use Rattle.planets.specs.declared.Numbers.{Numbers}
-use Rattle.planets.specs.declared.Figures.{Figures}
+use Rattle.planets.specs.declared.PlanetFigures.{PlanetFigures}
 use Rattle.planets.specs.declared.Phase.{Phase}
 use Rattle.planets.specs.declared.Phase.the-variants.{Morning, Evening, Neither}
 use Rattle.planets.specs.declared.Conjunction.{Conjunction}
@@ -92,20 +92,20 @@ nextAt p d =
     (is (nextOf (numbersOf p) (nextCount (numbersOf p) d)))))
 
 -- one conjunction's days as 004 works them out, "398 days and 14,641 parts of 17,308"
-abbrev pub figures : ℕ → ℕ → ℕ → Figures
+abbrev pub figures : ℕ → ℕ → ℕ → PlanetFigures
 figures d r s = record { days = d; parts = r; divisor = s }
 
-unfoldable pub figuresOf : ℕ → Figures
-figuresOf p =
+unfoldable pub planetFigures : ℕ → PlanetFigures
+planetFigures p =
     getD
     (figures 398 14641 17308 ∷ figures 779 1872 3516 ∷ figures 378 2163 36384 ∷ figures 292 281 23320 ∷ figures 57 44805 47632 ∷ [])
     (p - 1) (figures 398 14641 17308)
 
 -- the two long counts, "four times one conjunction's parts, 1,461 times the divisor"
-abbrev pub longDays : Figures → ℕ
+abbrev pub longDays : PlanetFigures → ℕ
 longDays f = 4 * (f .days * f .divisor + f .parts)
 
-abbrev pub longCircle : Figures → ℕ
+abbrev pub longCircle : PlanetFigures → ℕ
 longCircle f = 1461 * f .divisor
 
 -- the pair that is printed (Paper, Reduction: what the two long counts are reduced to is this)

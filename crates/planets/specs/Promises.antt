@@ -11,7 +11,7 @@ use Rattle.planets.specs.declared.NextTold.the-variants as Next'
 use Rattle.planets.specs.declared.Pair.{Pair}
 use Rattle.planets.specs.declared.PairTold.{PairTold}
 use Rattle.planets.specs.declared.PairTold.the-variants as Pair'
-use Rattle.planets.specs.Planets.{Planet, conjunctionAt, nextAt, figuresOf, longDays, longCircle}
+use Rattle.planets.specs.Planets.{Planet, conjunctionAt, nextAt, planetFigures, longDays, longCircle}
 use Rattle.planets.specs.Divisors.{Reduced}
 
 abbrev pub saidConjunction : ConjunctionTold → Answer Conjunction
@@ -36,7 +36,7 @@ NextConjunction p d r = saidNext r ≡ nextAt p d
 
 -- the pair of planet p is what its two long counts are reduced to; "a planet outside 1 to 5 is 19", and there is no other refusal
 abbrev pub Reduces : ℕ → Answer Pair → Type 0
-Reduces p (is r) = Planet p × Reduced (longDays (figuresOf p)) (longCircle (figuresOf p)) r
+Reduces p (is r) = Planet p × Reduced (longDays (planetFigures p)) (longCircle (planetFigures p)) r
 Reduces p (refused k) = (Planet p → ⊥) × (k ≡ 19)
 Reduces p (refused-with k n) = ⊥
 

@@ -3,7 +3,7 @@
 ghost use mathlib.Core.Path.{_≡_};
 ghost use Prim.Native.Nat.{_≤_, _<_};
 ghost use Rattle.rule.specs.Counts.{DayInRange};
-ghost use Rattle.planets.specs.Planets.{numbersOf, figuresOf, conjunctionDay, phase, conjunctionOf, nextCount, longDays, longCircle};
+ghost use Rattle.planets.specs.Planets.{numbersOf, planetFigures, conjunctionDay, phase, conjunctionOf, nextCount, longDays, longCircle};
 ghost use Rattle.planets.specs.Divisors.{CommonDivisor, Reduced};
 ghost use Rattle.planets.specs.Promises.{KthConjunction, NextConjunction, ReducedPair};
 use rule::Reason;
@@ -16,7 +16,7 @@ pub struct Numbers {
 }
 
 // One conjunction's days, as 004 works them out: so many days, and parts of a divisor.
-struct Figures {
+struct PlanetFigures {
     pub days: u16,
     pub parts: u16,
     pub divisor: u16,
@@ -99,32 +99,32 @@ fn numbers_of(planet: u32) -> Numbers
 }
 
 // The figures of one conjunction of a planet, 1 to 5.
-fn figures_of(planet: u32) -> Figures
+fn planet_figures(planet: u32) -> PlanetFigures
     requires { ⌜ (1 ≤ planet) × (planet ≤ 5) ⌝ }
-    ensures { λ r. ⌜ r ≡ figuresOf planet ⌝ }
+    ensures { λ r. ⌜ r ≡ planetFigures planet ⌝ }
 {
     match planet {
-        1 => Figures {
+        1 => PlanetFigures {
             days: 398,
             parts: 14641,
             divisor: 17308,
         },
-        2 => Figures {
+        2 => PlanetFigures {
             days: 779,
             parts: 1872,
             divisor: 3516,
         },
-        3 => Figures {
+        3 => PlanetFigures {
             days: 378,
             parts: 2163,
             divisor: 36384,
         },
-        4 => Figures {
+        4 => PlanetFigures {
             days: 292,
             parts: 281,
             divisor: 23320,
         },
-        _ => Figures {
+        _ => PlanetFigures {
             days: 57,
             parts: 44805,
             divisor: 47632,
@@ -227,14 +227,14 @@ pub fn common_divisor(a: u64, b: u64) -> u64
 }
 
 // One of the two long counts, four times one conjunction's parts.
-fn long_days(f: Figures) -> u64
+fn long_days(f: PlanetFigures) -> u64
     ensures { λ r. ⌜ r ≡ longDays f ⌝ }
 {
     4 * (f.days as u64 * f.divisor as u64 + f.parts as u64)
 }
 
 // The other, 1,461 times the divisor.
-fn long_circle(f: Figures) -> u64
+fn long_circle(f: PlanetFigures) -> u64
     ensures { λ r. ⌜ r ≡ longCircle f ⌝ }
 {
     1461 * f.divisor as u64
@@ -259,6 +259,6 @@ pub fn reduced_pair(planet: u32) -> PairTold
     if !rule::in_range(1, 5, planet) {
         return PairTold::Refused(Reason::NoSuchPlanet);
     }
-    let f = figures_of(planet);
+    let f = planet_figures(planet);
     PairTold::Is(reduced(long_days(f), long_circle(f)))
 }

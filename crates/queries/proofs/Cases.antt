@@ -11,7 +11,7 @@ use Rattle.emending.specs.Emended.{emendAt}
 use Rattle.fields.specs.Fields.{word}
 use Rattle.fields.specs.Paper.{valueFrom}
 use Rattle.told.specs.Answers.{refusedText, yearText, termText, conjunctionText, nextText, pairText, quarterText, dayText, dateText, moveText, searchText, emendText}
-use Rattle.yearbook.specs.Counted.{figuresAt}
+use Rattle.yearbook.specs.Promise.{figuresAt}
 use Rattle.told.specs.Yearbook.{figuresText}
 use Rattle.forms.specs.Forms.{
   fieldsIn,

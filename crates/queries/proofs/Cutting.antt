@@ -53,7 +53,7 @@ use Rattle.told.specs.Answers.{
 use Rattle.told.specs.Yearbook.{figuresLines, figuresText}
 use Rattle.yearbook.specs.declared.Figures.{Figures}
 use Rattle.yearbook.specs.Figures.{leapFigures, nameFigures}
-use Rattle.yearbook.specs.Counted.{figuresAt}
+use Rattle.yearbook.specs.Promise.{figuresAt}
 use Rattle.capped.specs.Capped.{capped, cappedMove, cappedField, cappedReading}
 use Rattle.capped.specs.Paper.{Settled, AlikeSearch, whole, both}
 use Rattle.capped.proofs.Paper.{at-most, capped-alike, capped-search, given-whole}

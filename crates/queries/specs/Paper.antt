@@ -25,7 +25,7 @@ use Rattle.told.specs.Answers.{
   emendText,
   clerkText,
 }
-use Rattle.told.specs.Yearbook.{figuresText}
+use Rattle.told.specs.Yearbook.{figuresText, spaced}
 use Rattle.asked.specs.declared.Query.{Query}
 use Rattle.asked.specs.Paper.{written}
 use Rattle.queries.specs.Queries.{unreadable, answered, answerTo}
@@ -33,10 +33,6 @@ use Rattle.queries.specs.Queries.{unreadable, answered, answerTo}
 -- README's table, row by row: a line of these bytes, 200 at most, has this text. So a query's numbers are in their order
 abbrev pub Line : List ℕ → List ℕ → Type 0
 Line s text = length s ≤ 200 → answerTo s ≡ text
-
--- a number behind a space
-abbrev pub spaced : ℕ → List ℕ
-spaced k = 32 ∷ decimal k
 
 -- a reading of six fields, in the paper's order; of a known mark 1 is ordinary and 2 leap
 abbrev pub slipRead : Field → Field → Field → Field → Field → Field → Reading

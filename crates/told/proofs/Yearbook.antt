@@ -10,7 +10,7 @@ use Rattle.yearbook.specs.declared.Figures.{Figures}
 use Rattle.yearbook.specs.declared.Figured.{Figured}
 use Rattle.yearbook.specs.declared.Figured.the-variants.{Are}
 use Rattle.yearbook.specs.Figures.{figuresFrom, figuresOf, leapsFrom, leapFigures, namesFrom, nameFigures}
-use Rattle.yearbook.specs.Counted.{figuresAt, CountsFigures}
+use Rattle.yearbook.specs.Promise.{figuresAt, CountsFigures}
 use Rattle.yearbook.proofs.Each.{each-length}
 use Rattle.yearbook.proofs.Answered.{good-answer}
 use Rattle.yearbook.proofs.Paper.{Given, is-given}

@@ -6,7 +6,7 @@ use mathlib.Core.List.{List, [], _∷_, _++_, map}
 use Rattle.rule.specs.Rule.{big, pairStarts, eclipse}
 use Rattle.yearbook.specs.declared.Figures.{Figures}
 use Rattle.yearbook.specs.Figures.{monthsThat, small, leapFigures, nameFigures}
-use Rattle.yearbook.specs.Counted.{figuresAt}
+use Rattle.yearbook.specs.Promise.{figuresAt}
 use Rattle.yearbook.specs.Paper.{GoodYears}
 use Rattle.fields.specs.Fields.{word, decimal, lined, each}
 use Rattle.told.specs.Answers.{told}

@@ -13,7 +13,7 @@ use Rattle.rule.proofs.Months.{start-end}
 use Rattle.yearbook.specs.declared.Figures.{Figures}
 use Rattle.yearbook.specs.declared.Figured.the-variants.{Are, Refused}
 use Rattle.yearbook.specs.Figures.{passing, small, figuresFrom, figuresOf, leapFigures, nameFigures}
-use Rattle.yearbook.specs.Counted.{figuresAt, whollyAfter, CountsFigures}
+use Rattle.yearbook.specs.Promise.{figuresAt, whollyAfter, CountsFigures}
 use Rattle.yearbook.specs.Paper.{GoodYears}
 use Rattle.yearbook.proofs.Passing.{small-counted}
 

@@ -11,7 +11,7 @@ use Rattle.rule.specs.Rule.{monthStart, midTermsBefore, leap, midTermNumber, mo
 use Rattle.rule.proofs.Lists.{none-pass}
 use Rattle.rule.proofs.Months.{start-shift, start-next-shift}
 use Rattle.yearbook.specs.declared.Figures.{Figures}
-use Rattle.yearbook.specs.Figures.{passing, named, leapNumbered, forEach, figuresFrom, leapsFrom, namesFrom}
+use Rattle.yearbook.specs.Figures.{passing, hasName, leapNumbered, forEach, figuresFrom, leapsFrom, namesFrom}
 use Rattle.yearbook.specs.Paper.{four, OfSeventySix}
 use Rattle.yearbook.proofs.Each.{each-same}
 use Rattle.yearbook.proofs.Passing.{atPlace, big-counted, small-counted, pairs-counted, eclipses-counted, places-counted, names-counted}
@@ -83,7 +83,7 @@ closedNames from to = forEach (λ k. (to + 60 - k) / 60 - (from + 60 - k) / 60) 
 pub names-closed : (from to : ℕ) → from ≤ to → namesFrom from to ≡ closedNames from to
 unfolding namesFrom closedNames
 names-closed from to h =
-    each-same (λ k. passing (named k) from to) (λ k. (to + 60 - k) / 60 - (from + 60 - k) / 60) 60
+    each-same (λ k. passing (hasName k) from to) (λ k. (to + 60 - k) / 60 - (from + 60 - k) / 60) 60
     (λ k l m. omega (arith, names-counted k from to l m h))
 
 -- 940 months from any on

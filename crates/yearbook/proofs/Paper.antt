@@ -17,8 +17,8 @@ use Rattle.rule.proofs.Lists.{bit, length-all}
 use Rattle.yearbook.specs.declared.Figures.{Figures}
 use Rattle.yearbook.specs.declared.Figured.{Figured}
 use Rattle.yearbook.specs.declared.Figured.the-variants.{Are, Refused}
-use Rattle.yearbook.specs.Figures.{passing, small, leapNumbered, named, forEach, figuresFrom, figuresOf, leapsFrom, leapFigures, namesFrom, nameFigures}
-use Rattle.yearbook.specs.Counted.{figuresAt, saidFigured, whollyAfter, CountsFigures}
+use Rattle.yearbook.specs.Figures.{passing, small, leapNumbered, hasName, forEach, figuresFrom, figuresOf, leapsFrom, leapFigures, namesFrom, nameFigures}
+use Rattle.yearbook.specs.Promise.{figuresAt, saidFigured, whollyAfter, CountsFigures}
 use Rattle.yearbook.specs.Paper as Paper
 use Rattle.yearbook.specs.Paper.{GoodYears, AreFigures, FiguresFault, pairAcross, four, sumOf}
 use Rattle.yearbook.proofs.Each.{each-length, each-at, each-only}
@@ -84,10 +84,10 @@ figures-counted first last f leaps names leaps′ names′ = (λ s. there (is-gi
             leap-number = λ k low high.
                 ap (λ (l : List ℕ). getD l (k - 1) 0) (h .by-number)
                 ∙ at-number (λ j. passing (leapNumbered j) from to) 12 k low high ∙ months-literally (leapNumbered k) first last g;
-            sixty = ap length (h .by-name) ∙ each-length (λ k. passing (named k) (monthStart from) (monthStart to)) 60;
+            sixty = ap length (h .by-name) ∙ each-length (λ k. passing (hasName k) (monthStart from) (monthStart to)) 60;
             day-name = λ k low high.
                 ap (λ (l : List ℕ). getD l (k - 1) 0) (h .by-name)
-                ∙ at-number (λ j. passing (named j) (monthStart from) (monthStart to)) 60 k low high ∙ days-literally (named k) first last g;
+                ∙ at-number (λ j. passing (hasName j) (monthStart from) (monthStart to)) 60 k low high ∙ days-literally (hasName k) first last g;
           },
         )
 
@@ -103,10 +103,10 @@ figures-counted first last f leaps names leaps′ names′ = (λ s. there (is-gi
         (λ i l.
         ap (λ (n : ℕ). getD leaps′ n 0) {y = i + 1 - 1} (omega arith)
         ∙ h .leap-number (i + 1) (omega arith) (omega arith) ∙ sym (months-literally (leapNumbered (i + 1)) first last g)))
-        (each-only (λ k. passing (named k) (monthStart from) (monthStart to)) 60 names′ (h .sixty)
+        (each-only (λ k. passing (hasName k) (monthStart from) (monthStart to)) 60 names′ (h .sixty)
         (λ i l.
         ap (λ (n : ℕ). getD names′ n 0) {y = i + 1 - 1} (omega arith)
-        ∙ h .day-name (i + 1) (omega arith) (omega arith) ∙ sym (days-literally (named (i + 1)) first last g)))
+        ∙ h .day-name (i + 1) (omega arith) (omega arith) ∙ sym (days-literally (hasName (i + 1)) first last g)))
 
 -- both arrays where the query comes back
 kept-as-was : (first last : ℕ) (leaps names leaps′ names′ : List ℕ) (why : Reason) → CountsFigures first last leaps names (Refused why) leaps′ names′ →
@@ -136,7 +136,7 @@ unfolding dayName
 name-range d = omega arith
 
 pub figures-make-up : Paper.Figures-make-up
-unfolding figuresFrom leapsFrom namesFrom leapNumbered named
+unfolding figuresFrom leapsFrom namesFrom leapNumbered hasName
 figures-make-up first last f leaps names leaps′ names′ s =
     let h = is-given first last f leaps names leaps′ names′ s in
     let from = civilFirstMonth first in
@@ -196,7 +196,7 @@ two-ranges-meet first middle last f g whole l l₁ n n₁ m m₁ o o₁ p p₁ q
       leap-number = λ i. places-meet l₁ m₁ p₁ _ _ _ i (x .by-number) (y .by-number) (z .by-number) (each-meets _ _ _ ab bc leapNumbered 12 i);
       day-name = λ i.
           places-meet n₁ o₁ q₁ _ _ _ i (x .by-name) (y .by-name) (z .by-name)
-          (each-meets _ _ _ (days-inside first middle (x .good) .0) (days-inside (middle + 1) last (y .good) .0) named 60 i);
+          (each-meets _ _ _ (days-inside first middle (x .good) .0) (days-inside (middle + 1) last (y .good) .0) hasName 60 i);
     }
 
 pub pairs-across-the-join : Paper.Pairs-across-the-join
@@ -293,14 +293,10 @@ known-figures =
       year-11 = λ l n l′ n′ a s. let c = computed 11 11 (good 11 11 (omega arith) (omega arith) (omega arith)) l n l′ n′ a s in (c .figures, c .by-number);
       all-years = λ l n l′ n′ a s.
           let c = computed 1 41039 (good 1 41039 (omega arith) (omega arith) (omega arith)) l n l′ n′ a s in (c .figures, c .by-number);
-      eclipses-of-004 = λ f l n l′ n′ s.
-          let c = computed 9368 9460 (good 9368 9460 (omega arith) (omega arith) (omega arith)) l n l′ n′ (Are f) s in
-          ap eclipses-in (c .figures);
+      eclipses-of-004 = λ a l n l′ n′ s.
+          let c = computed 9368 9460 (good 9368 9460 (omega arith) (omega arith) (omega arith)) l n l′ n′ a s in
+          (_, c .figures, refl);
     }
-  where
-    eclipses-in : Figured → ℕ
-    eclipses-in (Are f) = f .eclipses
-    eclipses-in (Refused why) = 0
 
 -- the numbers of an answer
 bigIn : Figured → ℕ
@@ -366,10 +362,9 @@ wrong-figures =
       leap-a-place-on = λ a l n n′ s. omega (arith, ap (λ (m : List ℕ). getD m 0 0) (year-8 l n _ n′ a s .1));
       first-year-alone = λ p e l n l′ n′ s. omega (arith, ap bigIn (both-years l n l′ n′ (Are (four 6 6 p e)) s));
       left-as-it-was = λ a l n l′ e s. omega (arith, e, year-8 l n l′ n a s .2);
-      filled-though-refused = λ a x y n n′ h s.
-          h (sym (ap (λ (m : List ℕ). getD m 0 0) (refused-range 9 8 (x ∷ []) n (y ∷ []) n′ a 13 (comes-back .0) s .1)));
-      names-though-refused = λ a x y l l′ h s.
-          h (sym (ap (λ (m : List ℕ). getD m 0 0) (refused-range 0 8 l (x ∷ []) l′ (y ∷ []) a 1 (comes-back .1) s .2)));
+      leaps-left-as-they-were = λ a l n n′ h s. h (ap (λ (m : List ℕ). getD m 11 0) (year-8 l n l n′ a s .1));
+      filled-though-refused = λ a l n l′ n′ h s. h (sym (ap (λ (m : List ℕ). getD m 0 0) (refused-range 9 8 l n l′ n′ a 13 (comes-back .0) s .1)));
+      names-though-refused = λ a l n l′ n′ h s. h (sym (ap (λ (m : List ℕ). getD m 0 0) (refused-range 0 8 l n l′ n′ a 1 (comes-back .1) s .2)));
       year-0-let-in = λ f l n l′ n′ s.
           let e : _≡_ {A = Answer Figures} (is f) (refused 1) = refused-range 0 8 l n l′ n′ (Are f) 1 (comes-back .1) s .0 in
           let o : _≡_ {A = ℕ} 0 1 = cc in omega arith;

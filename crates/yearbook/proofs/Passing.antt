@@ -14,7 +14,7 @@ use Rattle.rule.proofs.Lists.{bit, Gains, counted, complement, length-same, fro
 use Rattle.rule.proofs.Months.{start-next, length-range}
 use Rattle.rule.proofs.Pairs.{twoStarts, fiftyNine, pair-gains}
 use Rattle.rule.proofs.Eclipses.{goes-on}
-use Rattle.yearbook.specs.Figures.{passing, small, named}
+use Rattle.yearbook.specs.Figures.{passing, small, hasName}
 
 -- of no counts none passes
 pub none-yet : (p : ℕ → Bool) (a : ℕ) → length (those p a 0) ≡ 0
@@ -84,14 +84,14 @@ pub places-counted : (place from to : ℕ) → place < 940 → from ≤ to →
 places-counted place from to l h =
     omega (arith, gained (λ n. (n + 939 - place) / 940) (λ n. 0) (atPlace place) (place-gains place l) from to h)
 
-name-gains : (k : ℕ) → 1 ≤ k → k ≤ 60 → Gains (λ d. (d + 60 - k) / 60) (λ d. 0) (named k)
-unfolding named dayName
+name-gains : (k : ℕ) → 1 ≤ k → k ≤ 60 → Gains (λ d. (d + 60 - k) / 60) (λ d. 0) (hasName k)
+unfolding hasName dayName
 name-gains k l h d = go (eqb (d % 60 + 1) k) refl
   where
     go : (b : Bool) → eqb (d % 60 + 1) k ≡ b → (d + 1 + 60 - k) / 60 + 0 ≡ (d + 60 - k) / 60 + 0 + bit b
     go true e = omega (arith, eqb-true (d % 60 + 1) k e)
     go false e = let no : ¬ (d % 60 + 1 ≡ k) = eqb-false (d % 60 + 1) k e in omega arith
 
-pub names-counted : (k from to : ℕ) → 1 ≤ k → k ≤ 60 → from ≤ to → (to + 60 - k) / 60 ≡ (from + 60 - k) / 60 + passing (named k) from to
+pub names-counted : (k from to : ℕ) → 1 ≤ k → k ≤ 60 → from ≤ to → (to + 60 - k) / 60 ≡ (from + 60 - k) / 60 + passing (hasName k) from to
 names-counted k from to l m h =
-    omega (arith, gained (λ d. (d + 60 - k) / 60) (λ d. 0) (named k) (name-gains k l m) from to h)
+    omega (arith, gained (λ d. (d + 60 - k) / 60) (λ d. 0) (hasName k) (name-gains k l m) from to h)

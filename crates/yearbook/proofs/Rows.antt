@@ -12,7 +12,7 @@ use Rattle.rule.proofs.Answers.{both-true, within-true, at-most, holds-all, sam
 use Rattle.rule.proofs.Pairs.{lt-or-le}
 use Rattle.yearbook.specs.declared.Figures.{Figures}
 use Rattle.yearbook.specs.Figures.{figuresOf}
-use Rattle.yearbook.specs.Counted.{figuresAt}
+use Rattle.yearbook.specs.Promise.{figuresAt}
 use Rattle.yearbook.specs.Paper.{GoodYears, Outside, Inside, FiguresFault}
 
 module _ (first last : ℕ) where

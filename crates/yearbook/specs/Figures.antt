@@ -15,18 +15,15 @@ passing p from to = length (those p from (to - from))
 
 -- the months of the civil years from first to last: from the one with which the first opens up to the one with which the year after the last
 -- does (Paper, Months-and-days-of-the-years)
-abbrev pub openingMonth : ℕ → ℕ
-openingMonth first = civilFirstMonth first
-
 abbrev pub monthAfter : ℕ → ℕ
 monthAfter last = civilFirstMonth (last + 1)
 
 -- how many of these months pass a test, and how many of their days
 abbrev pub monthsThat : (ℕ → Bool) → ℕ → ℕ → ℕ
-monthsThat p first last = passing p (openingMonth first) (monthAfter last)
+monthsThat p first last = passing p (civilFirstMonth first) (monthAfter last)
 
 abbrev pub daysThat : (ℕ → Bool) → ℕ → ℕ → ℕ
-daysThat p first last = passing p (monthStart (openingMonth first)) (monthStart (monthAfter last))
+daysThat p first last = passing p (monthStart (civilFirstMonth first)) (monthStart (monthAfter last))
 
 -- a small month has 29 days (a big one, 30, and a big pair are the rule's)
 unfoldable pub small : ℕ → Bool
@@ -37,8 +34,8 @@ unfoldable pub leapNumbered : ℕ → ℕ → Bool
 leapNumbered k n = leap n && eqb (monthNumber n) k
 
 -- "days of each of the sixty names": day d has name k
-unfoldable pub named : ℕ → ℕ → Bool
-named k d = eqb (dayName d) k
+unfoldable pub hasName : ℕ → ℕ → Bool
+hasName k d = eqb (dayName d) k
 
 -- what f gives for each number from 1 to k
 unfoldable pub forEach : (ℕ → ℕ) → ℕ → List ℕ
@@ -52,18 +49,18 @@ figuresFrom from to =
     record { big = passing big from to; small = passing small from to; pairs = passing pairStarts from to; eclipses = passing eclipse from to }
 
 abbrev pub figuresOf : ℕ → ℕ → Figures
-figuresOf first last = figuresFrom (openingMonth first) (monthAfter last)
+figuresOf first last = figuresFrom (civilFirstMonth first) (monthAfter last)
 
 -- "leap months by number", twelve counts
 unfoldable pub leapsFrom : ℕ → ℕ → List ℕ
 leapsFrom from to = forEach (λ k. passing (leapNumbered k) from to) 12
 
 abbrev pub leapFigures : ℕ → ℕ → List ℕ
-leapFigures first last = leapsFrom (openingMonth first) (monthAfter last)
+leapFigures first last = leapsFrom (civilFirstMonth first) (monthAfter last)
 
 -- "and days of each of the sixty names", sixty counts
 unfoldable pub namesFrom : ℕ → ℕ → List ℕ
-namesFrom from to = forEach (λ k. passing (named k) from to) 60
+namesFrom from to = forEach (λ k. passing (hasName k) from to) 60
 
 abbrev pub nameFigures : ℕ → ℕ → List ℕ
-nameFigures first last = namesFrom (monthStart (openingMonth first)) (monthStart (monthAfter last))
+nameFigures first last = namesFrom (monthStart (civilFirstMonth first)) (monthStart (monthAfter last))

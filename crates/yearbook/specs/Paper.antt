@@ -1,4 +1,4 @@
--- What the request says of the yearbook's figures, as statements. proofs/Paper.antt proves each under the same name in small letters.
+-- What the request and its issue say of the yearbook's figures, as statements. proofs/Paper.antt proves each under the same name in small letters.
 -- Assumes nothing.
 use Prim.Native.Nat.{ℕ, _+_, _-_, _≤_, _<_}
 use mathlib.Core.Path.{_≡_}
@@ -14,8 +14,8 @@ use Rattle.rule.specs.declared.Reason.the-variants.{NoSuchYear, BadWindow}
 use Rattle.yearbook.specs.declared.Figures.{Figures}
 use Rattle.yearbook.specs.declared.Figured.{Figured}
 use Rattle.yearbook.specs.declared.Figured.the-variants.{Are, Refused}
-use Rattle.yearbook.specs.Figures.{monthsThat, daysThat, small, leapNumbered, named}
-use Rattle.yearbook.specs.Counted.{CountsFigures}
+use Rattle.yearbook.specs.Figures.{monthsThat, daysThat, small, leapNumbered, hasName}
+use Rattle.yearbook.specs.Promise.{CountsFigures}
 
 -- "any range of civil years within 1 to 41,039"
 pub record GoodYears (first last : ℕ) : Type 0 where
@@ -54,7 +54,7 @@ pub record AreFigures (first last : ℕ) (f : Figures) (leaps names : List ℕ) 
   pub twelve : length leaps ≡ 12
   pub leap-number : (k : ℕ) → 1 ≤ k → k ≤ 12 → getD leaps (k - 1) 0 ≡ monthsOfYears (leapNumbered k) first last
   pub sixty : length names ≡ 60
-  pub day-name : (k : ℕ) → 1 ≤ k → k ≤ 60 → getD names (k - 1) 0 ≡ daysOfYears (named k) first last
+  pub day-name : (k : ℕ) → 1 ≤ k → k ≤ 60 → getD names (k - 1) 0 ≡ daysOfYears (hasName k) first last
 
 -- figures are given exactly over a good range, and are these
 abbrev pub Figures-counted : Type 0
@@ -127,8 +127,8 @@ pairAcross y = pairStarts (civilFirstMonth (y + 1) - 1)
 abbrev pub Pairs-across-the-join : Type 0
 Pairs-across-the-join = length (those pairAcross 1 41038) ≡ 2160
 
--- "A pair starting in the range's last month counts if the month after the range is big": so many more than pairs both of whose months are
--- in the range
+-- "A pair starting in the range's last month counts if the month after the range is big": one more than the pairs that start before that month
+-- where it does, and as many where not
 pub record AtTheEnd (first last : ℕ) (f : Figures) : Type 0 where
   pub counts : (big (civilFirstMonth (last + 1) - 1) ≡ true) → (big (civilFirstMonth (last + 1)) ≡ true) → pairAcross last ≡ true
   pub with-it : pairAcross last ≡ true → f .pairs ≡ length (those pairStarts (civilFirstMonth first) (civilFirstMonth (last + 1) - 1 - civilFirstMonth first)) + 1
@@ -157,7 +157,7 @@ Unique-figures =
     (first last : ℕ) (leaps names : List ℕ) (a b : Figured) (l n m o : List ℕ) →
     CountsFigures first last leaps names a l n → CountsFigures first last leaps names b m o → (a ≡ b) × (l ≡ m) × (n ≡ o)
 
--- the four numbers of a range, and its leap months by number
+-- the four numbers of a range
 abbrev pub four : ℕ → ℕ → ℕ → ℕ → Figures
 four b s p e = record { big = b; small = s; pairs = p; eclipses = e }
 
@@ -176,11 +176,12 @@ pub record Known-figures : Type 0 where
       Gives 1 41039 (four 269453 238134 31319 86478)
       (1620 ∷ 540 ∷ 1620 ∷ 1080 ∷ 1620 ∷ 1080 ∷ 1080 ∷ 1620 ∷ 1080 ∷ 1619 ∷ 540 ∷ 1620 ∷ [])
   pub eclipses-of-004 :
-      (f : Figures) (leaps names leaps′ names′ : List ℕ) → CountsFigures 9368 9460 leaps names (Are f) leaps′ names′ → f .eclipses ≡ 196
+      (a : Figured) (leaps names leaps′ names′ : List ℕ) → CountsFigures 9368 9460 leaps names a leaps′ names′ →
+      (f : Figures) × (a ≡ Are f) × (f .eclipses ≡ 196)
 
 -- wrong versions, each shut out at a named input: one that refuses all; the pair that the last month of year 47 starts, lost; the same counted
 -- again with year 48; the months of solstice year 8 for those of civil year 8, which has the leap 12; the day names of year 7 for those of year
--- 8, of which the 19th has seven days; big and small exchanged; the leap month a place on; the first year alone; arrays left as they were, or
+-- 8, of which the 19th has seven days; the names a place on; big and small exchanged; the leap month a place on; the first year alone; arrays left as they were, or
 -- filled though the query comes back; year 0 and year 41,040 let in; 13 before 1
 pub record Wrong-figures : Type 0 where
   pub refusing-all : (why : Reason) (l n l′ n′ : List ℕ) → CountsFigures 8 8 l n (Refused why) l′ n′ → ⊥
@@ -199,8 +200,9 @@ pub record Wrong-figures : Type 0 where
       CountsFigures 8 8 l n a (1 ∷ 0 ∷ 0 ∷ 0 ∷ 0 ∷ 0 ∷ 0 ∷ 0 ∷ 0 ∷ 0 ∷ 0 ∷ 0 ∷ []) n′ → ⊥
   pub first-year-alone : (p e : ℕ) (l n l′ n′ : List ℕ) → CountsFigures 47 48 l n (Are (four 6 6 p e)) l′ n′ → ⊥
   pub left-as-it-was : (a : Figured) (l n l′ : List ℕ) → getD n 18 0 ≡ 0 → CountsFigures 8 8 l n a l′ n → ⊥
-  pub filled-though-refused : (a : Figured) (x y : ℕ) (n n′ : List ℕ) → x ≢ y → CountsFigures 9 8 (x ∷ []) n a (y ∷ []) n′ → ⊥
-  pub names-though-refused : (a : Figured) (x y : ℕ) (l l′ : List ℕ) → x ≢ y → CountsFigures 0 8 l (x ∷ []) a l′ (y ∷ []) → ⊥
+  pub leaps-left-as-they-were : (a : Figured) (l n n′ : List ℕ) → getD l 11 0 ≢ 1 → CountsFigures 8 8 l n a l n′ → ⊥
+  pub filled-though-refused : (a : Figured) (l n l′ n′ : List ℕ) → getD l 0 0 ≢ getD l′ 0 0 → CountsFigures 9 8 l n a l′ n′ → ⊥
+  pub names-though-refused : (a : Figured) (l n l′ n′ : List ℕ) → getD n 0 0 ≢ getD n′ 0 0 → CountsFigures 0 8 l n a l′ n′ → ⊥
   pub year-0-let-in : (f : Figures) (l n l′ n′ : List ℕ) → CountsFigures 0 8 l n (Are f) l′ n′ → ⊥
   pub year-41040-let-in : (f : Figures) (l n l′ n′ : List ℕ) → CountsFigures 8 41040 l n (Are f) l′ n′ → ⊥
   pub turned-round-first : (l n l′ n′ : List ℕ) → CountsFigures 8 0 l n (Refused BadWindow) l′ n′ → ⊥

@@ -5,8 +5,8 @@ ghost use Prim.Native.Nat.{_%_, _≤_, _<_};
 ghost use lib.Dec.{eqb};
 ghost use Rattle.rule.specs.Lists.{those};
 ghost use Rattle.rule.specs.Rule.{big, pairStarts, leap, eclipse};
-ghost use Rattle.yearbook.specs.Figures.{passing, named, figuresFrom, leapsFrom, namesFrom};
-ghost use Rattle.yearbook.specs.Counted.{CountsFigures};
+ghost use Rattle.yearbook.specs.Figures.{passing, hasName, figuresFrom, leapsFrom, namesFrom};
+ghost use Rattle.yearbook.specs.Promise.{CountsFigures};
 use rule::Reason;
 
 // How many big months, small months, big pairs and eclipse months there are.
@@ -113,10 +113,10 @@ fn leap_counts(from: u32, to: u32) -> [u32; 12]
     counts
 }
 
-// How many days from one up to another have a name.
+// How many days from one up to another have name k.
 fn days_named(k: u32, from: u32, to: u32) -> u32
     requires { ⌜ (1 ≤ k) × (k ≤ 60) × (from ≤ to) × (to ≤ 14989860) ⌝ }
-    ensures { λ r. ⌜ r ≡ passing (named k) from to ⌝ }
+    ensures { λ r. ⌜ r ≡ passing (hasName k) from to ⌝ }
 {
     (to + 60 - k) / 60 - (from + 60 - k) / 60
 }

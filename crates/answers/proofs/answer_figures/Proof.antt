@@ -1,7 +1,7 @@
 -- `answers::answer_figures` meets its contract: what `yearbook::figures_of` says, told in three lines. Assumes nothing.
 use native.Mathlib.Omega.{arith}
 use mathlib.Core.Path.{sym}
-use Rattle.yearbook.specs.Counted.{saidFigured}
+use Rattle.yearbook.specs.Promise.{saidFigured}
 use Rattle.yearbook.specs.Figures.{leapFigures, nameFigures}
 use Rattle.fields.proofs.Putting.{put-kept, then, put-as}
 use Rattle.told.specs.Yearbook.{figuresLines, figuresText}
