@@ -61,7 +61,7 @@ def strange_names(page, known):
         for token in names(line):
             if is_path(token):
                 continue
-            parts = re.split(r"::|\.\.|\s", token.partition("(")[0])
+            parts = re.split(r"::|\.\.|\s", re.split(r"[(<]", token)[0])
             for part in parts:
                 if part.strip("-") and part.strip("-") not in known and part not in known:
                     yield f"{page.relative_to(ROOT)}:{number}: `{token}`"
@@ -183,10 +183,10 @@ def strange_listings():
     crates = {path.name for path in CRATES.iterdir()}
     code = {crate: source(crate) for crate in sorted(crates)}
     stands = {("edit", path.parent.parent.name, path.stem) for path in CRATES.glob("*/must-fail/*.edit")}
-    stands |= {("fn", crate, name) for crate in crates for name in re.findall(r"\bfn (\w+)\(", code[crate])}
+    stands |= {("fn", crate, name) for crate in crates for name in re.findall(r"\bfn (\w+)(?:<[^>]*>)?\(", code[crate])}
     listed = set()
     for number, kind, crate, name in listings(crates):
-        bare = name.partition("(")[0].rpartition("::")[2]
+        bare = re.split(r"[(<]", name)[0].rpartition("::")[2]
         listed.add((kind, crate, bare))
         if crate is None:
             yield f"docs/CALLS.md:{number}: `{name}` is listed under no crate"
@@ -195,7 +195,7 @@ def strange_listings():
         elif " -> " in name and name.partition("::")[2] not in code[crate]:
             yield f"docs/CALLS.md:{number}: `{name}` is not the signature in crate `{crate}`"
     libraries = {path.parent.parent.name for path in CRATES.glob("*/src/lib.rt")}
-    called = {("fn", crate, name) for crate in libraries for name in re.findall(r'\bpub (?:extern "C" )?fn (\w+)\(', code[crate])}
+    called = {("fn", crate, name) for crate in libraries for name in re.findall(r'\bpub (?:extern "C" )?fn (\w+)(?:<[^>]*>)?\(', code[crate])}
     for kind, crate, name in sorted(({one for one in stands if one[0] == "edit"} | called) - listed):
         yield f"docs/CALLS.md: {'edit' if kind == 'edit' else 'pub fn'} `{name}` of crate `{crate}` is not listed"
 

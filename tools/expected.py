@@ -12,6 +12,7 @@ import sys
 
 sys.dont_write_bytecode = True
 
+from verdicts import verdict
 from walked import (DAYS, MONTHS, PLANETS, ROOT, YEARS, Desk, common_divisor, hold, is_eclipse, kth, listed_day, month_fields,
                     read_sheet, refused, write_sheet, year_block)
 
@@ -372,6 +373,8 @@ def example(desk):
     out += echoed(desk, ["FIGURES 11 11", "FIGURES 9368 9443", "FIGURES 9 8"])
     out += ["WRITE 11,,", f"BYTES {len(sheet)}", "SHEET" + spaced(sheet), "COUNTS" + spaced(map(len, read_sheet(sheet, (1,) * 3)))]
     out += uses_printed(desk, "YEAR", 11)
+    judged = [verdict(desk, line) for line in b"128 4 - 60 30 -\n129 5 - 30 29 E\n130 6 -".split(b"\n")]
+    out += ["CONCORDANCE", f"LINES {len(judged)}", *(f"{i} {7 if v is None else v}" for i, v in enumerate(judged, 1))]
     return [" ".join(line.split()[:2]) if line.startswith("REFUSED") else line for line in out]
 
 

@@ -4,7 +4,8 @@
 An import is needed where the name that it brings occurs in its file: an item by itself, an operator by its parts, a module in front
 of a dot; what `ghost use` brings in a clause, what `use` of a .rt file brings in its code.
 A `pub` is needed of a function, type or constant of src/ where another crate names it (another file, if it does not stand in lib.rt),
-or if it is a type, where something else that is `pub` has it in its signature; the calls for C are needed as they are. It is needed of
+or if it is a type, where something else that is `pub` has it in its signature; the calls for C, and the public calls with their
+signatures in docs/CALLS.md, are needed as they are. It is needed of
 a definition of proofs/ where another file names it, or one of its constructors, or where it stands in a signature that is `pub`. Of
 specs/ every `pub` may stay, so that a statement's parts can be cited. A definition of specs/ or proofs/ is needed where it is named at
 all; needed as they are the proofs of statements, what a Proof.antt says of its function, and the figures of a Cases.antt.
@@ -240,6 +241,8 @@ def signatures(file):
 
 
 def needless_code(files):
+    page = (ROOT / "docs" / "CALLS.md").read_text(encoding="utf8")
+    calls = set(re.findall(r"^\| `(\w+::\w+)[^`]* -> [^`]*` \|", page, re.M))
     code = [file for file in files if file.path.suffix == ".rt"]
     antt = [file for file in files if file.path.suffix == ".antt"]
     spelled = {file: file.code + "".join(f"\n{one.module}::{one.item or ''}" for one in file.imports) for file in code}
@@ -253,7 +256,7 @@ def needless_code(files):
             in_code = any(re.search(rf"\b{head}::{name}\b", spelled[one]) for one in others if one is not file)
             in_proofs = any(re.search(rf"Rattle\.{file.crate}\.[^\s{{]*\b{name}\b", one.text) for one in antt if one.crate != file.crate)
             in_public = kind in ("struct", "enum") and any(word.search(text) for item, text in public if item != name)
-            if not (for_c or in_code or in_proofs or in_public):
+            if not (for_c or in_code or in_proofs or in_public or f"{file.crate}::{name}" in calls):
                 line = file.code.count("\n", 0, found.start()) + 1
                 yield file, line, f"`pub {kind} {name}`: no other {'crate' if is_outer else 'file'} names it"
 

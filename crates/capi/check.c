@@ -957,6 +957,53 @@ static void lines(void)
     prints(oes_print_day, 29, "DAY 29 0 12 - 1 30\n", 6);
 }
 
+/* The verdicts on a text, in a list of so many places, n lines; the rest of the list stays as it was. */
+static void judges(const char *text, size_t length, size_t places, const char *verdicts, size_t n)
+{
+    uint8_t out[40];
+    memset(out, 0xA5, sizeof out);
+    oes_length got = oes_judge_text((const uint8_t *)text, length, out, places);
+    SAME(got.reason, places < n ? 12 : 0);
+    SAME(got.length, places < n ? 0 : n);
+    for (size_t i = 0; i < sizeof out; i++) {
+        SAME(out[i], got.reason == 0 && i < n ? (uint8_t)(verdicts[i] - '0') : 0xA5);
+    }
+}
+
+static void concordances(void)
+{
+    static const char text[] = "129 5 - 30 30 E\n507600 5 - 30 30 E\n129 6 - 30 30 E\n129 5 L 30 30 E\n129 5 - 31 30 E\n"
+                               "129 5 - 30 29 E\n129 5 - 30 30 -\n0129 5 - 30 30 E\n129 5 - 30 30 E\r\n\n129 5 - 30 30 E";
+    size_t n = strlen(text);
+    judges(text, n, 40, "01234567770", 11);
+    judges(text, n, 11, "01234567770", 11);
+    judges(text, n, 10, "01234567770", 11);
+    judges(text, n - 15, 40, "0123456777", 10);
+    judges(text, n - 16, 40, "012345677", 9);
+    judges(text, n - 17, 40, "012345677", 9);
+    judges(text, 0, 0, "", 0);
+    judges("\n", 1, 40, "7", 1);
+    static uint8_t longest[65537];
+    static uint8_t out[65537];
+    memset(longest, '\n', sizeof longest);
+    memset(out, 0xA5, sizeof out);
+    oes_length got = oes_judge_text(longest, 65537, out, 65537);
+    SAME(got.reason, 18);
+    SAME(got.length, 0);
+    SAME(out[0], 0xA5);
+    got = oes_judge_text(longest, 65537, out, 0);
+    SAME(got.reason, 18);
+    got = oes_judge_text(longest, 65536, out, 65535);
+    SAME(got.reason, 12);
+    SAME(out[0], 0xA5);
+    got = oes_judge_text(longest, 65536, out, 65537);
+    SAME(got.reason, 0);
+    SAME(got.length, 65536);
+    SAME(out[0], 7);
+    SAME(out[65535], 7);
+    SAME(out[65536], 0xA5);
+}
+
 int main(void)
 {
     dates();
@@ -979,6 +1026,7 @@ int main(void)
     counts();
     years_of_a_sheet();
     lines();
+    concordances();
     printf("%d checks, %d wrong\n", checked, wrong);
     return wrong == 0 ? 0 : 1;
 }

@@ -245,6 +245,18 @@ static void sheet(void)
     }
 }
 
+/* Three lines of a concordance: as printed; the second of two big months struck out; cut. */
+static void concordance(void)
+{
+    const char text[] = "128 4 - 60 30 -\n129 5 - 30 29 E\n130 6 -";
+    uint8_t verdicts[3] = {0};
+    oes_length lines = oes_judge_text((const uint8_t *)text, sizeof text - 1, verdicts, sizeof verdicts);
+    printf("CONCORDANCE\nLINES %zu\n", lines.length);
+    for (size_t i = 0; i < lines.length; i++) {
+        printf("%zu %u\n", i + 1, verdicts[i]);
+    }
+}
+
 int main(void)
 {
     dates();
@@ -256,5 +268,6 @@ int main(void)
     emendings();
     yearbook();
     sheet();
+    concordance();
     return 0;
 }

@@ -1,5 +1,5 @@
 /* The calls of Oesterwrok for C: days, dates, drawers, facts, the clerk, planets, searches, emendings, the yearbook's figures,
- * sheets and printed lines of the Quarter-Remainder rule.
+ * sheets, printed lines and concordances of the Quarter-Remainder rule.
  *
  * Every call ends for every input. `reason` is 0 where there is an answer; else it is the paper's number, every other field
  * is 0 (but the total of a search or an emending that is refused with 12, which is the true one, and the place of a drawer that
@@ -268,6 +268,11 @@ oes_length oes_print_year(uint64_t year, uint8_t *out, size_t out_bytes);
 oes_length oes_print_month_line(uint64_t month, uint8_t *out, size_t out_bytes);
 oes_length oes_print_month(uint64_t month, uint8_t *out, size_t out_bytes);
 oes_length oes_print_day(uint64_t day, uint8_t *out, size_t out_bytes);
+
+/* The verdicts on a concordance, a text of at most 65,536 bytes, else 18: lines as oes_print_month_line prints them. `out` gets one
+ * byte a line: 0 right, 1 to 6 the first wrong field (month count, number, leap mark, first day's name, length, eclipse mark),
+ * 7 unreadable; `length` is how many lines there are. A last line without a newline counts. 12 where `out` has fewer places. */
+oes_length oes_judge_text(const uint8_t *text, size_t text_length, uint8_t *out, size_t out_bytes);
 
 #ifdef __cplusplus
 }

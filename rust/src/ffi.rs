@@ -269,6 +269,12 @@ unsafe extern "C" {
     fn oes_print_month_line(month: u64, out: *mut u8, out_bytes: usize) -> CLength;
     fn oes_print_month(month: u64, out: *mut u8, out_bytes: usize) -> CLength;
     fn oes_print_day(day: u64, out: *mut u8, out_bytes: usize) -> CLength;
+    fn oes_judge_text(
+        text: *const u8,
+        text_length: usize,
+        out: *mut u8,
+        out_bytes: usize,
+    ) -> CLength;
 }
 
 /// `oes_dates` over slices.
@@ -357,3 +363,10 @@ printing!(print_year, oes_print_year);
 printing!(print_month_line, oes_print_month_line);
 printing!(print_month, oes_print_month);
 printing!(print_day, oes_print_day);
+
+/// `oes_judge_text` over slices.
+#[inline]
+pub fn judge_text(text: &[u8], out: &mut [u8]) -> CLength {
+    // SAFETY: each pointer and length are those of one slice; the lent one is borrowed alone.
+    unsafe { oes_judge_text(text.as_ptr(), text.len(), out.as_mut_ptr(), out.len()) }
+}

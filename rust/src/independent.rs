@@ -415,7 +415,10 @@ pub fn clerk_step(clerk: Clerk) -> Result<Clerk, Reason> {
     let (_, next_rest) = once_over(940, rest + 499);
     let first_day = day + days;
     let length = days_from(next_rest);
-    let ahead = (u64::from(clerk.mid_term_day), u64::from(clerk.mid_term_parts));
+    let ahead = (
+        u64::from(clerk.mid_term_day),
+        u64::from(clerk.mid_term_parts),
+    );
     let leap = ahead.0 >= first_day + length;
     let (mid_term_day, mid_term_parts) = if leap { ahead } else { next_mid_term(ahead) };
     let number = u64::from(clerk.number) + u64::from(!leap);
@@ -1007,4 +1010,79 @@ pub fn print_day(day: u64, out: &mut [u8]) -> Result<usize, Reason> {
         date.day_name
     );
     hand_bytes(line.as_bytes(), out)
+}
+
+/// The most bytes of a concordance.
+const TEXT: usize = 65_536;
+
+/// A field of one to nine digits with no leading zero, except 0 alone.
+fn plain_number(field: &[u8]) -> Option<u64> {
+    let leads = field.len() == 1 || field.first() != Some(&b'0');
+    let good = (1..=9).contains(&field.len()) && leads && field.iter().all(u8::is_ascii_digit);
+    good.then(|| {
+        field
+            .iter()
+            .fold(0, |value, digit| 10 * value + u64::from(digit - b'0'))
+    })
+}
+
+/// A field that is a mark's letter or `-`.
+fn plain_mark(field: &[u8], letter: u8) -> Option<bool> {
+    match field {
+        [b'-'] => Some(false),
+        [byte] if *byte == letter => Some(true),
+        _ => None,
+    }
+}
+
+/// The six fields of a line of a concordance: month count, number, leap mark, first day's name, length, eclipse mark.
+type Line = (u64, u64, bool, u64, u64, bool);
+
+/// A line's six fields, parted by single spaces, where it can be read.
+fn read_line(line: &[u8]) -> Option<Line> {
+    let mut fields = line.split(|&byte| byte == b' ');
+    let read = (
+        plain_number(fields.next()?)?,
+        plain_number(fields.next()?)?,
+        plain_mark(fields.next()?, b'L')?,
+        plain_number(fields.next()?)?,
+        plain_number(fields.next()?)?,
+        plain_mark(fields.next()?, b'E')?,
+    );
+    fields.next().is_none().then_some(read)
+}
+
+/// The verdict on a line.
+fn verdict(line: &[u8]) -> Verdict {
+    let Some((n, number, leap, name, days, eclipse)) = read_line(line) else {
+        return Verdict::Unreadable;
+    };
+    if n >= MONTHS {
+        return Verdict::Wrong(1);
+    }
+    let agree = [
+        number == u64::from(month_number(n)),
+        leap == is_leap(n),
+        name == u64::from(day_name(month_start(n))),
+        days == month_length(n),
+        eclipse == is_eclipse(n),
+    ];
+    match agree.iter().position(|&same| !same) {
+        None => Verdict::Right,
+        Some(place) => Verdict::Wrong(place as u8 + 2),
+    }
+}
+
+/// As [`crate::judge_text`]. A newline at the end opens no further line.
+pub fn judge_text(text: &[u8], out: &mut [u8]) -> Result<usize, Reason> {
+    ensure(text.len() <= TEXT, Reason::TextTooLong)?;
+    if text.is_empty() {
+        return Ok(0);
+    }
+    let whole = text.strip_suffix(b"\n").unwrap_or(text);
+    let verdicts: Vec<u8> = whole
+        .split(|&byte| byte == b'\n')
+        .map(|line| verdict(line).number())
+        .collect();
+    hand_bytes(&verdicts, out)
 }

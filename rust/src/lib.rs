@@ -391,6 +391,24 @@ fn facts_of_month(c: ffi::CMonth) -> MonthFacts {
     }
 }
 
+/// Judges a concordance, a text in the line form of the listing, line by line: to the front of `out` the number of each line's verdict
+/// ([`Verdict::from_number`]), 0 right, 1 to 6 the first wrong field, 7 unreadable; gives how many lines there are. Reasons 18, 12.
+///
+/// ```
+/// use oesterwrok::{judge_text, Verdict};
+///
+/// let mut verdicts = [0; 4];
+/// let text = b"128 4 - 60 30 -\n129 5 - 30 29 E\n130 6 -";
+/// assert_eq!(judge_text(text, &mut verdicts), Ok(3));
+/// assert_eq!(Verdict::from_number(verdicts[0]), Some(Verdict::Right));
+/// assert_eq!(Verdict::from_number(verdicts[1]), Some(Verdict::Wrong(5)));
+/// assert_eq!(Verdict::from_number(verdicts[2]), Some(Verdict::Unreadable));
+/// ```
+#[inline]
+pub fn judge_text(text: &[u8], out: &mut [u8]) -> Result<usize, Reason> {
+    Ok(ffi::judge_text(text, out).told()?.length)
+}
+
 /// How many records were filled, or why none was. Only reason 6 has a place.
 #[inline]
 fn filled(c: ffi::CFilled) -> Result<u32, DrawerRefused> {

@@ -2,8 +2,8 @@
 
 use std::fmt;
 
-/// Why a query comes back: the paper's fifteen reasons, that of the civil year, the two of the planets and that of
-/// the clerk, under their numbers.
+/// Why a query comes back: the paper's fifteen reasons, that of the civil year, that of a concordance, the two of the planets and
+/// that of the clerk, under their numbers.
 #[derive(Clone, Copy, Debug, PartialEq, Eq, Hash)]
 #[repr(u32)]
 pub enum Reason {
@@ -41,6 +41,8 @@ pub enum Reason {
     /// 16: no such month number in that year: 1 to 10 in civil year 0, or 11 or 12 in civil year 41,040, leap or not. It comes
     /// after 3 and before 4.
     NoSuchNumber = 16,
+    /// 18: text too long, above 65,536 bytes.
+    TextTooLong = 18,
     /// 19: planet outside 1 to 5.
     Planet = 19,
     /// 20: no conjunction falls from the given day to the end of the range.
@@ -49,8 +51,8 @@ pub enum Reason {
     Bu = 21,
 }
 
-/// The reasons in the order of their numbers; 17 and 18 belong to requests that are not built.
-pub const REASONS: [Reason; 19] = [
+/// The reasons in the order of their numbers; 17 belongs to a request that is not built.
+pub const REASONS: [Reason; 20] = [
     Reason::Year,
     Reason::MonthNumber,
     Reason::DayOfMonth,
@@ -67,13 +69,14 @@ pub const REASONS: [Reason; 19] = [
     Reason::Field,
     Reason::TermOrQuarter,
     Reason::NoSuchNumber,
+    Reason::TextTooLong,
     Reason::Planet,
     Reason::NoConjunctionLeft,
     Reason::Bu,
 ];
 
 impl Reason {
-    /// The paper's number, 1 to 16, or 19 to 21.
+    /// The paper's number, 1 to 16, or 18 to 21.
     pub fn number(self) -> u32 {
         self as u32
     }
@@ -507,4 +510,36 @@ pub struct SheetCounts {
     pub months: usize,
     /// Days.
     pub days: usize,
+}
+
+/// The verdict on a line of a concordance.
+#[derive(Clone, Copy, Debug, PartialEq, Eq, Hash)]
+pub enum Verdict {
+    /// The line is what is printed for its month count.
+    Right,
+    /// The first wrong field: 1 month count, 2 number, 3 leap mark, 4 first day's name, 5 length, 6 eclipse mark.
+    Wrong(u8),
+    /// The line is not six fields parted by single spaces.
+    Unreadable,
+}
+
+impl Verdict {
+    /// Its number: 0, 1 to 6, or 7.
+    pub fn number(self) -> u8 {
+        match self {
+            Verdict::Right => 0,
+            Verdict::Wrong(field) => field,
+            Verdict::Unreadable => 7,
+        }
+    }
+
+    /// The verdict of a number, where there is one.
+    pub fn from_number(number: u8) -> Option<Verdict> {
+        match number {
+            0 => Some(Verdict::Right),
+            1..=6 => Some(Verdict::Wrong(number)),
+            7 => Some(Verdict::Unreadable),
+            _ => None,
+        }
+    }
 }

@@ -906,6 +906,83 @@ macro_rules! paper_of {
                 let length = calls::print_day(LAST_DAY, &mut out).unwrap();
                 assert_eq!(&out[..length], b"DAY 14989859 41040 10 L 30 60\n");
             }
+
+            /// Judges a text into a list of nines with room for it; its verdicts.
+            fn judged(text: &[u8]) -> Vec<u8> {
+                let mut out = [9; 30];
+                let lines = calls::judge_text(text, &mut out).unwrap();
+                assert!(out[lines..].iter().all(|&place| place == 9));
+                out[..lines].to_vec()
+            }
+
+            /// W5: the lines that the paper prints for year 11 are right; month 129 is the second of two big months.
+            #[test]
+            fn a_printed_year_is_right() {
+                let months = super::YEAR_11.split_once('\n').unwrap().1;
+                assert_eq!(judged(months.as_bytes()), [0; 13]);
+                assert_eq!(judged(b"129 5 - 30 30 E"), [0]);
+            }
+
+            /// W5: the first wrong field, from the paper's line of month 129.
+            #[test]
+            fn the_first_wrong_field() {
+                for (line, field) in [
+                    ("507600 5 - 30 30 E", 1),
+                    ("999999999 5 - 30 30 E", 1),
+                    ("129 6 - 30 30 E", 2),
+                    ("129 0 - 30 30 E", 2),
+                    ("129 5 L 30 30 E", 3),
+                    ("129 5 - 31 30 E", 4),
+                    ("129 5 - 30 29 E", 5),
+                    ("129 5 - 30 30 -", 6),
+                    ("129 5 - 31 30 -", 4),
+                    ("129 6 L 31 29 -", 2),
+                ] {
+                    assert_eq!(judged(line.as_bytes()), [field], "{line}");
+                }
+            }
+
+            /// W5: "six fields parted by single spaces, nothing before or after".
+            #[test]
+            fn unreadable_lines() {
+                for line in [
+                    "0129 5 - 30 30 E",
+                    "129 05 - 30 30 E",
+                    "1000000000 5 - 30 30 E",
+                    "129 5 - 30 30",
+                    "129 5 - 30 30 E E",
+                    " 129 5 - 30 30 E",
+                    "129 5 - 30 30 E ",
+                    "129  5 - 30 30 E",
+                    "129 5 - 30 30 E\r",
+                    "129\t5 - 30 30 E",
+                    "MONTH 129 5 - 30 30 E",
+                    "129 5 l 30 30 E",
+                    "129 5 E 30 30 E",
+                    "129 5 - 30 30 L",
+                    "129 5 - +30 30 E",
+                    "129 5 - 30 30 \u{c9}",
+                ] {
+                    assert_eq!(judged(line.as_bytes()), [7], "{line}");
+                }
+            }
+
+            /// W5: which lines a text has; 18, then 12, and nothing changed.
+            #[test]
+            fn lines_of_a_text() {
+                assert_eq!(judged(b""), []);
+                assert_eq!(judged(b"\n"), [7]);
+                assert_eq!(judged(b"129 5 - 30 30 E\n"), [0]);
+                assert_eq!(judged(b"\n129 5 - 30 30 E\n\n1"), [7, 0, 7, 7]);
+                let mut out = [9; 2];
+                let long = calls::judge_text(&[b'\n'; 65_537], &mut out);
+                assert_eq!((long, out), (Err(Reason::TextTooLong), [9; 2]));
+                let short = calls::judge_text(b"\n\n\n", &mut out);
+                assert_eq!((short, out), (Err(Reason::LentTooShort), [9; 2]));
+                let mut all = vec![9; 65_536];
+                assert_eq!(calls::judge_text(&[b'\n'; 65_536], &mut all), Ok(65_536));
+                assert_eq!(all, [7; 65_536]);
+            }
         }
     };
 }

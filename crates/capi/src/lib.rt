@@ -28,6 +28,7 @@ ghost use Rattle.offered.specs.Promises.{
   CWriteSheet,
   CPrintYear,
   CPrintMonthLine,
+  CJudgeText,
   CPrintMonth,
   CPrintDay,
 };
@@ -322,4 +323,12 @@ pub extern "C" fn oes_print_day(day: u64, out: &mut [u8]) -> CLength
     ensures { λ r. ⌜ CPrintDay day (now (out .entry)) r (now (out .exit)) ⌝ }
 {
     flat::flat_length(lines::print_day(capped::cap(day), out))
+}
+
+// The verdicts on a text's lines.
+#[no_mangle]
+pub extern "C" fn oes_judge_text(text: &[u8], out: &mut [u8]) -> CLength
+    ensures { λ r. ⌜ CJudgeText (now (text .entry)) (now (out .entry)) r (now (out .exit)) ⌝ }
+{
+    flat::flat_length(concordance::judge_text(text, out))
 }

@@ -59,7 +59,7 @@ pub fn put_next(n: u32, out: &mut [u8], at: usize) -> usize
 }
 
 // A letter where the mark is there, `-` where it is absent.
-fn mark_of(there: bool, letter: u8) -> u8
+pub fn mark_of(there: bool, letter: u8) -> u8
     ensures { λ r. ⌜ r ≡ mark there letter ⌝ }
 {
     if there { letter } else { 45 }

@@ -32,7 +32,7 @@ module _ (b : ℕ) (s : List ℕ) where
   unfolding fieldsIn
   fields-more e f fs h = rw (e, h) refl
 
-first-few : (s : List ℕ) → ends s ≤ length s
+pub first-few : (s : List ℕ) → ends s ≤ length s
 unfolding firstField
 first-few [] = omega arith
 first-few (b ∷ s) = go (first-few s) (eqb b 32) refl
@@ -50,7 +50,7 @@ first-field (b ∷ s) = go (first-field s) (eqb b 32) refl
     go h true e = rw (first-over b s e) refl
     go h false e = rw (first-more b s e) (ap (λ (l : List ℕ). b ∷ l) h)
 
-fields-last : (s : List ℕ) → ends s ≡ length s → fieldsIn s ≡ firstField s ∷ []
+pub fields-last : (s : List ℕ) → ends s ≡ length s → fieldsIn s ≡ firstField s ∷ []
 unfolding fieldsIn firstField
 fields-last [] h = refl
 fields-last (b ∷ s) h = go (fields-last s) (eqb b 32) refl
@@ -61,7 +61,7 @@ fields-last (b ∷ s) h = go (fields-last s) (eqb b 32) refl
         fields-more b s e (firstField s) [] (ih (omega (arith, h, ap length (first-more b s e))))
         ∙ ap (λ (l : List ℕ). l ∷ []) (sym (first-more b s e))
 
-fields-next : (s : List ℕ) → ends s < length s → fieldsIn s ≡ firstField s ∷ fieldsIn (drop (suc (ends s)) s)
+pub fields-next : (s : List ℕ) → ends s < length s → fieldsIn s ≡ firstField s ∷ fieldsIn (drop (suc (ends s)) s)
 fields-next [] h = absurd (omega arith)
 fields-next (b ∷ s) h = go (fields-next s) (eqb b 32) refl
   where

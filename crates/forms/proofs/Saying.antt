@@ -49,7 +49,7 @@ first-digit b [] l h r e = go (decLe b 48)
     go (no i) = not-nought {d = b} (omega (arith, i)) h r
 first-digit b (c ∷ t) l h r e = not-nought {d = b} (omega (arith, l, eqb-false b 48 (not-true (eqb b 48) e))) h r
 
-is-decimal : (t : List ℕ) → isDecimal t ≡ true → IsDecimal t
+pub is-decimal : (t : List ℕ) → isDecimal t ≡ true → IsDecimal t
 unfolding isDecimal
 is-decimal [] e = absurd (let o : _≡_ {A = ℕ} 0 1 = cc in omega arith)
 is-decimal (b ∷ t) e = go (both (leads (b ∷ t)) (allDigits (b ∷ t)) e .0) (are-digits (b ∷ t) (both (leads (b ∷ t)) (allDigits (b ∷ t)) e .1))
@@ -61,7 +61,7 @@ leads-well : (d : ℕ) (t : List ℕ) → 49 ≤ d → leads (d ∷ t) ≡ true
 leads-well d [] l = refl
 leads-well d (c ∷ t) l = rw (ne-eqb d 48 (λ e. omega (arith, e, l))) refl
 
-decimal-is : {t : List ℕ} → IsDecimal t → isDecimal t ≡ true
+pub decimal-is : {t : List ℕ} → IsDecimal t → isDecimal t ≡ true
 unfolding isDecimal allDigits
 decimal-is nought = refl
 decimal-is (not-nought {d} {ds} l h r) = rw (leads-well d ds l, in-digits d (omega (arith, l)) h) (digits-all r)
@@ -80,7 +80,7 @@ or-false : (a : Bool) → (a || false) ≡ true → a ≡ true
 or-false true h = refl
 or-false false h = h
 
-either : {P : Type 0} (a b : Bool) → (a ≡ true → P) → (b ≡ true → P) → (a || b) ≡ true → P
+pub either : {P : Type 0} (a b : Bool) → (a ≡ true → P) → (b ≡ true → P) → (a || b) ≡ true → P
 either true b h i e = h refl
 either false b h i e = i e
 

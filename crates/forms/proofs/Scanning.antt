@@ -16,7 +16,7 @@ use Rattle.capped.specs.Capped.{capped}
 use Rattle.forms.specs.Forms.{firstField, same, allDigits, leads, isDecimal, isBack, letter}
 
 -- what is left of a list, from its next byte on
-rest : (s : List ℕ) (i : ℕ) → i < length s → drop i s ≡ getD s i 0 ∷ drop (i + 1) s
+pub rest : (s : List ℕ) (i : ℕ) → i < length s → drop i s ≡ getD s i 0 ∷ drop (i + 1) s
 rest s i h = drop-cons s i 0 h ∙ ap (λ (j : ℕ). getD s i 0 ∷ drop j s) (sym (add-one i))
 
 -- a field up to the end

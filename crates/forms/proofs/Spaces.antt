@@ -75,7 +75,7 @@ digits-no-space : {t : List ℕ} → AreDigits t → NoSpace t
 digits-no-space none = no-byte
 digits-no-space (one-more {d} l h r) = byte-more {b = d} (λ e. omega (arith, e, l)) (digits-no-space r)
 
-decimal-no-space : (k : ℕ) → NoSpace (decimal k)
+pub decimal-no-space : (k : ℕ) → NoSpace (decimal k)
 decimal-no-space k = go (decimal-reads-back k .0)
   where
     go : {t : List ℕ} → IsDecimal t → NoSpace t
@@ -104,7 +104,7 @@ words (s z ∷ ts) = words ts
 words (f x ∷ ts) = words ts
 words (g x ∷ ts) = words ts
 
-sign : (b : ℕ) → (b ≡ 32 → ⊥) → NoSpace (b ∷ [])
+pub sign : (b : ℕ) → (b ≡ 32 → ⊥) → NoSpace (b ∷ [])
 sign b h = byte-more {b = b} h no-byte
 
 text-no-space : (t : Text) (ts : List Text) → words (t ∷ ts) ≡ true → NoSpace (textOf t)

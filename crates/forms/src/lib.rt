@@ -87,7 +87,7 @@ fn same(p: &[u8], s: &[u8]) -> bool
 }
 
 // Whether a byte is a digit.
-fn is_digit(b: u8) -> bool
+pub fn is_digit(b: u8) -> bool
     ensures { λ r. ⌜ r ≡ within 48 57 b ⌝ }
 {
     (48 <= b) & (b <= 57)
@@ -108,7 +108,7 @@ fn all_digits(s: &[u8]) -> bool
 }
 
 // Whether a number of so many digits may start so: 0 stands alone.
-fn leads_well(s: &[u8]) -> bool
+pub fn leads_well(s: &[u8]) -> bool
     ensures { λ r. ⌜ r ≡ leads (now (s .entry)) ⌝ }
 {
     if s.len() < 2 {

@@ -4,9 +4,10 @@ use native.Mathlib.Omega.{arith}
 use mathlib.Core.Path.{_≡_, refl, ap, sym, _∙_, subst}
 use mathlib.Core.Logic.{_↔_, _≢_}
 use mathlib.Core.Bool.{Bool, true, false, _&&_}
-use mathlib.Core.List.{List}
+use mathlib.Core.List.{List, [], _∷_}
 use lib.Dec.{leb}
 use lib.ListN.{length, getD, replicate}
+use Rattle.rule.specs.Lists.{placed}
 use Rattle.rule.specs.Reasons.{Answer, is, refused, refused-with, guard, andThen, reasonNumber, guard-with, afterwards}
 use Rattle.rule.specs.declared.Reason.{Reason}
 use Rattle.rule.specs.declared.Reason.the-variants.{NoSuchDay, BadWindow, FieldOutOfRange}
@@ -142,6 +143,7 @@ use Rattle.offered.proofs.Drawers.{reason-of, place-of, drawer-bare, dr
 use Rattle.offered.proofs.Clerks.{at-walk, step-more, shows-month, counts-month, clerks-computed}
 use Rattle.offered.proofs.Emended.{outcome-zero, emend-bare, emend-zero, emend-said, emendations-computed}
 use Rattle.offered.proofs.Texts.{text-said, unwritten, year-11, line-134, month-134, day-0}
+use Rattle.concordance.proofs.Cases as Verdicts
 use Rattle.dates.specs.Paper.{AgreesWith}
 use Rattle.dates.proofs.Computing.{dates-computed}
 use Rattle.dates.proofs.Laws.{found-date}
@@ -185,6 +187,7 @@ unique-exported =
       print-month-line = λ x o a b o₁ o₂ p q. one-printed p q;
       print-month = λ x o a b o₁ o₂ p q. one-printed p q;
       print-day = λ x o a b o₁ o₂ p q. one-printed p q;
+      judge-text = λ s o a b o₁ o₂ p q. one-printed p q;
     }
 
 -- an answer laid flat, whatever its struct: a refusal is bare, and reason 0 is an answer
@@ -386,6 +389,7 @@ refusal-is-bare =
       print-month-line = λ x o r o′ p h. printed-bare p h;
       print-month = λ x o r o′ p h. printed-bare p h;
       print-day = λ x o r o′ p h. printed-bare p h;
+      judge-text = λ s o r o′ p h. printed-bare p h;
     }
 
 pub reason-0-iff-answered : Paper.Reason-0-iff-answered
@@ -434,6 +438,7 @@ reason-0-iff-answered =
       print-month-line = λ x o r o′ p. printed-zero (Sound.line-printed-sound x (length o)) p;
       print-month = λ x o r o′ p. printed-zero (Sound.month-printed-sound x (length o)) p;
       print-day = λ x o r o′ p. printed-zero (Sound.day-printed-sound x (length o)) p;
+      judge-text = λ s o r o′ p. printed-zero (Sound.verdicts-sound s (length o)) p;
     }
 
 pub says-what-the-call-says : Paper.Says-what-the-call-says
@@ -483,6 +488,7 @@ says-what-the-call-says =
       print-month-line = λ x o r o′. printed-said (Sound.line-printed-sound x (length o));
       print-month = λ x o r o′. printed-said (Sound.month-printed-sound x (length o));
       print-day = λ x o r o′. printed-said (Sound.day-printed-sound x (length o));
+      judge-text = λ s o r o′. printed-said (Sound.verdicts-sound s (length o));
     }
   where
     date-said :
@@ -652,6 +658,30 @@ wrong-exported =
   where
     differ-in-fits : true ≡ false → ⊥
     differ-in-fits e = let o : _≡_ {A = ℕ} 0 1 = cc in omega arith
+
+-- a text's verdicts at a named text: what is said, and what the list holds
+module _ {a : Answer (List ℕ)} {xs o o′ : List ℕ} {r : CLength} (e : a ≡ is xs) (p : CPrinted a o r o′) where
+  verdicts-said : r ≡ givenLength (length xs)
+  verdicts-said = p .answer ∙ ap (λ (b : Answer (List ℕ)). flatLength (lengthOf b)) e
+
+  verdicts-put : o′ ≡ placed xs o
+  verdicts-put = p .buffer ∙ ap (λ (b : Answer (List ℕ)). afterwards b (λ c. c) o) e
+
+first-verdict : {a : Answer (List ℕ)} {x v : ℕ} {o o′ : List ℕ} {r : CLength} → a ≡ is (x ∷ []) → CPrinted a o r (v ∷ o′) → v ≢ x → ⊥
+first-verdict e p other = other (ap (λ (l : List ℕ). getD l 0 0) (verdicts-put e p))
+
+pub wrong-exported-verdicts : Paper.Wrong-exported-verdicts
+wrong-exported-verdicts =
+    record {
+      refusing-texts = λ r o p. no-refusal (λ (x : CLength). x .reason) (verdicts-said Verdicts.big-pair p) refl;
+      second-big-struck-out = λ r v p. first-verdict Verdicts.big-pair p;
+      unwritten-verdicts = λ r p. unlike 0 (verdicts-put Verdicts.big-pair p) (λ e. let f : _≡_ {A = ℕ} 9 0 = e in omega arith);
+      all-right = λ r p. first-verdict Verdicts.short-month p (λ e. omega (arith, e));
+      first-line-alone = λ r o p other. other (ap (λ (x : CLength). x .length) (verdicts-said Verdicts.two-lines p));
+      leading-zero = λ r v p. first-verdict Verdicts.leading-zero p;
+      carriage-return = λ r v p. first-verdict Verdicts.carriage-return p;
+      out-of-range = λ r v p. first-verdict Verdicts.out-of-range p;
+    }
 
 pub wrong-low-bits : Paper.Wrong-low-bits
 unfolding dates facts-computed clerks-computed planets-computed searches-computed emendations-computed yearBlockAt monthLineAt monthItemAt dayItemAt

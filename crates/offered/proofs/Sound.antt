@@ -26,6 +26,7 @@ use Rattle.rule.specs.declared.Reason.the-variants.{
   LentTooShort,
   NoSuchTermOrQuarter,
   NoSuchNumberInYear,
+  TextTooLong,
   NoSuchPlanet,
   NoConjunctionLeft,
   NoSuchBu,
@@ -78,6 +79,8 @@ use Rattle.sheet.specs.Sheet.{
 }
 use Rattle.penned.specs.Lines.{yearBlock, monthLined, monthItem, dayItem}
 use Rattle.penned.specs.Promises.{yearBlockAt, monthLineAt, monthItemAt, dayItemAt}
+use Rattle.concordance.specs.Verdicts.{verdictsOf}
+use Rattle.concordance.specs.Promises.{verdictsInto}
 
 -- what is given, or a refusal for a reason
 pub data Sound {A : Type 0} : Answer A → Type 0 where
@@ -274,3 +277,7 @@ month-printed-sound m n = guarded (leb m 507599) NoSuchMonth (in-room n (monthIt
 pub day-printed-sound : (d n : ℕ) → Sound (dayItemAt d n)
 unfolding dayItemAt
 day-printed-sound d n = guarded (leb d 14989859) NoSuchDay (in-room n (dayItem d))
+
+pub verdicts-sound : (s : List ℕ) (n : ℕ) → Sound (verdictsInto s n)
+unfolding verdictsInto
+verdicts-sound s n = guarded (leb (length s) 65536) TextTooLong (in-room n (verdictsOf s))

@@ -4,7 +4,7 @@ use Prim.Native.Nat.{ℕ, _+_, _-_, _*_, _≤_, _<_}
 use mathlib.Core.Path.{_≡_}
 use mathlib.Core.Logic.{_↔_, _≢_}
 use mathlib.Core.Bool.{Bool, true, false}
-use mathlib.Core.List.{List, [], _∷_}
+use mathlib.Core.List.{List, [], _∷_, _++_}
 use lib.IntN.{ℤ, pos}
 use lib.ListN.{length, getD, replicate}
 use Rattle.rule.specs.Rule.{InMonth}
@@ -78,6 +78,9 @@ use Rattle.sheet.specs.declared.HowMany.the-variants as HowMany'
 use Rattle.sheet.specs.Promises.{saidCounts, saidHowMany, ReadSheet, WriteSheet}
 use Rattle.sheet.specs.Sheet.{emptySheet, sheetOf11, sheetOfTwos}
 use Rattle.penned.specs.Promises.{PrintYear, PrintMonthLine, PrintMonth, PrintDay}
+use Rattle.fields.specs.Fields.{word}
+use Rattle.concordance.specs.Promises.{JudgeText}
+use Rattle.concordance.specs.Paper.{nines}
 use Rattle.offered.specs.declared.CDate.{CDate}
 use Rattle.offered.specs.declared.CDay.{CDay}
 use Rattle.offered.specs.declared.CSolstice.{CSolstice}
@@ -168,6 +171,7 @@ use Rattle.offered.specs.Promises.{
   CWriteSheet,
   CPrintYear,
   CPrintMonthLine,
+  CJudgeText,
   CPrintMonth,
   CPrintDay,
 }
@@ -211,6 +215,7 @@ pub record Unique-exported : Type 0 where
   pub print-month-line : OnePrinted CPrintMonthLine
   pub print-month : OnePrinted CPrintMonth
   pub print-day : OnePrinted CPrintDay
+  pub judge-text : (s o : List ℕ) (a b : CLength) (o₁ o₂ : List ℕ) → CJudgeText s o a o₁ → CJudgeText s o b o₂ → (a ≡ b) × (o₁ ≡ o₂)
 
 -- a refusal says nothing but its reason, and has changed nothing that was lent
 abbrev pub RefusedPrint : (ℕ → List ℕ → CLength → List ℕ → Type 0) → Type 0
@@ -249,6 +254,7 @@ pub record Refusal-is-bare : Type 0 where
   pub print-month-line : RefusedPrint CPrintMonthLine
   pub print-month : RefusedPrint CPrintMonth
   pub print-day : RefusedPrint CPrintDay
+  pub judge-text : (s o : List ℕ) (r : CLength) (o′ : List ℕ) → CJudgeText s o r o′ → r .reason ≢ 0 → BareLength r × (o′ ≡ o)
 
 -- what a call for C says is what the call says, laid flat, and lent memory is as the call leaves it
 abbrev pub PrintSaid : (ℕ → List ℕ → CLength → List ℕ → Type 0) → (ℕ → List ℕ → HowMany → List ℕ → Type 0) → Type 0
@@ -309,6 +315,9 @@ pub record Says-what-the-call-says : Type 0 where
   pub print-month-line : PrintSaid CPrintMonthLine PrintMonthLine
   pub print-month : PrintSaid CPrintMonth PrintMonth
   pub print-day : PrintSaid CPrintDay PrintDay
+  pub judge-text :
+      (s o : List ℕ) (r : CLength) (o′ : List ℕ) →
+      CJudgeText s o r o′ ↔ ((a : HowMany) × JudgeText s o a o′ × (r ≡ flatLength (saidHowMany a)))
 
 -- W2: where a term is answered, day and parts are the one pair
 abbrev pub C-term : Type 0
@@ -411,6 +420,9 @@ pub record Reason-0-iff-answered : Type 0 where
   pub print-month-line : ZeroPrint CPrintMonthLine PrintMonthLine
   pub print-month : ZeroPrint CPrintMonth PrintMonth
   pub print-day : ZeroPrint CPrintDay PrintDay
+  pub judge-text :
+      (s o : List ℕ) (r : CLength) (o′ : List ℕ) →
+      CJudgeText s o r o′ → (r .reason ≡ 0) ↔ ((n : ℕ) × JudgeText s o (HowMany'.Is n) o′ × (r ≡ givenLength n))
 
 -- W3: what a walk leads to shows what the call for a month by its count gives; a step of it is the walk of one step more
 pub record C-clerk : Type 0 where
@@ -551,6 +563,18 @@ pub record Wrong-exported : Type 0 where
   pub unwritten-month-lines : Unwritten CPrintMonthLine 134 16
   pub unwritten-month-items : Unwritten CPrintMonth 134 22
   pub unwritten-day-items : Unwritten CPrintDay 0 17
+
+-- of a concordance: one that refuses all, or the second of two big months; that writes nothing; that finds all right; that judges the first line
+-- alone; that lets a leading zero, a carriage return or a count out of range pass
+pub record Wrong-exported-verdicts : Type 0 where
+  pub refusing-texts : (r : CLength) (o : List ℕ) → CJudgeText (word "129 5 - 30 30 E") nines r o → r .reason ≢ 0 → ⊥
+  pub second-big-struck-out : (r : CLength) (v : ℕ) → CJudgeText (word "129 5 - 30 30 E") nines r (v ∷ 9 ∷ 9 ∷ []) → v ≢ 0 → ⊥
+  pub unwritten-verdicts : (r : CLength) → CJudgeText (word "129 5 - 30 30 E") nines r nines → ⊥
+  pub all-right : (r : CLength) → CJudgeText (word "129 5 - 30 29 E") nines r (0 ∷ 9 ∷ 9 ∷ []) → ⊥
+  pub first-line-alone : (r : CLength) (o : List ℕ) → CJudgeText (word "129 5 - 30 30 E" ++ (10 ∷ word "1")) nines r o → r .length ≢ 2 → ⊥
+  pub leading-zero : (r : CLength) (v : ℕ) → CJudgeText (word "0129 5 - 30 30 E") nines r (v ∷ 9 ∷ 9 ∷ []) → v ≢ 7 → ⊥
+  pub carriage-return : (r : CLength) (v : ℕ) → CJudgeText (word "129 5 - 30 30 E" ++ (13 ∷ [])) nines r (v ∷ 9 ∷ 9 ∷ []) → v ≢ 7 → ⊥
+  pub out-of-range : (r : CLength) (v : ℕ) → CJudgeText (word "507600 5 - 30 30 E") nines r (v ∷ 9 ∷ 9 ∷ []) → v ≢ 1 → ⊥
 
 -- a number taken by its low bits: n + w answered as n
 abbrev pub LowBits : {R : Type 0} → ℕ → (ℕ → R → Type 0) → ℕ → Type 0

@@ -23,6 +23,7 @@ use Rattle.drawer.specs.Drawer.{drawerAt}
 use Rattle.sheet.specs.Sheet.{readInto, writeInto}
 use Rattle.sheet.specs.Promises.{counted}
 use Rattle.penned.specs.Promises.{yearBlockAt, monthLineAt, monthItemAt, dayItemAt}
+use Rattle.concordance.specs.Promises.{verdictsInto}
 use Rattle.offered.specs.declared.CDate.{CDate}
 use Rattle.offered.specs.declared.CDay.{CDay}
 use Rattle.offered.specs.declared.CSolstice.{CSolstice}
@@ -180,3 +181,7 @@ CPrintMonth n o = CPrinted (monthItemAt n (length o)) o
 
 abbrev pub CPrintDay : ℕ → List ℕ → CLength → List ℕ → Type 0
 CPrintDay d o = CPrinted (dayItemAt d (length o)) o
+
+-- the verdicts on a text's lines, one byte a line
+abbrev pub CJudgeText : List ℕ → List ℕ → CLength → List ℕ → Type 0
+CJudgeText s o = CPrinted (verdictsInto s (length o)) o

@@ -11,7 +11,7 @@ use Rattle.dates.proofs.Computing.{dates-computed}
 use Rattle.facts.proofs.Computing.{facts-computed}
 
 -- what lines are computed with: on an `unfolding` line such a name brings all that its own line names
-month-lines : ℕ
+unfoldable pub month-lines : ℕ
 unfolding inLines digits decimal followed facts-computed
 month-lines = 0
 

@@ -64,7 +64,7 @@ pub month-line-literally : Paper.Month-line-literally
 unfolding monthLine monthFacts followed
 month-line-literally n = rw (number-at n, mark-at n) refl
 
-with-newline : (n : ℕ) → monthLined n ≡ monthLine n ++ (10 ∷ [])
+pub with-newline : (n : ℕ) → monthLined n ≡ monthLine n ++ (10 ∷ [])
 unfolding monthLined monthLine
 with-newline n = refl
 
@@ -96,13 +96,13 @@ module _ (t : Bool) (k : ℕ) (text o : List ℕ) where
   abbrev inRoom : Answer (List ℕ)
   inRoom = guard t k (intoRoom (length o) text)
 
-  text-given : {n : ℕ} {o′ : List ℕ} → Printed inRoom o (HowMany'.Is n) o′ → inRoom ≡ is text
+  pub text-given : {n : ℕ} {o′ : List ℕ} → Printed inRoom o (HowMany'.Is n) o′ → inRoom ≡ is text
   text-given {n} p =
       let w = made-of inRoom length n (p .answer) in
       let r = holds-all t k (intoRoom (length o) text) (w .0) .0 (w .1) in
       w .1 ∙ sym (holds-all (leb (length text) (length o)) 12 (is text) (w .0) .0 (r .1) .1)
 
-  text-in-front : (o′ : List ℕ) (n : ℕ) → Printed inRoom o (HowMany'.Is n) o′ → RestKept n o o′
+  pub text-in-front : (o′ : List ℕ) (n : ℕ) → Printed inRoom o (HowMany'.Is n) o′ → RestKept n o o′
   text-in-front o′ n p =
       let g = text-given p in
       let r = holds-all t k (intoRoom (length o) text) text .0 g in
@@ -126,6 +126,25 @@ rest-untouched =
       day = λ d o. text-in-front (leb d _) 6 (dayItem d) o;
     }
 
+-- each reason if and only if, of any call that refuses for one reason and then for want of room
+refusal : (a : Answer (List ℕ)) (o : List ℕ) (why : Reason) → Printed a o (HowMany'.Refused why) o ↔ (a ≡ refused (reasonNumber why))
+refusal a o why = (λ p. refused-of a length (reasonNumber why) (p .answer), printed-refused o why)
+
+pub of-text : {There : Type 0} (t : Bool) (why : Reason) → (reasonNumber why ≡ 12 → ⊥) → (text o : List ℕ) → ((t ≡ true) ↔ There) →
+    Paper.PrintReasons There why text o (Printed (guard t (reasonNumber why) (intoRoom (length o) text)) o)
+of-text t why l text o e =
+    let k : ℕ = reasonNumber why in
+    let s : Bool = leb (length text) (length o) in
+    let f = at-most (length text) (length o) in
+    record {
+      absent = Iff·trans (refusal (guard t k (intoRoom (length o) text)) o why) (two-first t s k 12 l text e f);
+      short = Iff·trans (refusal (guard t k (intoRoom (length o) text)) o LentTooShort) (two-second t s k 12 l text e f);
+      only = λ other o′ p.
+          let r = refused-of _ length (reasonNumber other) (p .answer) in
+          ⊎-elim (λ e. inl (e ∙ reason-back why)) inr (two-only other t s k 12 text (sym r));
+      given = Iff·trans (text-given t k text o, λ h. record { answer = rw (h); buffer = rw (h) }) (two-given t s k 12 l text e f);
+    }
+
 pub reasons-of-printing : Paper.Reasons-of-printing
 unfolding yearBlockAt monthLineAt monthItemAt dayItemAt
 reasons-of-printing =
@@ -140,26 +159,8 @@ reasons-of-printing =
     to : (x : ℕ) {k n : ℕ} → k ≡ n → (leb x k ≡ true) ↔ (x ≤ n)
     to x {k} e = subst (λ (n : ℕ). (leb x k ≡ true) ↔ (x ≤ n)) e (at-most x k)
 
-    refusal : (a : Answer (List ℕ)) (o : List ℕ) (why : Reason) → Printed a o (HowMany'.Refused why) o ↔ (a ≡ refused (reasonNumber why))
-    refusal a o why = (λ p. refused-of a length (reasonNumber why) (p .answer), printed-refused o why)
-
-    of-text : {There : Type 0} (t : Bool) (why : Reason) → (reasonNumber why ≡ 12 → ⊥) → (text o : List ℕ) → ((t ≡ true) ↔ There) →
-        Paper.PrintReasons There why text o (Printed (guard t (reasonNumber why) (intoRoom (length o) text)) o)
-    of-text t why l text o e =
-        let k : ℕ = reasonNumber why in
-        let s : Bool = leb (length text) (length o) in
-        let f = at-most (length text) (length o) in
-        record {
-          absent = Iff·trans (refusal (guard t k (intoRoom (length o) text)) o why) (two-first t s k 12 l text e f);
-          short = Iff·trans (refusal (guard t k (intoRoom (length o) text)) o LentTooShort) (two-second t s k 12 l text e f);
-          only = λ other o′ p.
-              let r = refused-of _ length (reasonNumber other) (p .answer) in
-              ⊎-elim (λ e. inl (e ∙ reason-back why)) inr (two-only other t s k 12 text (sym r));
-          given = Iff·trans (text-given t k text o, λ h. record { answer = rw (h); buffer = rw (h) }) (two-given t s k 12 l text e f);
-        }
-
 -- whatever the answer is that was to be printed
-printed-kept : (a : Answer (List ℕ)) (o o′ : List ℕ) (why : Reason) → Printed a o (HowMany'.Refused why) o′ → o′ ≡ o
+pub printed-kept : (a : Answer (List ℕ)) (o o′ : List ℕ) (why : Reason) → Printed a o (HowMany'.Refused why) o′ → o′ ≡ o
 printed-kept a o o′ why p =
     p .buffer ∙ ap (λ (c : Answer (List ℕ)). afterwards c (λ b. b) o) (refused-of a length (reasonNumber why) (p .answer))
 
@@ -172,7 +173,7 @@ refusal-changes-nothing =
       day = λ d o. printed-kept (dayItemAt d (length o)) o;
     }
 
-printed-once :
+pub printed-once :
     (x : Answer (List ℕ)) (o : List ℕ) (a b : HowMany) (o₁ o₂ : List ℕ) →
     Printed x o a o₁ → Printed x o b o₂ → (a ≡ b) × (o₁ ≡ o₂)
 printed-once x o a b o₁ o₂ p q = (how-many-once a b (p .answer ∙ sym (q .answer)), p .buffer ∙ sym (q .buffer))
@@ -187,10 +188,10 @@ unique-printing =
     }
 
 -- what is given at a named input: a refusal is shut out, and so is a buffer that differs from it at a place
-not-refused : {a : Answer (List ℕ)} {text o o′ : List ℕ} {why : Reason} → a ≡ is text → Printed a o (HowMany'.Refused why) o′ → ⊥
+pub not-refused : {a : Answer (List ℕ)} {text o o′ : List ℕ} {why : Reason} → a ≡ is text → Printed a o (HowMany'.Refused why) o′ → ⊥
 not-refused {a} {text} {why = why} e p = given-not a text (reasonNumber why) e (refused-of a length (reasonNumber why) (p .answer))
 
-not-so : {a : Answer (List ℕ)} {text o o′ : List ℕ} {r : HowMany} (i x z : ℕ) → a ≡ is text → Printed a o r o′ →
+pub not-so : {a : Answer (List ℕ)} {text o o′ : List ℕ} {r : HowMany} (i x z : ℕ) → a ≡ is text → Printed a o r o′ →
     getD o′ i 0 ≡ x → getD (placed text o) i 0 ≡ z → x < z → ⊥
 not-so {o = o} i x z e p f g l = unlike i x z (p .buffer ∙ ap (λ (c : Answer (List ℕ)). afterwards c (λ s. s) o) e) f g l
 

@@ -4,7 +4,7 @@
 
 use oesterwrok::{
     self as capi, independent as own, Asked, Clerk, Date, DateRecord, DrawerRefused, EmendRefused,
-    Emended, MonthFacts, Reading, LEAP, ORDINARY,
+    Emended, MonthFacts, Reading, Reason, LEAP, ORDINARY,
 };
 use std::hint::black_box;
 use std::process::ExitCode;
@@ -30,6 +30,10 @@ const WINDOW: u64 = 27_759;
 /// How many searches or emendings, and how many sheets, are timed as one run: short, so that some runs are disturbed by nothing.
 const SEARCHES: u64 = 20;
 const SHEETS: u64 = 100;
+const TEXTS: u64 = 20;
+
+/// The most bytes of a concordance.
+const TEXT: usize = 65_536;
 
 /// The items of a full section of a sheet.
 const ITEMS: usize = 1_000;
@@ -41,6 +45,7 @@ const SEARCH_BY_DAYS: f64 = 0.03;
 const SEARCH_BY_MONTHS: f64 = 1.0;
 const EMEND_BY_DAYS: f64 = 0.1;
 const EMEND_BY_MONTHS: f64 = 1.2;
+const CONCORDANCE: f64 = 1.5;
 
 /// And what the yearbook's figures of the slowest range may take, in times of the fastest.
 const FIGURES_APART: f64 = 3.0;
@@ -62,6 +67,7 @@ fn main() -> ExitCode {
     bench.emendings();
     bench.figures();
     bench.sheets();
+    bench.concordances();
     for (what, ratio, most) in &bench.bars {
         let met = if ratio <= most { "met" } else { "NOT MET" };
         println!("The bar of {what}: {ratio:.3}, at most {most}: {met}");
@@ -365,6 +371,59 @@ impl Bench {
             || repeat(SHEETS, || read(own::read_sheet, &sheet, &mut own_lent)),
         );
     }
+
+    /// The verdicts on texts of the most bytes: all lines right; one of three damaged; no line in it.
+    fn concordances(&mut self) {
+        let right = concordance(|_| None);
+        let ratio = self.judge("all lines right", &right);
+        self.hold("a concordance", ratio, CONCORDANCE);
+        self.judge(
+            "one byte of every third line damaged",
+            &concordance(|i| (i % 3 == 0).then_some(i)),
+        );
+        self.judge("newlines alone", &vec![b'\n'; TEXT]);
+    }
+
+    /// A text judged by both sides; gives the ratio.
+    fn judge(&mut self, which: &str, text: &[u8]) -> f64 {
+        let mut out = vec![0; TEXT];
+        let mut own_out = out.clone();
+        self.compare(
+            &format!("a text of 65,536 bytes, {which}"),
+            TEXTS,
+            || repeat(TEXTS, || judged(capi::judge_text, text, &mut out)),
+            || repeat(TEXTS, || judged(own::judge_text, text, &mut own_out)),
+        )
+    }
+}
+
+/// A text of the most bytes, of months' lines from month 115,000 on; the last is cut. A line's place may be given a byte to damage.
+fn concordance(damage: impl Fn(usize) -> Option<usize>) -> Vec<u8> {
+    let mut text = Vec::new();
+    for i in 0.. {
+        let mut line = [0; 48];
+        let length = own::print_month_line(115_000 + i as u64, &mut line).unwrap_or(0);
+        if let Some(place) = damage(i) {
+            line[place % (length - 1)] ^= 1;
+        }
+        text.extend_from_slice(&line[..length]);
+        if text.len() > TEXT {
+            break;
+        }
+    }
+    text.truncate(TEXT);
+    text
+}
+
+/// The judging of a text, of either side.
+type Judge = fn(&[u8], &mut [u8]) -> Result<usize, Reason>;
+
+/// Judges a text; one number out of how many lines there are, and every verdict.
+fn judged(judge: Judge, text: &[u8], out: &mut [u8]) -> u64 {
+    let lines = judge(black_box(text), out).unwrap_or(0);
+    out[..lines].iter().fold(lines as u64, |sum, &v| {
+        sum.wrapping_mul(9).wrapping_add(v.into())
+    })
 }
 
 /// The time of a run, and its sum.

@@ -2,6 +2,7 @@
 //! It prints a table and ends with a non-zero status at any difference.
 
 mod clerks;
+mod concordances;
 mod dates;
 mod drawers;
 mod emendings;
@@ -75,6 +76,7 @@ fn all_rows() -> Vec<Row> {
     rows.extend(emendings::rows(SEED + 80));
     rows.extend(clerks::rows(SEED + 90));
     rows.extend(figures::rows(SEED + 100));
+    rows.extend(concordances::rows(SEED + 120));
     rows.extend(walked::rows());
     rows
 }

@@ -1,0 +1,3 @@
+-- Laws of the report.
+pub mod Reporting
+pub mod Paper

@@ -1,0 +1,2 @@
+-- A text judged through a reader, for tests.
+pub mod Paged

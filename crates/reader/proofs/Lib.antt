@@ -1,0 +1,3 @@
+-- Laws of a reader.
+pub mod Stepping
+pub mod Paper
