@@ -1,11 +1,15 @@
-//! Links the archives of capi and of drawn: `../target/native/libcapi.a` and `libdrawn.a` beside it, or those that the environment
-//! variables `OESTERWROK_CAPI` and `OESTERWROK_DRAWN` name.
+//! Links the archives of capi, of drawn and of paged: `../target/native/libcapi.a`, `libdrawn.a` and `libpaged.a` beside it, or those
+//! that the environment variables `OESTERWROK_CAPI`, `OESTERWROK_DRAWN` and `OESTERWROK_PAGED` name.
 
 use std::path::{Path, PathBuf};
 use std::{env, fs, process};
 
 /// Each archive's crate, and the variable that names another archive, by its whole path or by one that starts at `rust/`.
-const ARCHIVES: [(&str, &str); 2] = [("capi", "OESTERWROK_CAPI"), ("drawn", "OESTERWROK_DRAWN")];
+const ARCHIVES: [(&str, &str); 3] = [
+    ("capi", "OESTERWROK_CAPI"),
+    ("drawn", "OESTERWROK_DRAWN"),
+    ("paged", "OESTERWROK_PAGED"),
+];
 
 fn main() {
     println!("cargo:rerun-if-changed=build.rs");

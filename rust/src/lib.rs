@@ -26,6 +26,7 @@
 pub mod drawn;
 mod ffi;
 pub mod independent;
+pub mod paged;
 mod types;
 
 use ffi::Told;

@@ -4,7 +4,7 @@ use crate::lent::Lent;
 use crate::random::Random;
 use crate::tally::{at_random, every, Row, Tally};
 use crate::MONTHS;
-use oesterwrok::{self as capi, independent as own};
+use oesterwrok::{self as capi, independent as own, paged, Reason};
 
 /// The most bytes of a text.
 const TEXT: usize = 65_536;
@@ -83,12 +83,23 @@ fn line(month: u64) -> Vec<u8> {
     out[..length].to_vec()
 }
 
-/// Judges a text into a list of so many places, which hold random bytes.
+/// Judges a text into a list of so many places, which hold random bytes, by the call and through a reader.
 fn compare(text: &[u8], room: usize, seed: u64, tally: &mut Tally) {
+    compare_by(capi::judge_text, text, room, seed, tally);
+    compare_by(paged::judge_text, text, room, seed, tally);
+}
+
+fn compare_by(
+    judge: fn(&[u8], &mut [u8]) -> Result<usize, Reason>,
+    text: &[u8],
+    room: usize,
+    seed: u64,
+    tally: &mut Tally,
+) {
     let mut random = Random::new(1, seed);
     let mut capi_list = Lent::new(room, &mut random);
     let mut own_list = capi_list.clone();
-    let capi_answer = capi::judge_text(text, capi_list.lend());
+    let capi_answer = judge(text, capi_list.lend());
     let own_answer = own::judge_text(text, own_list.lend());
     tally.compare_lent((capi_answer, capi_list), (own_answer, own_list), || {
         format!(
