@@ -296,8 +296,8 @@ def take_number(data, at, width):
     return sum(data[at + i] << (8 * i) for i in range(width))
 
 
-def read_sheet(data, rooms):
-    """The three lists, or the reason's number: in byte order, then 11, then 12."""
+def read_sections(data):
+    """Where the three sections end and their lists, or the reason's number: in byte order."""
     at, lists = 0, []
     for width, least, most, reason in SECTIONS:
         count = take_number(data, at, 2)
@@ -316,6 +316,15 @@ def read_sheet(data, rooms):
             items.append(item)
             at += width
         lists.append(items)
+    return at, lists
+
+
+def read_sheet(data, rooms):
+    """The three lists, or the reason's number: in byte order, then 11, then 12."""
+    read = read_sections(data)
+    if isinstance(read, int):
+        return read
+    at, lists = read
     if at < len(data):
         return 11
     if any(len(items) > room for items, room in zip(lists, rooms)):

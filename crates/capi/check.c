@@ -110,6 +110,11 @@ AT(oes_sheet_counts, years, 8);
 AT(oes_sheet_counts, months, 16);
 AT(oes_sheet_counts, days, 24);
 SIZE(oes_sheet_counts, 32);
+AT(oes_new_counts, years, 8);
+AT(oes_new_counts, months, 16);
+AT(oes_new_counts, days, 24);
+AT(oes_new_counts, readings, 32);
+SIZE(oes_new_counts, 40);
 AT(oes_length, length, 8);
 SIZE(oes_length, 16);
 
@@ -895,6 +900,98 @@ static void counts(void)
     SAME(d[0], 29);
 }
 
+/* The bytes of two readings: year name 22, month 1, ordinary, day 9, day name 60, first name 52, days 258 to 515; and all unread, days 0 to 27,758. */
+#define TWO_READINGS 22, 1, 1, 9, 60, 52, 2, 1, 0, 0, 3, 2, 0, 0, 0, 0, 0, 0, 0, 0, 0, 0, 0, 0, 110, 108, 0, 0
+
+/* Year 11 and two readings in the new form: the four counts, the eight numbers of each, what stays; cut off, and one place too few. */
+static void new_form(void)
+{
+    const uint8_t bytes[38] = {1, 0, 11, 0, 0, 0, 0, 0, 2, 0, TWO_READINGS};
+    const uint32_t want[16] = {22, 1, 1, 9, 60, 52, 258, 515, 0, 0, 0, 0, 0, 0, 0, 27758};
+    uint16_t y[2] = {60000, 60000};
+    uint32_t none[1] = {untouched};
+    uint32_t n[17];
+    for (int i = 0; i < 17; i++) {
+        n[i] = untouched;
+    }
+    oes_new_counts c = oes_read_new(bytes, 37, y, 2, none, 0, none, 0, n, 17);
+    SAME(c.reason, 9);
+    SAME(c.years + c.months + c.days + c.readings, 0);
+    c = oes_read_new(bytes, 38, y, 2, none, 0, none, 0, n, 15);
+    SAME(c.reason, 12);
+    SAME(y[0], 60000);
+    SAME(n[0], untouched);
+    c = oes_read_new(bytes, 38, y, 2, none, 0, none, 0, n, 17);
+    SAME(c.reason, 0);
+    SAME(c.years * 1000 + c.months * 100 + c.days * 10 + c.readings, 1002);
+    SAME(y[0], 11);
+    SAME(y[1], 60000);
+    for (int i = 0; i < 16; i++) {
+        SAME(n[i], want[i]);
+    }
+    SAME(n[16], untouched);
+    oes_sheet_counts old = oes_read_sheet(bytes, 38, y, 2, none, 0, none, 0);
+    SAME(old.reason, 11);
+}
+
+/* One byte of the second reading put wrong: each field above its range, each end of the window, the window turned round; a field comes last. */
+static void bad_readings(void)
+{
+    const struct {
+        int place;
+        uint8_t value;
+        uint32_t reason;
+    } faults[] = {{22, 61, 14}, {23, 13, 14}, {24, 3, 14}, {25, 31, 14}, {26, 61, 14}, {27, 61, 14}, {24, 2, 0}, {31, 1, 6}, {35, 1, 6}, {29, 109, 13}};
+    uint32_t none[1] = {untouched};
+    for (size_t i = 0; i < sizeof faults / sizeof *faults; i++) {
+        uint8_t bytes[36] = {0, 0, 0, 0, 0, 0, 2, 0, TWO_READINGS};
+        uint16_t y[1] = {60000};
+        uint32_t n[16];
+        n[0] = untouched;
+        bytes[faults[i].place] = faults[i].value;
+        oes_new_counts c = oes_read_new(bytes, 36, y, 0, none, 0, none, 0, n, 16);
+        SAME(c.reason, faults[i].reason);
+        SAME(n[0], faults[i].reason ? untouched : 22);
+    }
+    uint8_t both[36] = {0, 0, 0, 0, 0, 0, 2, 0, TWO_READINGS};
+    uint16_t y[1] = {60000};
+    uint32_t n[16];
+    both[22] = 61;
+    both[35] = 1;
+    SAME(oes_read_new(both, 36, y, 0, none, 0, none, 0, n, 16).reason, 6);
+    const uint8_t many[8] = {0, 0, 0, 0, 0, 0, 245, 1};
+    SAME(oes_read_new(many, 8, y, 0, none, 0, none, 0, n, 16).reason, 10);
+}
+
+/* Year 11 from the old form to the new one and back; readings present, bytes after them, too little room. */
+static void both_forms(void)
+{
+    const uint8_t want[10] = {1, 0, 11, 0, 0, 0, 0, 0, 0, 0};
+    const uint8_t readings[37] = {0, 0, 0, 0, 0, 0, 2, 0, TWO_READINGS, 0};
+    uint8_t out[11];
+    memset(out, 0xA5, sizeof out);
+    oes_length n = oes_to_new(want, 8, out, 9);
+    SAME(n.reason, 12);
+    SAME(n.length, 0);
+    SAME(out[0], 0xA5);
+    n = oes_to_new(want, 8, out, 11);
+    SAME(n.reason, 0);
+    SAME(n.length, 10);
+    bytes_same(__LINE__, out, want, 10);
+    SAME(out[10], 0xA5);
+    SAME(oes_to_new(want, 10, out, 11).reason, 11);
+    memset(out, 0xA5, sizeof out);
+    n = oes_to_old(want, 10, out, 8);
+    SAME(n.reason, 0);
+    SAME(n.length, 8);
+    bytes_same(__LINE__, out, want, 8);
+    SAME(out[8], 0xA5);
+    SAME(oes_to_old(want, 10, out, 7).reason, 12);
+    SAME(oes_to_old(want, 8, out, 11).reason, 9);
+    SAME(oes_to_old(readings, 36, out, 0).reason, 17);
+    SAME(oes_to_old(readings, 37, out, 0).reason, 11);
+}
+
 /* The first and the last civil year on a sheet, there and back; the year after them, 41,041, reading and writing. */
 static void years_of_a_sheet(void)
 {
@@ -1025,6 +1122,9 @@ int main(void)
     sheet();
     counts();
     years_of_a_sheet();
+    new_form();
+    bad_readings();
+    both_forms();
     lines();
     concordances();
     printf("%d checks, %d wrong\n", checked, wrong);

@@ -30,6 +30,7 @@ STRUCTS = {
     "oes_emended": "CEmended",
     "oes_figures_told": "CFigures",
     "oes_sheet_counts": "CSheetCounts",
+    "oes_new_counts": "CNewCounts",
     "oes_length": "CLength",
 }
 

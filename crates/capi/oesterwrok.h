@@ -206,6 +206,15 @@ typedef struct oes_sheet_counts {
     size_t days;
 } oes_sheet_counts;
 
+/* The same of a sheet of the new form, with how many readings it has. */
+typedef struct oes_new_counts {
+    uint32_t reason;
+    size_t years;
+    size_t months;
+    size_t days;
+    size_t readings;
+} oes_new_counts;
+
 /* How many bytes were written. */
 typedef struct oes_length {
     uint32_t reason;
@@ -262,6 +271,17 @@ oes_sheet_counts oes_read_sheet(const uint8_t *bytes, size_t bytes_length, uint1
                                 uint32_t *months, size_t months_places, uint32_t *days, size_t days_places);
 oes_length oes_write_sheet(const uint16_t *years, size_t years_count, const uint32_t *months, size_t months_count,
                            const uint32_t *days, size_t days_count, uint8_t *out, size_t out_bytes);
+
+/* The new form of the sheet: after the days at most 500 readings, 14 bytes each, the six fields one byte each in the order of
+ * oes_reading (0 unread; leap mark 1 or 2), then first and last day of the window, 4 bytes each. `readings` takes eight numbers a
+ * reading in that order. A reading is refused by the reasons of oes_search, 6, 13, 14, after 9. */
+oes_new_counts oes_read_new(const uint8_t *bytes, size_t bytes_length, uint16_t *years, size_t years_places,
+                            uint32_t *months, size_t months_places, uint32_t *days, size_t days_places,
+                            uint32_t *readings, size_t readings_places);
+
+/* A sheet in the other form: the same bytes and a count of 0, or without that count. Readings present are 17. */
+oes_length oes_to_new(const uint8_t *bytes, size_t bytes_length, uint8_t *out, size_t out_bytes);
+oes_length oes_to_old(const uint8_t *bytes, size_t bytes_length, uint8_t *out, size_t out_bytes);
 
 /* A year's block and a day's line are by the civil year. The line of a day is the listing's, which ends with the day name. */
 oes_length oes_print_year(uint64_t year, uint8_t *out, size_t out_bytes);

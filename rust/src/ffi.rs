@@ -177,6 +177,11 @@ answer! {
 }
 
 answer! {
+    /// `oes_new_counts`
+    CNewCounts { years: usize, months: usize, days: usize, readings: usize }
+}
+
+answer! {
     /// `oes_length`
     CLength { length: usize }
 }
@@ -265,6 +270,22 @@ unsafe extern "C" {
         out: *mut u8,
         out_bytes: usize,
     ) -> CLength;
+    fn oes_read_new(
+        bytes: *const u8,
+        bytes_length: usize,
+        years: *mut u16,
+        years_places: usize,
+        months: *mut u32,
+        months_places: usize,
+        days: *mut u32,
+        days_places: usize,
+        readings: *mut u32,
+        readings_places: usize,
+    ) -> CNewCounts;
+    fn oes_to_new(bytes: *const u8, bytes_length: usize, out: *mut u8, out_bytes: usize)
+        -> CLength;
+    fn oes_to_old(bytes: *const u8, bytes_length: usize, out: *mut u8, out_bytes: usize)
+        -> CLength;
     fn oes_print_year(year: u64, out: *mut u8, out_bytes: usize) -> CLength;
     fn oes_print_month_line(month: u64, out: *mut u8, out_bytes: usize) -> CLength;
     fn oes_print_month(month: u64, out: *mut u8, out_bytes: usize) -> CLength;
@@ -345,6 +366,46 @@ pub fn write_sheet(years: &[u16], months: &[u32], days: &[u32], out: &mut [u8]) 
             out.len(),
         )
     }
+}
+
+/// `oes_read_new` over slices.
+#[inline]
+pub fn read_new(
+    bytes: &[u8],
+    years: &mut [u16],
+    months: &mut [u32],
+    days: &mut [u32],
+    readings: &mut [u32],
+) -> CNewCounts {
+    // SAFETY: each pointer and length are those of one slice; the four lent ones are borrowed alone.
+    unsafe {
+        oes_read_new(
+            bytes.as_ptr(),
+            bytes.len(),
+            years.as_mut_ptr(),
+            years.len(),
+            months.as_mut_ptr(),
+            months.len(),
+            days.as_mut_ptr(),
+            days.len(),
+            readings.as_mut_ptr(),
+            readings.len(),
+        )
+    }
+}
+
+/// `oes_to_new` over slices.
+#[inline]
+pub fn to_new(bytes: &[u8], out: &mut [u8]) -> CLength {
+    // SAFETY: each pointer and length are those of one slice; the lent one is borrowed alone.
+    unsafe { oes_to_new(bytes.as_ptr(), bytes.len(), out.as_mut_ptr(), out.len()) }
+}
+
+/// `oes_to_old` over slices.
+#[inline]
+pub fn to_old(bytes: &[u8], out: &mut [u8]) -> CLength {
+    // SAFETY: each pointer and length are those of one slice; the lent one is borrowed alone.
+    unsafe { oes_to_old(bytes.as_ptr(), bytes.len(), out.as_mut_ptr(), out.len()) }
 }
 
 /// Wraps a printing call over a slice.

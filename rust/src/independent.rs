@@ -862,14 +862,20 @@ fn take_number(rest: &mut &[u8], bytes: usize) -> Result<u32, Reason> {
         .fold(0, |high, &byte| high << 8 | u32::from(byte)))
 }
 
+/// Takes a section's count, which has its most. Reasons 9, 10.
+fn take_count(rest: &mut &[u8], most: usize) -> Result<usize, Reason> {
+    let count = take_number(rest, 2)? as usize;
+    ensure(count <= most, Reason::CountAbove)?;
+    Ok(count)
+}
+
 /// Takes a section: its count and its items of so many bytes each, each checked.
 fn take_section(
     rest: &mut &[u8],
     bytes: usize,
     check: fn(u64) -> Result<(), Reason>,
 ) -> Result<Vec<u32>, Reason> {
-    let count = take_number(rest, 2)? as usize;
-    ensure(count <= ITEMS, Reason::CountAbove)?;
+    let count = take_count(rest, ITEMS)?;
     let mut items = Vec::with_capacity(count);
     for _ in 0..count {
         let item = take_number(rest, bytes)?;
@@ -905,6 +911,106 @@ pub fn read_sheet(
         months: month_items.len(),
         days: day_items.len(),
     })
+}
+
+/// The most readings of a sheet of the new form.
+const READINGS: usize = 500;
+
+/// Takes a reading's 14 bytes; its eight numbers: the six fields, one byte each, then first and last day. Reasons 9, 6, 13, 14.
+fn take_reading(rest: &mut &[u8]) -> Result<[u32; 8], Reason> {
+    let (mut item, after) = rest.split_at_checked(14).ok_or(Reason::SheetEnds)?;
+    *rest = after;
+    let mut numbers = [0; 8];
+    for (place, number) in numbers.iter_mut().enumerate() {
+        *number = take_number(&mut item, if place < 6 { 1 } else { 4 })?;
+    }
+    let known = |place: usize| Some(u64::from(numbers[place])).filter(|&number| number != 0);
+    let reading = Reading {
+        year_name: known(0),
+        month_number: known(1),
+        leap_mark: known(2),
+        day_of_month: known(3),
+        day_name: known(4),
+        first_name: known(5),
+    };
+    check_search(&reading, numbers[6].into(), numbers[7].into())?;
+    Ok(numbers)
+}
+
+/// The lists of a sheet of the new form.
+struct NewLists {
+    years: Vec<u32>,
+    months: Vec<u32>,
+    days: Vec<u32>,
+    readings: Vec<[u32; 8]>,
+}
+
+/// Takes a whole sheet of the new form.
+fn take_new(bytes: &[u8]) -> Result<NewLists, Reason> {
+    let mut rest = bytes;
+    let years = take_section(&mut rest, 2, check_civil_year)?;
+    let months = take_section(&mut rest, 4, check_month)?;
+    let days = take_section(&mut rest, 4, check_day)?;
+    let count = take_count(&mut rest, READINGS)?;
+    let mut readings = Vec::with_capacity(count);
+    for _ in 0..count {
+        readings.push(take_reading(&mut rest)?);
+    }
+    ensure(rest.is_empty(), Reason::BytesAfter)?;
+    Ok(NewLists {
+        years,
+        months,
+        days,
+        readings,
+    })
+}
+
+/// As [`crate::read_new`].
+pub fn read_new(
+    bytes: &[u8],
+    years: &mut [u16],
+    months: &mut [u32],
+    days: &mut [u32],
+    readings: &mut [u32],
+) -> Result<NewCounts, Reason> {
+    let lists = take_new(bytes)?;
+    let room = lists.years.len() <= years.len()
+        && lists.months.len() <= months.len()
+        && lists.days.len() <= days.len()
+        && 8 * lists.readings.len() <= readings.len();
+    ensure(room, Reason::LentTooShort)?;
+    for (place, &year) in years.iter_mut().zip(&lists.years) {
+        *place = year as u16;
+    }
+    months[..lists.months.len()].copy_from_slice(&lists.months);
+    days[..lists.days.len()].copy_from_slice(&lists.days);
+    for (places, numbers) in readings.chunks_exact_mut(8).zip(&lists.readings) {
+        places.copy_from_slice(numbers);
+    }
+    Ok(NewCounts {
+        three: SheetCounts {
+            years: lists.years.len(),
+            months: lists.months.len(),
+            days: lists.days.len(),
+        },
+        readings: lists.readings.len(),
+    })
+}
+
+/// As [`crate::to_new`].
+pub fn to_new(bytes: &[u8], out: &mut [u8]) -> Result<usize, Reason> {
+    let (mut years, mut months, mut days) = ([0; ITEMS], [0; ITEMS], [0; ITEMS]);
+    read_sheet(bytes, &mut years, &mut months, &mut days)?;
+    hand_bytes(&[bytes, &[0, 0]].concat(), out)
+}
+
+/// As [`crate::to_old`].
+pub fn to_old(bytes: &[u8], out: &mut [u8]) -> Result<usize, Reason> {
+    ensure(
+        take_new(bytes)?.readings.is_empty(),
+        Reason::ReadingsPresent,
+    )?;
+    hand_bytes(&bytes[..bytes.len() - 2], out)
 }
 
 /// Reason 10 of a section, then its items' own reason.

@@ -355,6 +355,39 @@ pub fn write_sheet(
     Ok(ffi::write_sheet(years, months, days, out).told()?.length)
 }
 
+/// Reads a sheet of the new form, which has readings after its days, into four lent lists, the fourth eight numbers a reading: the
+/// six fields (0 unread; leap mark [`ORDINARY`] or [`LEAP`]), first and last day. Reasons 9, 10, 1, 7, 6, 13, 14, 11, 12.
+#[inline]
+pub fn read_new(
+    bytes: &[u8],
+    years: &mut [u16],
+    months: &mut [u32],
+    days: &mut [u32],
+    readings: &mut [u32],
+) -> Result<NewCounts, Reason> {
+    let c = ffi::read_new(bytes, years, months, days, readings).told()?;
+    Ok(NewCounts {
+        three: SheetCounts {
+            years: c.years,
+            months: c.months,
+            days: c.days,
+        },
+        readings: c.readings,
+    })
+}
+
+/// Puts a sheet of the old form to the front of `out` in the new one, and gives its number of bytes. Reasons 9, 10, 1, 7, 6, 11, 12.
+#[inline]
+pub fn to_new(bytes: &[u8], out: &mut [u8]) -> Result<usize, Reason> {
+    Ok(ffi::to_new(bytes, out).told()?.length)
+}
+
+/// Puts a sheet of the new form without readings to the front of `out` in the old one. Reasons as of [`read_new`], then 17, 12.
+#[inline]
+pub fn to_old(bytes: &[u8], out: &mut [u8]) -> Result<usize, Reason> {
+    Ok(ffi::to_old(bytes, out).told()?.length)
+}
+
 /// Prints a civil year's header and its months' lines to the front of `out` and gives the number of bytes. Reasons 1, 12.
 #[inline]
 pub fn print_year(year: u64, out: &mut [u8]) -> Result<usize, Reason> {

@@ -2,8 +2,8 @@
 
 use std::fmt;
 
-/// Why a query comes back: the paper's fifteen reasons, that of the civil year, that of a concordance, the two of the planets and
-/// that of the clerk, under their numbers.
+/// Why a query comes back: the paper's fifteen reasons, that of the civil year, that of the old form of the sheet, that of a
+/// concordance, the two of the planets and that of the clerk, under their numbers.
 #[derive(Clone, Copy, Debug, PartialEq, Eq, Hash)]
 #[repr(u32)]
 pub enum Reason {
@@ -26,7 +26,7 @@ pub enum Reason {
     MoveEnds = 8,
     /// 9: sheet ends before a count or an item is whole.
     SheetEnds = 9,
-    /// 10: a count above its most, which is 1,000 in a sheet and 4,096 in a drawer.
+    /// 10: a count above its most, which is 1,000 in a sheet, 500 for its readings, and 4,096 in a drawer.
     CountAbove = 10,
     /// 11: bytes after the last section.
     BytesAfter = 11,
@@ -41,6 +41,8 @@ pub enum Reason {
     /// 16: no such month number in that year: 1 to 10 in civil year 0, or 11 or 12 in civil year 41,040, leap or not. It comes
     /// after 3 and before 4.
     NoSuchNumber = 16,
+    /// 17: going back to the old form of the sheet with readings present.
+    ReadingsPresent = 17,
     /// 18: text too long, above 65,536 bytes.
     TextTooLong = 18,
     /// 19: planet outside 1 to 5.
@@ -51,8 +53,8 @@ pub enum Reason {
     Bu = 21,
 }
 
-/// The reasons in the order of their numbers; 17 belongs to a request that is not built.
-pub const REASONS: [Reason; 20] = [
+/// The reasons in the order of their numbers.
+pub const REASONS: [Reason; 21] = [
     Reason::Year,
     Reason::MonthNumber,
     Reason::DayOfMonth,
@@ -69,6 +71,7 @@ pub const REASONS: [Reason; 20] = [
     Reason::Field,
     Reason::TermOrQuarter,
     Reason::NoSuchNumber,
+    Reason::ReadingsPresent,
     Reason::TextTooLong,
     Reason::Planet,
     Reason::NoConjunctionLeft,
@@ -76,7 +79,7 @@ pub const REASONS: [Reason; 20] = [
 ];
 
 impl Reason {
-    /// The paper's number, 1 to 16, or 18 to 21.
+    /// The paper's number, 1 to 21.
     pub fn number(self) -> u32 {
         self as u32
     }
@@ -542,4 +545,11 @@ impl Verdict {
             _ => None,
         }
     }
+/// How many items each of the lists of a sheet of the new form has.
+#[derive(Clone, Copy, Debug, PartialEq, Eq)]
+pub struct NewCounts {
+    /// Civil years, months and days.
+    pub three: SheetCounts,
+    /// Readings, eight numbers each.
+    pub readings: usize,
 }

@@ -181,6 +181,6 @@ fn ffi_declares_what_the_header_does() {
     assert_eq!(structs.len(), 19);
     assert_eq!(structs, header_structs());
     let calls = ffi_calls(&text, &names);
-    assert_eq!(calls.len(), 25);
+    assert_eq!(calls.len(), 29);
     assert_eq!(calls, header_calls());
 }

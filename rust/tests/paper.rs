@@ -7,8 +7,8 @@ macro_rules! paper_of {
         mod $side {
             use oesterwrok::{
                 Asked, Clerk, Conjunction, Date, DateRecord, DrawerRefused, EmendRefused, Emended,
-                LeapMonth, Month, Pair, Phase, Reading, Reason, SearchRefused, SheetCounts, Term,
-                YearFacts,
+                LeapMonth, Month, NewCounts, Pair, Phase, Reading, Reason, SearchRefused,
+                SheetCounts, Term, YearFacts,
             };
             use $calls as calls;
 
@@ -735,6 +735,82 @@ macro_rules! paper_of {
                     Err(Reason::Year)
                 );
                 assert_eq!((years, out), ([0, 41_040, 5], bytes));
+            }
+
+            /// W9: year 11 and two readings, their eight numbers; the old reader's 11; both forms of year 11; 17 after 11.
+            #[test]
+            fn sheet_of_two_readings() {
+                let known = [22, 1, 1, 9, 60, 52, 2, 1, 0, 0, 3, 2, 0, 0];
+                let unread = [0, 0, 0, 0, 0, 0, 0, 0, 0, 0, 110, 108, 0, 0];
+                let year = [1, 0, 11, 0, 0, 0, 0, 0];
+                let mut bytes = [&year[..], &[2, 0], &known, &unread].concat();
+                let (mut years, mut readings) = ([5; 2], [6; 17]);
+                let counts = calls::read_new(&bytes, &mut years, &mut [], &mut [], &mut readings);
+                let three = SheetCounts {
+                    years: 1,
+                    months: 0,
+                    days: 0,
+                };
+                assert_eq!(counts, Ok(NewCounts { three, readings: 2 }));
+                assert_eq!(years, [11, 5]);
+                let numbers = [
+                    22, 1, 1, 9, 60, 52, 258, 515, 0, 0, 0, 0, 0, 0, 0, 27_758, 6,
+                ];
+                assert_eq!(readings, numbers);
+                assert_eq!(
+                    calls::read_new(&bytes, &mut years, &mut [], &mut [], &mut readings[..15]),
+                    Err(Reason::LentTooShort)
+                );
+                assert_eq!(
+                    calls::read_sheet(&bytes, &mut years, &mut [], &mut []),
+                    Err(Reason::BytesAfter)
+                );
+                let mut out = [9; 11];
+                assert_eq!(
+                    calls::to_old(&bytes, &mut out),
+                    Err(Reason::ReadingsPresent)
+                );
+                bytes.push(0);
+                assert_eq!(calls::to_old(&bytes, &mut out), Err(Reason::BytesAfter));
+                assert_eq!(out, [9; 11]);
+                assert_eq!(calls::to_new(&year, &mut out), Ok(10));
+                assert_eq!(out, [1, 0, 11, 0, 0, 0, 0, 0, 0, 0, 9]);
+                let mut back = [9; 9];
+                assert_eq!(calls::to_old(&out[..10], &mut back), Ok(8));
+                assert_eq!(back, [1, 0, 11, 0, 0, 0, 0, 0, 9]);
+                assert_eq!(calls::to_old(&year, &mut back), Err(Reason::SheetEnds));
+            }
+
+            /// W9: a reading is refused for 6, then 13, then 14; a leap byte of 2 is leap, of 3 is 14; 501 readings are 10.
+            #[test]
+            fn readings_that_come_back() {
+                let read = |item: [u8; 14]| {
+                    let bytes = [&[0, 0, 0, 0, 0, 0, 1, 0][..], &item].concat();
+                    let mut readings = [6; 8];
+                    let counts = calls::read_new(&bytes, &mut [], &mut [], &mut [], &mut readings);
+                    assert_eq!(readings == [6; 8], counts.is_err());
+                    counts.map(|counts| counts.readings)
+                };
+                assert_eq!(read([0, 0, 2, 0, 0, 0, 2, 1, 0, 0, 3, 2, 0, 0]), Ok(1));
+                assert_eq!(
+                    read([0, 0, 3, 0, 0, 0, 2, 1, 0, 0, 3, 2, 0, 0]),
+                    Err(Reason::Field)
+                );
+                assert_eq!(
+                    read([0, 13, 0, 0, 0, 0, 3, 2, 0, 0, 2, 1, 0, 0]),
+                    Err(Reason::Window)
+                );
+                assert_eq!(
+                    read([0, 13, 0, 0, 0, 0, 0, 0, 0, 0, 0, 0, 0, 1]),
+                    Err(Reason::DayCount)
+                );
+                assert_eq!(
+                    read([0, 0, 0, 0, 0, 0, 0, 0, 0, 1, 0, 0, 0, 0]),
+                    Err(Reason::DayCount)
+                );
+                let many = [0, 0, 0, 0, 0, 0, 245, 1];
+                let counts = calls::read_new(&many, &mut [], &mut [], &mut [], &mut []);
+                assert_eq!(counts, Err(Reason::CountAbove));
             }
 
             #[test]

@@ -3,6 +3,7 @@
 // is decided here. `oes_dates` fills records of its own form.
 ghost use mathlib.Core.Path.{_≡_};
 ghost use Rattle.capped.specs.Capped.{cappedField, cappedReading};
+ghost use Rattle.offered.specs.Renewed.{CReadNew, CToNew, CToOld};
 ghost use Rattle.offered.specs.Promises.{
   fieldOf,
   readingOf,
@@ -44,6 +45,7 @@ use offered::CFilled;
 use offered::CFound;
 use offered::CLength;
 use offered::CMonth;
+use offered::CNewCounts;
 use offered::CNext;
 use offered::CPair;
 use offered::CQuarter;
@@ -294,6 +296,36 @@ pub extern "C" fn oes_write_sheet(
         (now (out .exit)) ⌝ }
 {
     flat::flat_length(sheet::write_sheet(years, months, days, out))
+}
+
+// A sheet of the new form read.
+#[no_mangle]
+pub extern "C" fn oes_read_new(
+    bytes: &[u8],
+    years: &mut [u16],
+    months: &mut [u32],
+    days: &mut [u32],
+    readings: &mut [u32],
+) -> CNewCounts
+    ensures { λ r. ⌜ CReadNew (now (bytes .entry)) (now (years .entry)) (now (months .entry)) (now (days .entry)) (now (readings .entry)) r
+        (now (years .exit)) (now (months .exit)) (now (days .exit)) (now (readings .exit)) ⌝ }
+{
+    flat::flat_four(newsheet::read_new(bytes, years, months, days, readings))
+}
+
+// A sheet converted to the new form, and to the old one.
+#[no_mangle]
+pub extern "C" fn oes_to_new(bytes: &[u8], out: &mut [u8]) -> CLength
+    ensures { λ r. ⌜ CToNew (now (bytes .entry)) (now (out .entry)) r (now (out .exit)) ⌝ }
+{
+    flat::flat_length(newsheet::to_new(bytes, out))
+}
+
+#[no_mangle]
+pub extern "C" fn oes_to_old(bytes: &[u8], out: &mut [u8]) -> CLength
+    ensures { λ r. ⌜ CToOld (now (bytes .entry)) (now (out .entry)) r (now (out .exit)) ⌝ }
+{
+    flat::flat_length(newsheet::to_old(bytes, out))
 }
 
 // A civil year's block, a month's line, a `MONTH` line, a `DAY` line.

@@ -14,6 +14,8 @@ ghost use Rattle.offered.specs.Yearbook.{flatFigures};
 ghost use Rattle.drawer.specs.Drawer.{drawerAt, saidFilled};
 ghost use Rattle.drawer.specs.Shared.{OfMonth, Holds};
 ghost use Rattle.sheet.specs.Promises.{saidCounts, saidHowMany};
+ghost use Rattle.newsheet.specs.Promises.{saidNew};
+ghost use Rattle.offered.specs.Renewed.{flatFour};
 ghost use Rattle.offered.specs.Flat.{
   givenDate,
   flatDate,
@@ -54,6 +56,7 @@ use facts::SolsticeYearTold;
 use facts::TermTold;
 use facts::YearFacts;
 use facts::YearTold;
+use newsheet::NewCounts;
 use offered::CClerk;
 use offered::CConjunction;
 use offered::CDate;
@@ -64,6 +67,7 @@ use offered::CFilled;
 use offered::CFound;
 use offered::CLength;
 use offered::CMonth;
+use offered::CNewCounts;
 use offered::CNext;
 use offered::CPair;
 use offered::CQuarter;
@@ -523,6 +527,31 @@ pub fn flat_counts(a: SheetCounts) -> CSheetCounts
             years: 0,
             months: 0,
             days: 0,
+        },
+    }
+}
+
+// The same of the counts of a sheet of the new form.
+pub fn flat_four(a: NewCounts) -> CNewCounts
+    ensures { λ r. ⌜ r ≡ flatFour (saidNew a) ⌝ }
+{
+    match a {
+        NewCounts::Is(c) => {
+            let three = c.three;
+            CNewCounts {
+                reason: 0,
+                years: three.years,
+                months: three.months,
+                days: three.days,
+                readings: c.readings,
+            }
+        }
+        NewCounts::Refused(why) => CNewCounts {
+            reason: rule::reason_number(why) as u32,
+            years: 0,
+            months: 0,
+            days: 0,
+            readings: 0,
         },
     }
 }

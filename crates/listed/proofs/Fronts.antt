@@ -2,13 +2,14 @@
 use Prim.Native.Nat.{ℕ, zero, suc, _+_, _*_, _≤_, _<_}
 use native.Mathlib.Nat.{mul-suc, mul-le-mul-left}
 use native.Mathlib.Omega.{arith}
+use native.Mathlib.Decide.{decLt}
 use mathlib.Core.Path.{_≡_, refl, ap, sym, _∙_}
 use mathlib.Core.Logic.{⊎-elim}
 use mathlib.Core.Bool.{Bool, true, false}
 use mathlib.Core.List.{List, [], _∷_, _++_}
 use lib.Dec.{leb}
-use lib.ListN.{length, drop, length-append, length-drop}
-use lib.Seq.{drop-append-le}
+use lib.ListN.{length, take, drop, length-append, length-drop, take-append-drop}
+use lib.Seq.{drop-append-le, take-all, length-take-le}
 use borrow.Author.Tests.{leb-true, le-leb, lt-leb}
 use Rattle.rule.specs.Reasons.{Answer, is, andThen}
 use Rattle.sheet.specs.Sheet.{Section, itemRead, itemsRead, countOf, countRead, sectionRead, leftAfter, ListsFor, sectionsRead}
@@ -64,7 +65,7 @@ abbrev mostBytes : List Section → ℕ
 mostBytes [] = 0
 mostBytes (k ∷ ks) = 2 + k .width * k .items + mostBytes ks
 
-pub sections-front : (ks : List Section) (p q : List ℕ) → mostBytes ks < length p → sectionsRead ks p ≡ sectionsRead ks (p ++ q)
+sections-front : (ks : List Section) (p q : List ℕ) → mostBytes ks < length p → sectionsRead ks p ≡ sectionsRead ks (p ++ q)
 unfolding sectionsRead
 sections-front [] p q h = rw (lt-leb (length p) 0 h, lt-leb (length (p ++ q)) 0 (omega (arith, h, length-append p q)))
 sections-front (k ∷ ks) p q h =
@@ -75,3 +76,13 @@ sections-front (k ∷ ks) p q h =
     ∙ ap (λ (a : Answer (ListsFor ks)). andThen (sectionRead k (p ++ q)) (λ xs. andThen a (λ l. is (xs, l))))
     (sections-front ks (leftAfter k p) q (omega (arith, h, left-length k p g)) ∙ ap (sectionsRead ks) (sym (left-append k p q g))))
     (section-decided k p .decided)
+
+-- so many bytes of an input or more are read as the whole
+pub sections-taken : (ks : List Section) (k : ℕ) → mostBytes ks < k → (s : List ℕ) → sectionsRead ks (take k s) ≡ sectionsRead ks s
+sections-taken ks k h s = go (decLt k (length s))
+  where
+    go : Dec (k < length s) → sectionsRead ks (take k s) ≡ sectionsRead ks s
+    go (no g) = ap (sectionsRead ks) (take-all k s (omega (arith, g)))
+    go (yes l) =
+        sections-front ks (take k s) (drop k s) (omega (arith, h, length-take-le k s (omega (arith, l))))
+        ∙ ap (sectionsRead ks) (take-append-drop k s)

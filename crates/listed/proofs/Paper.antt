@@ -1,28 +1,21 @@
 -- The statement of specs/Paper, proved under its own name, and what follows for a room into which an input was read. Assumes nothing.
-use Prim.Native.Nat.{ℕ, _≤_, _<_}
+use Prim.Native.Nat.{ℕ, _≤_}
 use native.Mathlib.Omega.{arith}
-use native.Mathlib.Decide.{decLt}
 use mathlib.Core.Path.{_≡_, ap, sym, _∙_}
 use mathlib.Core.List.{List}
-use lib.ListN.{length, take, drop, take-append-drop}
+use lib.ListN.{length, take}
 use lib.Seq.{take-all, length-take-le}
 use Rattle.rule.specs.Reasons.{Answer, is, andThen}
 use Rattle.sheet.specs.Sheet.{ListsFor, sheetSections, named, readSheet}
 use Rattle.penned.specs.Lines.{printed, listing}
-use Rattle.listed.proofs.Fronts.{sections-front}
+use Rattle.listed.proofs.Fronts.{sections-taken}
 use Rattle.listed.specs.Paper as Paper
 
 -- so many bytes or more are enough
 front-of : (k : ℕ) → 10007 ≤ k → (s : List ℕ) → listing (take k s) ≡ listing s
 unfolding listing readSheet
-front-of k h s = go (decLt k (length s))
-  where
-    go : Dec (k < length s) → printed (readSheet (take k s)) ≡ printed (readSheet s)
-    go (no g) = ap (λ (t : List ℕ). printed (readSheet t)) (take-all k s (omega (arith, g)))
-    go (yes l) =
-        ap (λ (a : Answer (ListsFor sheetSections)). printed (andThen a (λ l. is (named l))))
-        (sections-front sheetSections (take k s) (drop k s) (omega (arith, h, length-take-le k s (omega (arith, l)))))
-        ∙ ap (λ (t : List ℕ). printed (readSheet t)) (take-append-drop k s)
+front-of k h s =
+    ap (λ (a : Answer (ListsFor sheetSections)). printed (andThen a (λ l. is (named l)))) (sections-taken sheetSections k (omega (arith, h)) s)
 
 pub front-is-enough : Paper.Front-is-enough
 front-is-enough = front-of Paper.inputHeld (omega arith)

@@ -23,7 +23,7 @@ unfolding listsIn
 good-lists s g = lists-read sheetSections s g
 
 -- a list filled from the front has room for what filled it
-fits : (xs old : List ℕ) (n : ℕ) (new : List ℕ) → new ≡ placed xs old → n ≡ length xs → n ≤ length new
+pub fits : (xs old : List ℕ) (n : ℕ) (new : List ℕ) → new ≡ placed xs old → n ≡ length xs → n ≤ length new
 fits xs old n new e h = omega (arith, ap length e, length-append xs (drop (length xs) old))
 
 -- a sheet that was read: what it says, where the lists stand, and that its items are in their ranges

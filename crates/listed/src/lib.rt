@@ -55,7 +55,7 @@ fn put_day_items(days: &[u32], out: &mut [u8], at: usize) -> usize
 }
 
 // The listing of three lists: 674, 54 and 61 bytes at most for an item, and 1,000 items at most in each.
-fn put_lists(years: &[u16], months: &[u32], days: &[u32], out: &mut [u8]) -> usize
+pub fn put_lists(years: &[u16], months: &[u32], days: &[u32], out: &mut [u8]) -> usize
     requires { ⌜ GoodLists (record { years = now years; months = now months; days = now days }) × (789000 ≤ length (now out)) ⌝ }
     ensures { λ r. ⌜ Put 789000 (now (out .entry)) 0
         (listingOf (record { years = now (years .entry); months = now (months .entry); days = now (days .entry) }))

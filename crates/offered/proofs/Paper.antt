@@ -155,7 +155,7 @@ use Rattle.planets.proofs.Computing.{planets-computed}
 use Rattle.reading.proofs.Computing.{searches-computed}
 
 -- printed bytes leave one answer and one buffer
-one-printed :
+pub one-printed :
     {x : Answer (List ℕ)} {o : List ℕ} {a b : CLength} {o₁ o₂ : List ℕ} → CPrinted x o a o₁ → CPrinted x o b o₂ → (a ≡ b) × (o₁ ≡ o₂)
 one-printed p q = (p .answer ∙ sym (q .answer), p .buffer ∙ sym (q .buffer))
 
@@ -197,11 +197,11 @@ module _ {A R : Type 0} (reason : R → ℕ) (gives : A → R) (bare : ℕ → R
   flat-bare P h (refused k) no-zero = h k
   flat-bare P h (refused-with k n) no-zero = h k
 
-  is-bare : (P : R → Type 0) → ((k : ℕ) → P (bare k)) → (a : Answer A) (r : R) → r ≡ flat gives bare a → reason r ≢ 0 → P r
+  pub is-bare : (P : R → Type 0) → ((k : ℕ) → P (bare k)) → (a : Answer A) (r : R) → r ≡ flat gives bare a → reason r ≢ 0 → P r
   is-bare P h a r e no-zero = rw (e) (flat-bare P h a (λ z. no-zero (ap reason e ∙ z)))
 
   -- reason 0: there is an answer x, and what is said is x laid flat
-  is-zero :
+  pub is-zero :
       ((k : ℕ) → reason (bare k) ≡ k) → {a : Answer A} → Sound a → (r : R) → r ≡ flat gives bare a →
       (reason r ≡ 0) ↔ ((x : A) × (is x ≡ a) × (r ≡ gives x))
   is-zero h {a} s r e = (there a s e, λ z. ap reason (z .2) ∙ nought (z .0))
@@ -217,14 +217,14 @@ module _ {A E : Type 0} (said : E → Answer A) (gives : A → E) (no : Reason �
   there-is (given x) = (gives x, says x)
   there-is (numbered why) = (no why, says-no why)
 
-  as-said :
+  pub as-said :
       {R : Type 0} (laid : Answer A → R) {a : Answer A} → Sound a → (r : R) →
       (r ≡ laid a) ↔ ((e : E) × (said e ≡ a) × (r ≡ laid (said e)))
   as-said laid s r = (λ p. (there-is s .0, there-is s .1, p ∙ sym (ap laid (there-is s .1))), λ z. z .2 ∙ ap laid (z .1))
 
 -- a length or counts said of what was answered: the lent memory is as it was where the query comes back
 module _ {A B R : Type 0} (reason : R → ℕ) (gives : B → R) (bare : ℕ → R) (nought : (x : B) → reason (gives x) ≡ 0) (f : A → B) where
-  untouched :
+  pub untouched :
       (a : Answer A) (g : A → List ℕ) (old : List ℕ) (r : R) → r ≡ flat gives bare (andThen a (λ x. is (f x))) → reason r ≢ 0 →
       afterwards a g old ≡ old
   untouched (is x) g old r e no-zero = absurd (no-zero (ap reason e ∙ nought (f x)))
@@ -235,7 +235,7 @@ module _ {A B R : Type 0} (reason : R → ℕ) (gives : B → R) (bare : ℕ →
 abbrev lengthOf : Answer (List ℕ) → Answer ℕ
 lengthOf a = andThen a (λ b. is (length b))
 
-printed-bare : {a : Answer (List ℕ)} {o : List ℕ} {r : CLength} {o′ : List ℕ} → CPrinted a o r o′ → r .reason ≢ 0 → BareLength r × (o′ ≡ o)
+pub printed-bare : {a : Answer (List ℕ)} {o : List ℕ} {r : CLength} {o′ : List ℕ} → CPrinted a o r o′ → r .reason ≢ 0 → BareLength r × (o′ ≡ o)
 printed-bare {a} {o} {r} p h = (
   is-bare (λ (x : CLength). x .reason) givenLength noLength (λ x. refl) BareLength (λ k. refusals-flat .length k .1) (lengthOf a) r (p .answer) h,
   p .buffer ∙ untouched (λ (x : CLength). x .reason) givenLength noLength (λ x. refl) length a (λ b. b) o r (p .answer) h,
@@ -245,10 +245,10 @@ module _ {a : Answer (List ℕ)} (s : Sound a) (r : CLength) where
   length-sound : Sound (lengthOf a)
   length-sound = Sound.sound-then (λ b. is (length b)) s (λ b. given (length b))
 
-  length-zero : r ≡ flatLength (lengthOf a) → (r .reason ≡ 0) ↔ ((n : ℕ) × (is n ≡ lengthOf a) × (r ≡ givenLength n))
+  pub length-zero : r ≡ flatLength (lengthOf a) → (r .reason ≡ 0) ↔ ((n : ℕ) × (is n ≡ lengthOf a) × (r ≡ givenLength n))
   length-zero e = is-zero (λ (x : CLength). x .reason) givenLength noLength (λ x. refl) (λ k. refl) length-sound r e
 
-  length-said : (r ≡ flatLength (lengthOf a)) ↔ ((h : HowMany) × (saidHowMany h ≡ lengthOf a) × (r ≡ flatLength (saidHowMany h)))
+  pub length-said : (r ≡ flatLength (lengthOf a)) ↔ ((h : HowMany) × (saidHowMany h ≡ lengthOf a) × (r ≡ flatLength (saidHowMany h)))
   length-said = as-said saidHowMany HowMany'.Is HowMany'.Refused (λ x. refl) (λ w. refl) flatLength length-sound r
 
 module _ {a : Answer (List ℕ)} (s : Sound a) {o : List ℕ} {r : CLength} {o′ : List ℕ} where

@@ -3,11 +3,11 @@ use Prim.Native.Nat.{ℕ, zero, suc, _+_, _-_}
 use native.Mathlib.Omega.{arith}
 use mathlib.Core.Path.{_≡_, ap, sym, _∙_}
 use mathlib.Core.Logic.{_≢_}
-use mathlib.Core.Bool.{Bool, true, false}
+use mathlib.Core.Bool.{Bool, true, false, _&&_}
 use mathlib.Core.List.{List, [], _∷_, _++_}
 use lib.Dec.{leb}
 use lib.IntN.{ℤ, pos, negsuc, _+ℤ_}
-use lib.ListN.{length, drop}
+use lib.ListN.{length, take, drop}
 use Rattle.rule.specs.Rule.{monthStart, monthLength}
 use Rattle.rule.specs.Reasons.{Answer, is, refused, within, guard, andThen, reasonNumber, reasonOf, intoRoom}
 use Rattle.rule.specs.declared.Reason.{Reason}
@@ -24,8 +24,11 @@ use Rattle.rule.specs.declared.Reason.the-variants.{
   CountTooLarge,
   BytesAfterLast,
   LentTooShort,
+  BadWindow,
+  FieldOutOfRange,
   NoSuchTermOrQuarter,
   NoSuchNumberInYear,
+  ReadingsPresent,
   TextTooLong,
   NoSuchPlanet,
   NoConjunctionLeft,
@@ -76,6 +79,23 @@ use Rattle.sheet.specs.Sheet.{
   readInto,
   writeSheet,
   writeInto,
+}
+use Rattle.reading.specs.Readings.{inRanges, windowHolds}
+use Rattle.newsheet.specs.New.{
+  eightOf,
+  readingIn,
+  firstIn,
+  lastIn,
+  tested,
+  isGiven,
+  reasonIn,
+  readingSection,
+  fourNamed,
+  readNew,
+  roomForFour,
+  readNewInto,
+  toNew,
+  toOld,
 }
 use Rattle.penned.specs.Lines.{yearBlock, monthLined, monthItem, dayItem}
 use Rattle.penned.specs.Promises.{yearBlockAt, monthLineAt, monthItemAt, dayItemAt}
@@ -186,26 +206,30 @@ unfolding pairAt
 pair-sound p = guarded (within 1 5 p) NoSuchPlanet (given (pairOf (numbersOf p)))
 
 -- a sheet read
-item-sound : (k : Items) (s : List ℕ) → Sound (itemRead (ranged k) s)
-unfolding itemRead
-item-sound k s =
-    guarded (leb (k .width) (length s)) SheetEndsEarly
-    (guarded (within (k .least) (k .most) (number (k .width) s)) (k .reason) (given (number (k .width) s)))
+abbrev ItemSound : Section → Type 0
+ItemSound k = (x : ℕ) → Sound (guard (k .good x) (k .reason x) (is x))
 
-items-sound : (k : Items) (n : ℕ) (s : List ℕ) → Sound (itemsRead (ranged k) n s)
+item-sound : (k : Section) → ItemSound k → (s : List ℕ) → Sound (itemRead k s)
+unfolding itemRead
+item-sound k h s = guarded (leb (k .width) (length s)) SheetEndsEarly (h (number (k .width) s))
+
+items-sound : (k : Section) → ItemSound k → (n : ℕ) (s : List ℕ) → Sound (itemsRead k n s)
 unfolding itemsRead
-items-sound k zero s = given []
-items-sound k (suc n) s =
-    sound-then (λ x. andThen (itemsRead (ranged k) n (drop (k .width) s)) (λ xs. is (x ∷ xs))) (item-sound k s)
-    (λ x. sound-then (λ xs. is (x ∷ xs)) (items-sound k n (drop (k .width) s)) (λ xs. given (x ∷ xs)))
+items-sound k h zero s = given []
+items-sound k h (suc n) s =
+    sound-then (λ x. andThen (itemsRead k n (drop (k .width) s)) (λ xs. is (x ∷ xs))) (item-sound k h s)
+    (λ x. sound-then (λ xs. is (x ∷ xs)) (items-sound k h n (drop (k .width) s)) (λ xs. given (x ∷ xs)))
 
 count-sound : (k : Section) (s : List ℕ) → Sound (countRead k s)
 unfolding countRead
 count-sound k s = guarded (leb 2 (length s)) SheetEndsEarly (guarded (leb (countOf s) (k .items)) CountTooLarge (given (countOf s)))
 
-section-sound : (k : Items) (s : List ℕ) → Sound (sectionRead (ranged k) s)
+any-section-sound : (k : Section) → ItemSound k → (s : List ℕ) → Sound (sectionRead k s)
 unfolding sectionRead
-section-sound k s = sound-then (λ n. itemsRead (ranged k) n (drop 2 s)) (count-sound (ranged k) s) (λ n. items-sound k n (drop 2 s))
+any-section-sound k h s = sound-then (λ n. itemsRead k n (drop 2 s)) (count-sound k s) (λ n. items-sound k h n (drop 2 s))
+
+section-sound : (k : Items) (s : List ℕ) → Sound (sectionRead (ranged k) s)
+section-sound k = any-section-sound (ranged k) (λ x. guarded (within (k .least) (k .most) x) (k .reason) (given x))
 
 module _ (k : Section) (ks : List Section) where
   next-sound-read : ((s : List ℕ) → Sound (sectionRead k s)) → ((s : List ℕ) → Sound (sectionsRead ks s)) → (s : List ℕ) → Sound (sectionsRead (k ∷ ks) s)
@@ -223,16 +247,54 @@ end-sound : (s : List ℕ) → Sound (sectionsRead [] s)
 unfolding sectionsRead
 end-sound s = guarded (leb (length s) 0) BytesAfterLast (given tt)
 
-pub read-sound : (s : List ℕ) (y m d : ℕ) → Sound (readInto s y m d)
-unfolding readInto readSheet
-read-sound s y m d =
-    sound-then (λ l. guard (room l y m d) 12 (is l))
-    (sound-then (λ l. is (named l))
+sheet-sound : (s : List ℕ) → Sound (readSheet s)
+unfolding readSheet
+sheet-sound s =
+    sound-then (λ l. is (named l))
     (next-sound-read (ranged yearItems) (ranged monthItems ∷ ranged dayItems ∷ []) (section-sound yearItems)
     (next-sound-read (ranged monthItems) (ranged dayItems ∷ []) (section-sound monthItems)
     (next-sound-read (ranged dayItems) [] (section-sound dayItems) end-sound)) s)
-    (λ l. given (named l)))
-    (λ l. guarded (room l y m d) LentTooShort (given l))
+    (λ l. given (named l))
+
+pub read-sound : (s : List ℕ) (y m d : ℕ) → Sound (readInto s y m d)
+unfolding readInto
+read-sound s y m d = sound-then (λ l. guard (room l y m d) 12 (is l)) (sheet-sound s) (λ l. guarded (room l y m d) LentTooShort (given l))
+
+-- a sheet of the new form read, and converted: the tests of a reading, then the sections
+test-sound : (v : List ℕ) → Sound (tested v)
+unfolding tested
+test-sound v =
+    guarded (leb (firstIn v) 14989859 && leb (lastIn v) 14989859) NoSuchDay
+    (guarded (windowHolds (firstIn v) (lastIn v)) BadWindow (guarded (inRanges (readingIn v)) FieldOutOfRange (given 0)))
+
+by-test : {a : Answer ℕ} (x : ℕ) → Sound a → Sound (guard (isGiven a) (reasonIn a) (is x))
+by-test x (given z) = given x
+by-test x (numbered why) = numbered why
+
+new-sound : (s : List ℕ) → Sound (readNew s)
+unfolding readNew
+new-sound s =
+    sound-then (λ l. is (fourNamed l))
+    (next-sound-read (ranged yearItems) (ranged monthItems ∷ ranged dayItems ∷ readingSection ∷ []) (section-sound yearItems)
+    (next-sound-read (ranged monthItems) (ranged dayItems ∷ readingSection ∷ []) (section-sound monthItems)
+    (next-sound-read (ranged dayItems) (readingSection ∷ []) (section-sound dayItems)
+    (next-sound-read readingSection [] (any-section-sound readingSection (λ x. by-test x (test-sound (eightOf x)))) end-sound))) s)
+    (λ l. given (fourNamed l))
+
+pub read-new-sound : (s : List ℕ) (y m d n : ℕ) → Sound (readNewInto s y m d n)
+unfolding readNewInto
+read-new-sound s y m d n =
+    sound-then (λ l. guard (roomForFour l y m d n) 12 (is l)) (new-sound s) (λ l. guarded (roomForFour l y m d n) LentTooShort (given l))
+
+pub to-new-sound : (s : List ℕ) (n : ℕ) → Sound (toNew s n)
+unfolding toNew
+to-new-sound s n = sound-then (λ l. intoRoom n (s ++ (0 ∷ 0 ∷ []))) (sheet-sound s) (λ l. in-room n (s ++ (0 ∷ 0 ∷ [])))
+
+pub to-old-sound : (s : List ℕ) (n : ℕ) → Sound (toOld s n)
+unfolding toOld
+to-old-sound s n =
+    sound-then (λ l. guard (leb (length (l .readings)) 0) 17 (intoRoom n (take (length s - 2) s))) (new-sound s)
+    (λ l. guarded (leb (length (l .readings)) 0) ReadingsPresent (in-room n (take (length s - 2) s)))
 
 -- and written
 values-sound : (k : Items) (xs : List ℕ) → Sound (itemsWritten (ranged k) xs)

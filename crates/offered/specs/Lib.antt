@@ -3,4 +3,5 @@ pub mod Flat
 pub mod Structs
 pub mod Promises
 pub mod Yearbook
+pub mod Renewed
 pub mod Paper

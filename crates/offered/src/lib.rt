@@ -151,6 +151,16 @@ pub struct CSheetCounts {
     pub days: usize,
 }
 
+// The same of a sheet of the new form, with its readings.
+#[repr(C)]
+pub struct CNewCounts {
+    pub reason: u32,
+    pub years: usize,
+    pub months: usize,
+    pub days: usize,
+    pub readings: usize,
+}
+
 // How many bytes were written.
 #[repr(C)]
 pub struct CLength {

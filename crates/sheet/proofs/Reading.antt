@@ -3,15 +3,15 @@
 use Prim.Native.Nat.{ℕ, zero, suc, _+_, _-_, _*_, _≤_, _<_}
 use native.Mathlib.Nat.{mul-suc, mul-zero}
 use native.Mathlib.Omega.{arith}
-use mathlib.Core.Path.{_≡_, refl, ap, sym, _∙_}
+use mathlib.Core.Path.{_≡_, refl, ap, sym, _∙_, subst}
 use mathlib.Core.Logic.{_↔_, Iff·rfl}
 use mathlib.Core.Bool.{true, false, _&&_}
 use mathlib.Core.List.{List, [], _∷_, _++_}
 use lib.Dec.{leb}
 use lib.ListN.{length, take, drop, length-drop}
-use lib.Seq.{drop-append-le}
+use lib.Seq.{drop-append-le, drop-drop}
 use borrow.Author.Tests.{le-leb, lt-leb}
-use Rattle.rule.specs.Reasons.{Answer, is, refused, guard, andThen}
+use Rattle.rule.specs.Reasons.{Answer, is, refused, refused-with, guard, andThen}
 use Rattle.rule.proofs.Answers.{both-true, at-most}
 use Rattle.rule.proofs.Stores.{part-all}
 use Rattle.sheet.specs.declared.Counted.{Counted}
@@ -26,16 +26,25 @@ use Rattle.sheet.specs.Sheet.{
   itemsOf,
   leftAfter,
   listsOf,
+  ListsFor,
   sectionsRead,
+  ranged,
+  yearItems,
+  monthItems,
+  dayItems,
   sheetSections,
   Lists,
   named,
+  monthsPart,
+  daysPart,
   listsIn,
   readSheet,
   room,
   readInto,
 }
 use Rattle.sheet.specs.Faults.{
+  First,
+  NoFault,
   GoodItem,
   ItemFault,
   GoodItems,
@@ -50,6 +59,7 @@ use Rattle.sheet.specs.Faults.{
   SheetFault,
 }
 use Rattle.sheet.specs.Promises.{countsAre, countsIn}
+use Rattle.sheet.specs.Steps.{frontRead, leftOver, GoodFront, bytesOf, FewOf}
 use Rattle.bytes.proofs.Numbers.{number-append}
 use Rattle.sheet.proofs.Deciding.{
   Decides,
@@ -59,6 +69,7 @@ use Rattle.sheet.proofs.Deciding.{
   and-then,
   made-into,
   if-given,
+  refused-of,
   then-made,
   stops-there,
   goes-on,
@@ -197,31 +208,120 @@ countsFrom (k ∷ ks) t y m d = countsFrom ks (leftAfter k t) m d (countOf t)
 
 -- what the sections ks of t come to, y, m and d being the last counts before them
 pub checked : List Section → List ℕ → ℕ → ℕ → ℕ → Answer Counted
-checked ks t y m d = andThen (sectionsRead ks t) (λ l. is (countsFrom ks t y m d))
+checked ks t y m d = andThen (frontRead ks t) (λ l. is (countsFrom ks t y m d))
 
-pub all-to-check : (s : List ℕ) (y m d : ℕ) → checked sheetSections s y m d ≡ andThen (sectionsRead sheetSections s) (λ l. is (countsIn s))
+pub all-to-check : (s : List ℕ) (y m d : ℕ) → checked sheetSections s y m d ≡ andThen (frontRead sheetSections s) (λ l. is (countsIn s))
 unfolding checked countsFrom
 all-to-check s y m d = refl
 
 module _ (k : Section) (ks all : List Section) (e : all ≡ k ∷ ks) (t : List ℕ) (y m d : ℕ) where
   pub stops-at : (r : ℕ) → andThen (sectionRead k t) (λ xs. is (countOf t)) ≡ refused r → checked all t y m d ≡ refused r
-  unfolding checked sectionsRead
-  stops-at r h = rw (e) (stops-there (sectionRead k t) (sectionsRead ks (leftAfter k t)) (λ xs l. (xs, l)) (countOf t) _ r h)
+  unfolding checked frontRead
+  stops-at r h = rw (e) (stops-there (sectionRead k t) (frontRead ks (leftAfter k t)) (λ xs l. (xs, l)) (countOf t) _ r h)
 
   pub passes-at : (n : ℕ) → andThen (sectionRead k t) (λ xs. is (countOf t)) ≡ is n →
       checked ks (take (length t - (2 + k .width * n)) (drop (2 + k .width * n) t)) m d n ≡ checked all t y m d
-  unfolding checked sectionsRead countsFrom
+  unfolding checked frontRead countsFrom
   passes-at n h =
       let f = found k t t n refl h in
       rw (e, f .next, ← f .count)
-      (sym (goes-on (sectionRead k t) (sectionsRead ks (leftAfter k t)) (λ xs l. (xs, l)) (countOf t) _ n h))
+      (sym (goes-on (sectionRead k t) (frontRead ks (leftAfter k t)) (λ xs l. (xs, l)) (countOf t) _ n h))
 
--- the end: 11 for bytes after the last section
-module _ (all : List Section) (e : all ≡ []) (t : List ℕ) (y m d : ℕ) where
-  pub bytes-after : 0 < length t → checked all t y m d ≡ refused 11
-  unfolding checked sectionsRead
-  bytes-after h = rw (e, lt-leb (length t) 0 h)
+-- no section more
+pub all-checked : (all : List Section) → all ≡ [] → (t : List ℕ) (y m d : ℕ) → checked all t y m d ≡ is (countsAre y m d)
+unfolding checked frontRead countsFrom
+all-checked all e t y m d = rw (e)
 
-  pub nothing-after : length t ≤ 0 → checked all t y m d ≡ is (countsAre y m d)
-  unfolding checked sectionsRead countsFrom
-  nothing-after h = rw (e, le-leb (length t) 0 h)
+-- sections at the front of more: what decides them
+unfoldable FrontFault : List Section → List ℕ → ℕ → Type 0
+FrontFault [] s = NoFault
+FrontFault (k ∷ ks) s = First (SectionFault k s) (GoodSection k s) (FrontFault ks (leftAfter k s))
+
+front-decided : (ks : List Section) (s : List ℕ) → Decides (frontRead ks s) (listsOf ks s) (FrontFault ks s) (GoodFront ks s)
+unfolding frontRead listsOf FrontFault GoodFront
+front-decided [] s = asks-nothing tt
+front-decided (k ∷ ks) s =
+    and-then (section-decided k s) (λ xs. andThen (frontRead ks (leftAfter k s)) (λ l. is (xs, l)))
+    (made-into (front-decided ks (leftAfter k s)) (λ l. (itemsOf k s, l)))
+
+-- where only whether all are good is asked: first those at the front, then the others from what is left
+one-by-one : {X Y W U P Q Z : Type 0} (a : Answer X) (b : Answer Y) (c : Answer W) (d : Answer U) (f : X → Y → P) (g : X → W → Q) (z : Z) →
+    andThen b (λ y. is z) ≡ andThen c (λ w. andThen d (λ u. is z)) →
+    andThen (andThen a (λ x. andThen b (λ y. is (f x y)))) (λ p. is z) ≡ andThen (andThen a (λ x. andThen c (λ w. is (g x w)))) (λ q. andThen d (λ u. is z))
+one-by-one (is x) b c d f g z e = then-made b (f x) (λ p. is z) ∙ e ∙ sym (then-made c (g x) (λ q. andThen d (λ u. is z)))
+one-by-one (refused r) b c d f g z e = refl
+one-by-one (refused-with r n) b c d f g z e = refl
+
+pub front-then : {Z : Type 0} (ks ls : List Section) (s : List ℕ) (z : Z) →
+    andThen (sectionsRead (ks ++ ls) s) (λ l. is z) ≡ andThen (frontRead ks s) (λ l. andThen (sectionsRead ls (leftOver ks s)) (λ m. is z))
+unfolding sectionsRead frontRead leftOver
+front-then [] ls s z = refl
+front-then (k ∷ ks) ls s z =
+    one-by-one (sectionRead k s) (sectionsRead (ks ++ ls) (leftAfter k s)) (frontRead ks (leftAfter k s)) (sectionsRead ls (leftOver ks (leftAfter k s)))
+    (λ xs l. (xs, l)) (λ xs l. (xs, l)) z (front-then ks ls (leftAfter k s) z)
+
+-- the three sections found good at the front of s, with the counts c
+pub record Three (s : List ℕ) (c : Counted) : Type 0 where
+  pub good : GoodFront sheetSections s
+  pub counts : countsIn s ≡ c
+  pub few : FewOf c
+  pub long : bytesOf c ≤ length s
+  pub next : leftOver sheetSections s ≡ drop (bytesOf c) s
+
+pub three-good : (s : List ℕ) → GoodFront sheetSections s → Three s (countsIn s)
+unfolding GoodFront leftOver leftAfter
+three-good s g =
+    let y = countOf s in
+    let m = countOf (monthsPart s) in
+    let d = countOf (daysPart s) in
+    let e : 2 + 2 * y + (2 + 4 * m + (2 + 4 * d)) ≡ 6 + 2 * y + 4 * m + 4 * d = omega arith in
+    record {
+      good = g;
+      counts = refl;
+      few = record { years = g .0 .0 .1; months = g .1 .0 .0 .1; days = g .1 .1 .0 .0 .1 };
+      long =
+          omega (
+            arith,
+            section-long (ranged yearItems) s (g .0),
+            section-long (ranged monthItems) (monthsPart s) (g .1 .0),
+            section-long (ranged dayItems) (daysPart s) (g .1 .1 .0),
+            length-drop (2 + 2 * y) s,
+            length-drop (2 + 4 * m) (monthsPart s),
+          );
+      next =
+          drop-drop (2 + 4 * d) (2 + 4 * m) (monthsPart s)
+          ∙ drop-drop (2 + 4 * m + (2 + 4 * d)) (2 + 2 * y) s
+          ∙ ap (λ (i : ℕ). drop i s) e;
+    }
+
+pub three : (s : List ℕ) (c : Counted) → andThen (frontRead sheetSections s) (λ l. is (countsIn s)) ≡ is c → Three s c
+three s c h =
+    let a = if-given (made-into (front-decided sheetSections s) (λ l. countsIn s)) c h in
+    subst (Three s) (a .1) (three-good s (a .0))
+
+-- after them the end: 11 for bytes after the last section
+module _ (s : List ℕ) where
+  pub three-refused : {Z : Type 0} (ls : List Section) (r : ℕ) (z : Z) → andThen (frontRead sheetSections s) (λ l. is (countsIn s)) ≡ refused r →
+      andThen (sectionsRead (sheetSections ++ ls) s) (λ l. is z) ≡ refused r
+  three-refused {Z} ls r z h =
+      front-then sheetSections ls s z
+      ∙ ap (λ (a : Answer (ListsFor sheetSections)). andThen a (λ l. andThen (sectionsRead ls (leftOver sheetSections s)) (λ m. is z)))
+      (refused-of (frontRead sheetSections s) (λ l. countsIn s) r (sym h))
+
+  pub three-then : {Z : Type 0} (ls : List Section) (c : Counted) (z : Z) → Three s c →
+      andThen (sectionsRead (sheetSections ++ ls) s) (λ l. is z) ≡ andThen (sectionsRead ls (drop (bytesOf c) s)) (λ m. is z)
+  three-then {Z} ls c z t =
+      front-then sheetSections ls s z
+      ∙ ap (λ (a : Answer (ListsFor sheetSections)). andThen a (λ l. andThen (sectionsRead ls (leftOver sheetSections s)) (λ m. is z)))
+      (front-decided sheetSections s .given (t .good))
+      ∙ ap (λ (u : List ℕ). andThen (sectionsRead ls u) (λ m. is z)) (t .next)
+
+  pub bytes-after : (c : Counted) → Three s c → bytesOf c < length s → andThen (sectionsRead sheetSections s) (λ l. is (countsIn s)) ≡ refused 11
+  unfolding sectionsRead
+  bytes-after c t h = three-then [] c (countsIn s) t ∙ rw (lt-leb (length (drop (bytesOf c) s)) 0 (omega (arith, h, length-drop (bytesOf c) s)))
+
+  pub nothing-after : (c : Counted) → Three s c → length s ≤ bytesOf c → andThen (sectionsRead sheetSections s) (λ l. is (countsIn s)) ≡ is c
+  unfolding sectionsRead
+  nothing-after c t h =
+      three-then [] c (countsIn s) t
+      ∙ rw (le-leb (length (drop (bytesOf c) s)) 0 (omega (arith, h, length-drop (bytesOf c) s))) (ap is (t .counts))

@@ -4,7 +4,7 @@ use native.Mathlib.Omega.{arith}
 use mathlib.Core.Path.{_≡_, refl, ap, sym, _∙_}
 use mathlib.Core.Logic.{_↔_}
 use mathlib.Core.Bool.{Bool, true, false, not, _&&_}
-use mathlib.Core.List.{List, [], _∷_}
+use mathlib.Core.List.{List, [], _∷_, _++_}
 use lib.Dec.{leb}
 use lib.ListN.{length, drop}
 use lib.Seq.{sets}
@@ -52,7 +52,7 @@ use Rattle.sheet.specs.Faults.{
   GoodLists,
 }
 use Rattle.sheet.specs.Promises.{counted, countsIn, ReadSheet, WriteSheet}
-use Rattle.sheet.specs.Steps.{ToFill, Filled, ToLay}
+use Rattle.sheet.specs.Steps.{leftOver, GoodFront, ToFill, Filled, ToLay}
 use Rattle.sheet.proofs.Deciding.{made-into, if-given, if-refused}
 use Rattle.sheet.proofs.Reading.{sections-decided, room-iff, into-decided, Found, found-good}
 use Rattle.sheet.proofs.Laying.{length-sheet}
@@ -89,19 +89,25 @@ counted-lists s =
       length-numbers 4 (countOf (daysPart s)) (drop 2 (daysPart s)),
     )
 
+-- good sections: those at the front, and the others from what is left
+pub front-and-rest : (ks ls : List Section) (s : List ℕ) → GoodSections (ks ++ ls) s → GoodFront ks s × GoodSections ls (leftOver ks s)
+unfolding GoodSections GoodFront leftOver
+front-and-rest [] ls s g = (tt, g)
+front-and-rest (k ∷ ks) ls s g = let r = front-and-rest ks ls (leftAfter k s) (g .1) in ((g .0, r .0), r .1)
+
 -- the three sections of a sheet that is to be filled from
 module _ {s : List ℕ} {y m d : ℕ} {c : Counted} (a : ToFill s y m d c) where
   pub to-years : Found (ranged yearItems) s s (c .years)
-  unfolding GoodSections
+  unfolding GoodFront
   to-years = found-good (ranged yearItems) s s (c .years) refl (sym (ap (λ (c : Counted). c .years) (a .counts))) (a .good .0 .0)
 
   pub to-months : (t : List ℕ) → t ≡ monthsPart s → Found (ranged monthItems) (monthsPart s) t (c .months)
-  unfolding GoodSections
+  unfolding GoodFront
   to-months t e =
       found-good (ranged monthItems) (monthsPart s) t (c .months) e (sym (ap (λ (c : Counted). c .months) (a .counts))) (a .good .0 .1 .0)
 
   pub to-days : (t : List ℕ) → t ≡ daysPart s → Found (ranged dayItems) (daysPart s) t (c .days)
-  unfolding GoodSections
+  unfolding GoodFront
   to-days t e =
       found-good (ranged dayItems) (daysPart s) t (c .days) e (sym (ap (λ (c : Counted). c .days) (a .counts))) (a .good .0 .1 .1 .0)
 
@@ -145,7 +151,7 @@ module _ (s y m d : List ℕ) where
         (later (found-all .0) (record { fails = fails _ has-room .0 (failed b _ e o); reason = refl }))
 
     pub to-fill : not b ≡ false → ToFill s (length y) (length m) (length d) c
-    to-fill o = record { counts = sym (found-all .1); good = (found-all .0, has-room .0 (passed b _ e o)) }
+    to-fill o = record { counts = sym (found-all .1); good = (front-and-rest sheetSections [] s (found-all .0) .0, has-room .0 (passed b _ e o)) }
 
     pub read-filled : not b ≡ false → (y′ m′ d′ : List ℕ) → Filled s y m d y′ m′ d′ → ReadSheet s y m d (Counts'.Is c) y′ m′ d′
     read-filled o y′ m′ d′ w =
@@ -156,7 +162,7 @@ module _ (s y m d : List ℕ) where
           w .months ∙ from-front (l .months) m (g .1 .1),
           w .days ∙ from-front (l .days) d (g .1 .2),
         )
-        (read-given s y m d l c counts (into-decided s (length y) (length m) (length d) .given g))
+        (read-given s y m d l c counts (into-decided s (length y) (length m) (length d) .given (found-all .0, g .1)))
 
 -- what is written, and what is refused
 pub write-refused : (y m d o : List ℕ) (r : Reason) → writeInto (threeLists y m d) (length o) ≡ refused (reasonNumber r) →

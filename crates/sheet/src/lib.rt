@@ -10,7 +10,6 @@ ghost use Rattle.sheet.specs.Sheet.{
   ranged,
   countOf,
   itemsRead,
-  countRead,
   sectionRead,
   sectionsRead,
   sheetSections,
@@ -19,7 +18,7 @@ ghost use Rattle.sheet.specs.Sheet.{
   sheetOf,
   writeSheet,
 };
-ghost use Rattle.sheet.specs.Steps.{SectionAt, ToFill, Filled, ToLay};
+ghost use Rattle.sheet.specs.Steps.{CountRead, frontRead, bytesOf, FewOf, SectionAt, ToFill, Filled, ToLay};
 ghost use Rattle.sheet.specs.Promises.{saidCounts, countsIn, saidHowMany, ReadSheet, WriteSheet};
 use rule::Reason;
 
@@ -76,7 +75,7 @@ const DAYS: Items = Items {
 };
 
 // Are so many bytes left?
-fn is_whole(s: &[u8], width: usize) -> bool
+pub fn is_whole(s: &[u8], width: usize) -> bool
     ensures { λ r. ⌜ r ≡ leb width (length (now (s .entry))) ⌝ }
 {
     width <= s.len()
@@ -89,15 +88,15 @@ fn is_in_section(k: Items, x: u32) -> bool
     rule::in_range(k.least, k.most, x)
 }
 
-// A section's count: reason 9, then 10.
-fn count_at(s: &[u8], k: Items) -> HowMany
-    ensures { λ r. ⌜ saidHowMany r ≡ countRead (ranged k) (now (s .entry)) ⌝ }
+// The count of a section with so many items at most: reason 9, then 10.
+pub fn count_at(s: &[u8], most: usize) -> HowMany
+    ensures { λ r. ⌜ CountRead most (now (s .entry)) r ⌝ }
 {
     if !is_whole(s, 2) {
         return HowMany::Refused(Reason::SheetEndsEarly);
     }
     let n = bytes::number_in(s, 2) as usize;
-    if k.items < n {
+    if most < n {
         return HowMany::Refused(Reason::CountTooLarge);
     }
     HowMany::Is(n)
@@ -130,7 +129,8 @@ fn check_section(s: &[u8], k: Items) -> HowMany
     requires { ⌜ k .width ≤ 4 ⌝ }
     ensures { λ r. ⌜ saidHowMany r ≡ andThen (sectionRead (ranged k) (now (s .entry))) (λ xs. is (countOf (now (s .entry)))) ⌝ }
 {
-    match count_at(s, k) {
+    let most = k.items;
+    match count_at(s, most) {
         HowMany::Refused(r) => HowMany::Refused(r),
         HowMany::Is(n) => check_items(&s[2..], k, n),
     }
@@ -150,9 +150,9 @@ fn section_at(j: usize) -> Items
     DAYS
 }
 
-// The whole sheet: each section is handed what the one before it left, and after the last nothing is left.
-fn check_sheet(s: &[u8]) -> SheetCounts
-    ensures { λ r. ⌜ saidCounts r ≡ andThen (sectionsRead sheetSections (now (s .entry))) (λ l. is (countsIn (now (s .entry)))) ⌝ }
+// The three sections, whatever comes after them: each is handed what the one before it left.
+pub fn check_three(s: &[u8]) -> SheetCounts
+    ensures { λ r. ⌜ saidCounts r ≡ andThen (frontRead sheetSections (now (s .entry))) (λ l. is (countsIn (now (s .entry)))) ⌝ }
 {
     let mut t = s;
     let mut y = 0;
@@ -175,9 +175,6 @@ fn check_sheet(s: &[u8]) -> SheetCounts
         }
         j += 1;
     }
-    if 0 < t.len() {
-        return SheetCounts::Refused(Reason::BytesAfterLast);
-    }
     SheetCounts::Is(Counted {
         years: y,
         months: m,
@@ -185,8 +182,31 @@ fn check_sheet(s: &[u8]) -> SheetCounts
     })
 }
 
-// The items of a sheet that is good, put into three lists with room for them.
-fn fill_sheet(s: &[u8], years: &mut [u16], months: &mut [u32], days: &mut [u32], c: Counted)
+// Where three sections of so many items end.
+pub fn end_of(c: Counted) -> usize
+    requires { ⌜ FewOf c ⌝ }
+    ensures { λ r. ⌜ r ≡ bytesOf c ⌝ }
+{
+    6 + 2 * c.years + 4 * c.months + 4 * c.days
+}
+
+// The whole sheet: after the three sections nothing is left.
+pub fn check_sheet(s: &[u8]) -> SheetCounts
+    ensures { λ r. ⌜ saidCounts r ≡ andThen (sectionsRead sheetSections (now (s .entry))) (λ l. is (countsIn (now (s .entry)))) ⌝ }
+{
+    match check_three(s) {
+        SheetCounts::Refused(r) => SheetCounts::Refused(r),
+        SheetCounts::Is(c) => {
+            if end_of(c) < s.len() {
+                return SheetCounts::Refused(Reason::BytesAfterLast);
+            }
+            SheetCounts::Is(c)
+        }
+    }
+}
+
+// The items of three sections that are good, put into three lists with room for them.
+pub fn fill_sheet(s: &[u8], years: &mut [u16], months: &mut [u32], days: &mut [u32], c: Counted)
     requires { ⌜ ToFill (now s) (length (now years)) (length (now months)) (length (now days)) c ⌝ }
     ensures { λ r. ⌜ Filled (now (s .entry)) (now (years .entry)) (now (months .entry)) (now (days .entry))
         (now (years .exit)) (now (months .exit)) (now (days .exit)) ⌝ }
@@ -202,7 +222,7 @@ fn fill_sheet(s: &[u8], years: &mut [u16], months: &mut [u32], days: &mut [u32],
 }
 
 // Have three lent lists of these lengths room for so many?
-fn has_room(c: Counted, years: usize, months: usize, days: usize) -> bool
+pub fn has_room(c: Counted, years: usize, months: usize, days: usize) -> bool
     ensures { λ r. ⌜ r ≡ (leb (c .years) years && leb (c .months) months && leb (c .days) days) ⌝ }
 {
     let y = c.years <= years;

@@ -49,7 +49,7 @@ use Rattle.sheet.proofs.Sheets.{lists-read, counted-lists, read-refused, read-g
 use Rattle.sheet.proofs.Places.{unlike, InFront, rest-kept, front, counts-once, how-many-once}
 use Rattle.stated.specs.Paper as Paper
 use Rattle.stated.specs.Paper.{AreBytes, monthsFrom, daysFrom, IsSheetOf}
-use Rattle.stated.proofs.RoundTrip.{bytes-laid, AllFit, sections-back, sections-again}
+use Rattle.stated.proofs.RoundTrip.{bytes-laid, AllFit, fit-each, sections-back, sections-again}
 use Rattle.stated.proofs.Ends.{sections-cut, sections-added}
 use Rattle.stated.proofs.Items.{stands-at, laid-at}
 
@@ -80,7 +80,7 @@ sections-literally =
     }
 
 -- the three sections' values fit their bytes
-all-fit : AllFit sheetSections
+pub all-fit : AllFit sheetSections
 all-fit = (
   record { values = λ x h. omega (arith, within-true 0 41040 x .0 h .1); counts = omega arith },
   (
@@ -90,11 +90,11 @@ all-fit = (
 )
 
 -- the sheet of good lists is read as them, and a good sheet is the sheet of its lists
-laid-is-read : (l : Lists) → GoodLists l → GoodSections sheetSections (sheetOf l) × (listsIn (sheetOf l) ≡ l)
+pub laid-is-read : (l : Lists) → GoodLists l → GoodSections sheetSections (sheetOf l) × (listsIn (sheetOf l) ≡ l)
 unfolding sheetOf listsIn
-laid-is-read l g = let a = sections-back sheetSections all-fit (inOrder l) g in (a .0, ap named (a .1))
+laid-is-read l g = let a = sections-back sheetSections (inOrder l) g (fit-each sheetSections all-fit (inOrder l) g) in (a .0, ap named (a .1))
 
-read-is-laid : (s : List ℕ) → AreBytes s → GoodSections sheetSections s → GoodLists (listsIn s) × (sheetOf (listsIn s) ≡ s)
+pub read-is-laid : (s : List ℕ) → AreBytes s → GoodSections sheetSections s → GoodLists (listsIn s) × (sheetOf (listsIn s) ≡ s)
 unfolding sheetOf listsIn
 read-is-laid s b g = (lists-read sheetSections s g, sections-again sheetSections s b g)
 
@@ -235,7 +235,7 @@ reasons-of-lists y m d o =
     }
 
 -- a sheet of three lists is good, and has them
-lists-same : (a b : Lists) → a .years ≡ b .years → a .months ≡ b .months → a .days ≡ b .days → a ≡ b
+pub lists-same : (a b : Lists) → a .years ≡ b .years → a .months ≡ b .months → a .days ≡ b .days → a ≡ b
 lists-same a b y m d =
     ap (λ (x : List ℕ). threeLists x (a .months) (a .days)) y
     ∙ ap (λ (x : List ℕ). threeLists (b .years) x (a .days)) m
@@ -296,7 +296,7 @@ unfolding GoodValues
 equal-values k v zero h = tt
 equal-values k v (suc n) h = (h, equal-values k v n h)
 
-same-items : (k : Section) (v n : ℕ) → GoodValue k v → n ≤ k .items → GoodList k (replicate n v)
+pub same-items : (k : Section) (v n : ℕ) → GoodValue k v → n ≤ k .items → GoodList k (replicate n v)
 same-items k v n h l = (omega (arith, l, length-replicate n v), equal-values k v n h)
 
 full : (n : ℕ) → n ≤ 1000 → (s : List ℕ) × (l : Lists) × IsSheetOf l s × (length s ≡ 6 + 2 * n + 4 * n + 4 * n)

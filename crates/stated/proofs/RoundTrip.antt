@@ -16,7 +16,7 @@ use Rattle.sheet.proofs.Sheets.{length-numbers}
 use Rattle.stated.specs.Paper.{AreBytes}
 
 -- a number laid in bytes is read, and bytes read as a number are laid again
-number-lay : (w x : ℕ) (t : List ℕ) → x < 256 ^ w → number w (lay w x ++ t) ≡ x
+pub number-lay : (w x : ℕ) (t : List ℕ) → x < 256 ^ w → number w (lay w x ++ t) ≡ x
 unfolding number lay
 number-lay zero x t h = omega arith
 number-lay (suc w) x t h =
@@ -24,7 +24,7 @@ number-lay (suc w) x t h =
     let f : number w (lay w (x / 256) ++ t) ≡ x / 256 = number-lay w (x / 256) t (omega arith) in
     ap (λ (n : ℕ). x % 256 + 256 * n) f ∙ omega arith
 
-lay-number : (w : ℕ) (t : List ℕ) → w ≤ length t → AreBytes t → lay w (number w t) ++ drop w t ≡ t
+pub lay-number : (w : ℕ) (t : List ℕ) → w ≤ length t → AreBytes t → lay w (number w t) ++ drop w t ≡ t
 unfolding number lay
 lay-number zero t h b = refl
 lay-number (suc w) [] h b = absurd (omega arith)
@@ -34,16 +34,16 @@ lay-number (suc w) (x ∷ t) h b =
     let f : (x + 256 * number w t) / 256 ≡ number w t = omega arith in
     rw (e, f) (ap (λ (r : List ℕ). x ∷ r) (lay-number w t (omega arith) (λ i. b (suc i))))
 
-bytes-drop : (n : ℕ) (s : List ℕ) → AreBytes s → AreBytes (drop n s)
+pub bytes-drop : (n : ℕ) (s : List ℕ) → AreBytes s → AreBytes (drop n s)
 bytes-drop n s b i = rw (getD-drop n s i 0) (b (n + i))
 
 -- what is laid is bytes
-bytes-append : (s t : List ℕ) → AreBytes s → AreBytes t → AreBytes (s ++ t)
+pub bytes-append : (s t : List ℕ) → AreBytes s → AreBytes t → AreBytes (s ++ t)
 bytes-append [] t b c i = c i
 bytes-append (x ∷ s) t b c zero = b 0
 bytes-append (x ∷ s) t b c (suc i) = bytes-append s t (λ j. b (suc j)) c i
 
-bytes-lay : (w x : ℕ) → AreBytes (lay w x)
+pub bytes-lay : (w x : ℕ) → AreBytes (lay w x)
 unfolding lay
 bytes-lay zero x i = omega arith
 bytes-lay (suc w) x zero = omega arith
@@ -62,7 +62,16 @@ bytes-laid (k ∷ ks) l =
     (bytes-append (lay 2 (length (l .0))) (layAll (k .width) (l .0)) (bytes-lay 2 (length (l .0))) (bytes-all (k .width) (l .0)))
     (bytes-laid ks (l .1))
 
--- a section whose good values fit its bytes, and whose items fit its count
+-- items that fit their bytes, and items in a list for each of the sections; a section's count that fits its bytes
+unfoldable pub SmallItems : Section → List ℕ → Type 0
+SmallItems k [] = Unit {0}
+SmallItems k (x ∷ xs) = (x < 256 ^ k .width) × SmallItems k xs
+
+abbrev SmallEach : (ks : List Section) → ListsFor ks → Type 0
+SmallEach [] l = Unit {0}
+SmallEach (k ∷ ks) l = (k .items < 65536) × (SmallItems k (l .0) × SmallEach ks (l .1))
+
+-- a section whose good values fit its bytes, and whose items fit its count: then good lists fit
 pub record Fit (k : Section) : Type 0 where
   pub values : (x : ℕ) → k .good x ≡ true → x < 256 ^ k .width
   pub counts : k .items < 65536
@@ -71,33 +80,43 @@ abbrev pub AllFit : List Section → Type 0
 AllFit [] = Unit {0}
 AllFit (k ∷ ks) = Fit k × AllFit ks
 
-module _ (k : Section) (fit : Fit k) where
-  -- good items, laid before t
-  items-back : (xs t : List ℕ) → GoodValues k xs →
+fit-items : (k : Section) → Fit k → (xs : List ℕ) → GoodValues k xs → SmallItems k xs
+unfolding GoodValues SmallItems
+fit-items k fit [] g = tt
+fit-items k fit (x ∷ xs) g = (fit .values x (g .0), fit-items k fit xs (g .1))
+
+pub fit-each : (ks : List Section) → AllFit ks → (l : ListsFor ks) → GoodEach ks l → SmallEach ks l
+unfolding GoodEach
+fit-each [] f l g = tt
+fit-each (k ∷ ks) f l g = (f .0 .counts, (fit-items k (f .0) (l .0) (g .0 .1), fit-each ks (f .1) (l .1) (g .1)))
+
+module _ (k : Section) where
+  -- good items that fit, laid before t
+  items-back : (xs t : List ℕ) → GoodValues k xs → SmallItems k xs →
       GoodItems k (length xs) (layAll (k .width) xs ++ t) × (numbers (k .width) (length xs) (layAll (k .width) xs ++ t) ≡ xs)
-  unfolding GoodValues GoodItems numbers layAll
-  items-back [] t g = (tt, refl)
-  items-back (z ∷ xs) t g =
+  unfolding GoodValues SmallItems GoodItems numbers layAll
+  items-back [] t g f = (tt, refl)
+  items-back (z ∷ xs) t g f =
       let w = k .width in
-      let r = items-back xs t (g .1) in
+      let r = items-back xs t (g .1) (f .1) in
       let u : List ℕ = layAll w xs ++ t in
       let e : (lay w z ++ layAll w xs) ++ t ≡ lay w z ++ u = append-assoc (lay w z) (layAll w xs) t in
-      let n : number w (lay w z ++ u) ≡ z = number-lay w z u (fit .values z (g .0)) in
+      let n : number w (lay w z ++ u) ≡ z = number-lay w z u (f .0) in
       let d : drop w (lay w z ++ u) ≡ u = drop-at (lay w z) u w (length-lay w z) in
       let l : w ≤ length (lay w z ++ u) = omega (arith, length-append (lay w z) u, length-lay w z) in
       (rw (e, n, d) ((l, g .0), r .0), rw (e, n, d, r .1))
 
   -- a good list, laid before t
-  section-back : (xs t : List ℕ) → GoodList k xs →
+  section-back : (xs t : List ℕ) → GoodList k xs → k .items < 65536 → SmallItems k xs →
       GoodSection k (laySection k xs ++ t) × (itemsOf k (laySection k xs ++ t) ≡ xs) × (leftAfter k (laySection k xs ++ t) ≡ t)
   unfolding laySection itemsOf leftAfter
-  section-back xs t g =
+  section-back xs t g m f =
       let w = k .width in
       let c : List ℕ = lay 2 (length xs) in
       let u : List ℕ = layAll w xs ++ t in
-      let r = items-back xs t (g .1) in
+      let r = items-back xs t (g .1) f in
       let e : (c ++ layAll w xs) ++ t ≡ c ++ u = append-assoc c (layAll w xs) t in
-      let n : number 2 (c ++ u) ≡ length xs = number-lay 2 (length xs) u (omega (arith, fit .counts, g .0)) in
+      let n : number 2 (c ++ u) ≡ length xs = number-lay 2 (length xs) u (omega (arith, m, g .0)) in
       let d : drop 2 (c ++ u) ≡ u = drop-at c u 2 (length-lay 2 (length xs)) in
       let l : 2 ≤ length (c ++ u) = omega (arith, length-append c u, length-lay 2 (length xs)) in (
         rw (e, n, d) ((l, g .0), r .0),
@@ -105,14 +124,14 @@ module _ (k : Section) (fit : Fit k) where
         rw (e, n, ← drop-drop (w * length xs) 2 (c ++ u), d) (drop-at (layAll w xs) t (w * length xs) (length-layAll w xs)),
       )
 
--- good lists, laid, are read again
-pub sections-back : (ks : List Section) → AllFit ks → (l : ListsFor ks) → GoodEach ks l →
+-- good lists that fit, laid, are read again
+pub sections-back : (ks : List Section) (l : ListsFor ks) → GoodEach ks l → SmallEach ks l →
     GoodSections ks (laySections ks l) × (listsOf ks (laySections ks l) ≡ l)
 unfolding GoodEach GoodSections laySections listsOf
-sections-back [] f l g = (omega arith, refl)
-sections-back (k ∷ ks) f l g =
-    let a = section-back k (f .0) (l .0) (laySections ks (l .1)) (g .0) in
-    let b = sections-back ks (f .1) (l .1) (g .1) in
+sections-back [] l g f = (omega arith, refl)
+sections-back (k ∷ ks) l g f =
+    let a = section-back k (l .0) (laySections ks (l .1)) (g .0) (f .0) (f .1 .0) in
+    let b = sections-back ks (l .1) (g .1) (f .1 .1) in
     ((a .0, rw (a .2) (b .0)), rw (a .1, a .2, b .1))
 
 module _ (k : Section) where

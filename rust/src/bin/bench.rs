@@ -35,6 +35,9 @@ const TEXTS: u64 = 20;
 /// The most bytes of a concordance.
 const TEXT: usize = 65_536;
 
+/// The readings of a full sheet of the new form.
+const READINGS: usize = 500;
+
 /// The items of a full section of a sheet.
 const ITEMS: usize = 1_000;
 
@@ -68,6 +71,7 @@ fn main() -> ExitCode {
     bench.figures();
     bench.sheets();
     bench.concordances();
+    bench.new_sheets();
     for (what, ratio, most) in &bench.bars {
         let met = if ratio <= most { "met" } else { "NOT MET" };
         println!("The bar of {what}: {ratio:.3}, at most {most}: {met}");
@@ -424,6 +428,34 @@ fn judged(judge: Judge, text: &[u8], out: &mut [u8]) -> u64 {
     out[..lines].iter().fold(lines as u64, |sum, &v| {
         sum.wrapping_mul(9).wrapping_add(v.into())
     })
+    /// Reading of a full sheet of the new form: 3 x 1,000 items and 500 readings.
+    fn new_sheets(&mut self) {
+        let years: Vec<u16> = (0..ITEMS).map(|i| (i * 41 + 1) as u16).collect();
+        let months: Vec<u32> = (0..ITEMS).map(|i| (i * 507) as u32).collect();
+        let days: Vec<u32> = (0..ITEMS).map(|i| (i * 14_989) as u32).collect();
+        let mut sheet = vec![0; 10_006];
+        capi::write_sheet(&years, &months, &days, &mut sheet).expect("the lists are good");
+        sheet.extend((READINGS as u16).to_le_bytes());
+        for i in 0..READINGS as u32 {
+            let fields = [i % 61, i % 13, i % 3, i % 31, i * 7 % 61, i * 11 % 61];
+            sheet.extend(fields.map(|field| field as u8));
+            sheet.extend((i * 29_000).to_le_bytes());
+            sheet.extend((i * 29_000 + i * 55).to_le_bytes());
+        }
+        let mut lent = (
+            vec![0; ITEMS],
+            vec![0; ITEMS],
+            vec![0; ITEMS],
+            vec![0; 8 * READINGS],
+        );
+        let mut own_lent = lent.clone();
+        self.compare(
+            "reading a new sheet of 3 x 1,000 items, 500 readings",
+            SHEETS,
+            || repeat(SHEETS, || read_new(capi::read_new, &sheet, &mut lent)),
+            || repeat(SHEETS, || read_new(own::read_new, &sheet, &mut own_lent)),
+        );
+    }
 }
 
 /// The time of a run, and its sum.
@@ -609,6 +641,30 @@ fn read(read_sheet: ReadSheet, sheet: &[u8], lists: &mut (Vec<u16>, Vec<u32>, Ve
     let lasts =
         u64::from(years[ITEMS - 1]) + u64::from(months[ITEMS - 1]) + u64::from(days[ITEMS - 1]);
     lasts + (counts.years + counts.months + counts.days) as u64
+}
+
+/// A reading of sheets of the new form, of either side, and the lists that are lent to it.
+type ReadNew = fn(
+    &[u8],
+    &mut [u16],
+    &mut [u32],
+    &mut [u32],
+    &mut [u32],
+) -> Result<capi::NewCounts, capi::Reason>;
+type NewLists = (Vec<u16>, Vec<u32>, Vec<u32>, Vec<u32>);
+
+/// Reads a sheet of the new form; one number out of its counts, the last items and every number of the readings.
+fn read_new(read_new: ReadNew, sheet: &[u8], lists: &mut NewLists) -> u64 {
+    let (years, months, days, readings) = lists;
+    let Ok(counts) = read_new(black_box(sheet), years, months, days, readings) else {
+        return 0;
+    };
+    let lasts =
+        u64::from(years[ITEMS - 1]) + u64::from(months[ITEMS - 1]) + u64::from(days[ITEMS - 1]);
+    let numbers: u64 = readings.iter().map(|&number| u64::from(number)).sum();
+    lasts
+        + numbers
+        + (counts.three.years + counts.three.months + counts.three.days + counts.readings) as u64
 }
 
 /// A date in few bytes, so that memory's own speed is not what is measured.

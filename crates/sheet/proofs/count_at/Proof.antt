@@ -14,28 +14,26 @@ count-at-spec =
     tie.close
     (tie.spec
     (λ c κs. search needs)
-    (λ c.
+    (λ c k e.
     let whole = c .before .is-whole in
     rw (failed (whole .result) _ (whole .ensures) (c .if1 .taken)))
     (λ c κs.
     let whole = c .before .is-whole in
     (omega arith, leb-true 2 _ (passed (whole .result) _ (whole .ensures) (c .if1 .left))))
     (λ c. search needs)
-    (λ c.
-    let c3 = c .before .before .before in
-    let c4 = c3 .before in
-    let c6 = c4 .before .before in
-    let args = c6 .args in
-    let number = c .before .before .number-in in
-    let whole = c4 .is-whole in
+    (λ c k h.
+    let c2 = c .before .before in
+    let c3 = c2 .before in
+    let args = c3 .before .before .args in
+    let number = c .before .number-in in
+    let whole = c3 .is-whole in
     let e : countOf (args .s .now) ≡ number .result = sym (number .ensures .0) in
-    rw (passed (whole .result) _ (whole .ensures) (c3 .if1 .left), lt-leb (countOf (args .s .now)) (args .k .items) (omega arith)))
-    (λ c.
-    let c3 = c .before .before .before in
-    let c4 = c3 .before in
-    let c6 = c4 .before .before in
-    let args = c6 .args in
-    let number = c .before .before .number-in in
-    let whole = c4 .is-whole in
+    rw (passed (whole .result) _ (whole .ensures) (c2 .if1 .left), lt-leb (countOf (args .s .now)) (k .items) (omega arith)))
+    (λ c k h.
+    let c2 = c .before .before in
+    let c3 = c2 .before in
+    let args = c3 .before .before .args in
+    let number = c .before .number-in in
+    let whole = c3 .is-whole in
     let e : countOf (args .s .now) ≡ number .result = sym (number .ensures .0) in
-    rw (passed (whole .result) _ (whole .ensures) (c3 .if1 .left), le-leb (countOf (args .s .now)) (args .k .items) (omega arith), e)))
+    rw (passed (whole .result) _ (whole .ensures) (c2 .if1 .left), le-leb (countOf (args .s .now)) (k .items) (omega arith), e)))

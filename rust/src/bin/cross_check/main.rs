@@ -10,6 +10,7 @@ mod facts;
 mod figures;
 mod lent;
 mod lines;
+mod newsheets;
 mod planets;
 mod random;
 mod searches;
@@ -77,6 +78,7 @@ fn all_rows() -> Vec<Row> {
     rows.extend(clerks::rows(SEED + 90));
     rows.extend(figures::rows(SEED + 100));
     rows.extend(concordances::rows(SEED + 120));
+    rows.extend(newsheets::rows(SEED + 140));
     rows.extend(walked::rows());
     rows
 }

@@ -1,0 +1,3 @@
+-- Laws of texts, of reading into four lists, and the proofs of the statements.
+pub mod Reading
+pub mod Paper

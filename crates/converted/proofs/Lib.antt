@@ -1,0 +1,2 @@
+-- Laws of the front of an input, for the converting programs.
+pub mod Paper

@@ -1,0 +1,2 @@
+-- How much of an input the converting programs need.
+pub mod Paper

@@ -1,0 +1,2 @@
+-- The request's sentences on the new form.
+pub mod Paper
