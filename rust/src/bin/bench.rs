@@ -52,6 +52,7 @@ const CONCORDANCE: f64 = 1.5;
 
 /// And what the yearbook's figures of the slowest range may take, in times of the fastest.
 const FIGURES_APART: f64 = 3.0;
+const NEW_SHEET: f64 = 1.0;
 
 fn main() -> ExitCode {
     println!("Times of one call, the best of {RUNS} runs or more; a ratio above 1 means that capi is slower.");
@@ -449,12 +450,13 @@ fn judged(judge: Judge, text: &[u8], out: &mut [u8]) -> u64 {
             vec![0; 8 * READINGS],
         );
         let mut own_lent = lent.clone();
-        self.compare(
+        let ratio = self.compare(
             "reading a new sheet of 3 x 1,000 items, 500 readings",
             SHEETS,
             || repeat(SHEETS, || read_new(capi::read_new, &sheet, &mut lent)),
             || repeat(SHEETS, || read_new(own::read_new, &sheet, &mut own_lent)),
         );
+        self.hold("reading a new sheet", ratio, NEW_SHEET);
     }
 }
 
