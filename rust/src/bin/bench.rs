@@ -49,10 +49,10 @@ const SEARCH_BY_MONTHS: f64 = 1.0;
 const EMEND_BY_DAYS: f64 = 0.1;
 const EMEND_BY_MONTHS: f64 = 1.2;
 const CONCORDANCE: f64 = 1.5;
+const NEW_SHEET: f64 = 1.0;
 
 /// And what the yearbook's figures of the slowest range may take, in times of the fastest.
 const FIGURES_APART: f64 = 3.0;
-const NEW_SHEET: f64 = 1.0;
 
 fn main() -> ExitCode {
     println!("Times of one call, the best of {RUNS} runs or more; a ratio above 1 means that capi is slower.");
