@@ -1,5 +1,5 @@
--- What the request "Readings in the sheet" says, as statements. proofs/Paper.antt proves each under the same name in small letters.
--- Assumes nothing.
+-- What the request "Readings in the sheet" says, as statements. proofs/Paper.antt, and of the wrong versions
+-- proofs/Wrong.antt, proves each under the same name in small letters. Assumes nothing.
 use Prim.Native.Nat.{ℕ, suc, _+_, _*_, _≤_, _<_}
 use mathlib.Core.Path.{_≡_}
 use mathlib.Core.Logic.{_↔_}
