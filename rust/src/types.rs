@@ -545,6 +545,8 @@ impl Verdict {
             _ => None,
         }
     }
+}
+
 /// How many items each of the lists of a sheet of the new form has.
 #[derive(Clone, Copy, Debug, PartialEq, Eq)]
 pub struct NewCounts {

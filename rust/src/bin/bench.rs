@@ -400,35 +400,7 @@ impl Bench {
             || repeat(TEXTS, || judged(own::judge_text, text, &mut own_out)),
         )
     }
-}
 
-/// A text of the most bytes, of months' lines from month 115,000 on; the last is cut. A line's place may be given a byte to damage.
-fn concordance(damage: impl Fn(usize) -> Option<usize>) -> Vec<u8> {
-    let mut text = Vec::new();
-    for i in 0.. {
-        let mut line = [0; 48];
-        let length = own::print_month_line(115_000 + i as u64, &mut line).unwrap_or(0);
-        if let Some(place) = damage(i) {
-            line[place % (length - 1)] ^= 1;
-        }
-        text.extend_from_slice(&line[..length]);
-        if text.len() > TEXT {
-            break;
-        }
-    }
-    text.truncate(TEXT);
-    text
-}
-
-/// The judging of a text, of either side.
-type Judge = fn(&[u8], &mut [u8]) -> Result<usize, Reason>;
-
-/// Judges a text; one number out of how many lines there are, and every verdict.
-fn judged(judge: Judge, text: &[u8], out: &mut [u8]) -> u64 {
-    let lines = judge(black_box(text), out).unwrap_or(0);
-    out[..lines].iter().fold(lines as u64, |sum, &v| {
-        sum.wrapping_mul(9).wrapping_add(v.into())
-    })
     /// Reading of a full sheet of the new form: 3 x 1,000 items and 500 readings.
     fn new_sheets(&mut self) {
         let years: Vec<u16> = (0..ITEMS).map(|i| (i * 41 + 1) as u16).collect();
@@ -458,6 +430,35 @@ fn judged(judge: Judge, text: &[u8], out: &mut [u8]) -> u64 {
         );
         self.hold("reading a new sheet", ratio, NEW_SHEET);
     }
+}
+
+/// A text of the most bytes, of months' lines from month 115,000 on; the last is cut. A line's place may be given a byte to damage.
+fn concordance(damage: impl Fn(usize) -> Option<usize>) -> Vec<u8> {
+    let mut text = Vec::new();
+    for i in 0.. {
+        let mut line = [0; 48];
+        let length = own::print_month_line(115_000 + i as u64, &mut line).unwrap_or(0);
+        if let Some(place) = damage(i) {
+            line[place % (length - 1)] ^= 1;
+        }
+        text.extend_from_slice(&line[..length]);
+        if text.len() > TEXT {
+            break;
+        }
+    }
+    text.truncate(TEXT);
+    text
+}
+
+/// The judging of a text, of either side.
+type Judge = fn(&[u8], &mut [u8]) -> Result<usize, Reason>;
+
+/// Judges a text; one number out of how many lines there are, and every verdict.
+fn judged(judge: Judge, text: &[u8], out: &mut [u8]) -> u64 {
+    let lines = judge(black_box(text), out).unwrap_or(0);
+    out[..lines].iter().fold(lines as u64, |sum, &v| {
+        sum.wrapping_mul(9).wrapping_add(v.into())
+    })
 }
 
 /// The time of a run, and its sum.
