@@ -15,7 +15,7 @@ use Rattle.newsheet.specs.declared.NewCounts.{NewCounts}
 use Rattle.newsheet.specs.declared.NewCounts.the-variants as NewCounts'
 use Rattle.newsheet.specs.New.{eights, readNewInto, toNew, toOld}
 use Rattle.newsheet.specs.Promises.{saidNew, countedFour, ReadNew, ToNew, ToOld}
-use Rattle.newstated.specs.Paper.{emptyNew, sheetOfReading, sheetOfTwoReadings, known22, allUnread, month13-past, leapByte}
+use Rattle.newstated.specs.Paper.{emptyNew, sheetOfReading, sheetOfTwoReadings, known22, unreadBytes, month13-past, leapByte}
 use Rattle.offered.specs.declared.CNewCounts.{CNewCounts}
 use Rattle.offered.specs.declared.CLength.{CLength}
 use Rattle.offered.specs.Flat.{flat, givenLength, flatLength}
@@ -101,7 +101,7 @@ pub record Wrong-renewed : Type 0 where
       (r : CNewCounts) (y m d : List ℕ) → CReadNew (sheetOfReading known22) [] [] [] (replicate 8 7) r y m d (replicate 8 7) → ⊥
   pub fields-of-the-first-for-all :
       (r : CNewCounts) (y m d : List ℕ) →
-      CReadNew (sheetOfTwoReadings known22 allUnread) [] [] [] (replicate 16 7) r y m d
+      CReadNew (sheetOfTwoReadings known22 unreadBytes) [] [] [] (replicate 16 7) r y m d
       (22 ∷ 1 ∷ 1 ∷ 9 ∷ 60 ∷ 52 ∷ 258 ∷ 515 ∷ 22 ∷ 1 ∷ 1 ∷ 9 ∷ 60 ∷ 52 ∷ 0 ∷ 27758 ∷ []) →
       ⊥
   pub fields-before-the-ends : (y m d n : List ℕ) → CReadNew (sheetOfReading month13-past) [] [] [] (replicate 8 7) (noFour 14) y m d n → ⊥
@@ -109,7 +109,7 @@ pub record Wrong-renewed : Type 0 where
       (c : FourCounts) (y m d n : List ℕ) → CReadNew (sheetOfReading (leapByte 3)) [] [] [] (replicate 8 7) (givenFour c) y m d n → ⊥
   pub one-count-for-two :
       (y m d n : List ℕ) →
-      CReadNew (sheetOfTwoReadings known22 allUnread) [] [] [] (replicate 16 7) (record { reason = 0; years = 0; months = 0; days = 0; readings = 1 }) y m d n →
+      CReadNew (sheetOfTwoReadings known22 unreadBytes) [] [] [] (replicate 16 7) (record { reason = 0; years = 0; months = 0; days = 0; readings = 1 }) y m d n →
       ⊥
   pub new-refusing-all : (r : CLength) (o : List ℕ) → CToNew emptySheet (replicate 8 9) r o → r .reason ≢ 0 → ⊥
   pub new-without-a-count : (r : CLength) → CToNew emptySheet (replicate 8 9) r (emptySheet ++ (9 ∷ 9 ∷ [])) → ⊥
