@@ -178,7 +178,7 @@ fn ffi_calls(text: &str, names: &BTreeMap<String, String>) -> Declared {
 fn ffi_declares_what_the_header_does() {
     let text = file("src/ffi.rs");
     let (structs, names) = ffi_structs(&text);
-    assert_eq!(structs.len(), 19);
+    assert_eq!(structs.len(), 20);
     assert_eq!(structs, header_structs());
     let calls = ffi_calls(&text, &names);
     assert_eq!(calls.len(), 29);
