@@ -71,7 +71,10 @@ answer-figures-spec =
     (λ c. let q = c .before .before .before .before .before .before .before in sym (leaps-long (q .before .before .figures-of .ensures) (q .f .given .1)))
     put-counts-requires
     (λ c. search needs)
-    (λ c. let q = c .before .before .before .before .before .before .before .before .before .before .before .before .before in sym (names-long (q .before .before .figures-of .ensures) (q .f .given .1)))
+    (λ c.
+    let b5 = c .before .before .before .before .before in
+    let q = b5 .before .before .before .before .before .before .before .before in
+    sym (names-long (q .before .before .figures-of .ensures) (q .f .given .1)))
     put-counts-requires-2
     (λ c. search needs)
     (λ c κs. search needs)

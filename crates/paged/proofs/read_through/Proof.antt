@@ -24,7 +24,42 @@ use ghost.Atoms.{Atoms, sem}
 use contract.Monad.{Fun, fact}
 use contract.Running.{givenOf, tables, tablesOf}
 use contract.BorrowLft.{meet-⊑-right}
-use types.Kit.{Given, Item, ‵, raw, _⊛_, some, later, ⋆, anyQ, atRet, Sq, runs, _$_, _∵_, !, qed, by, move, drop, use0, use1, use2, use3, split, join, pick, rewrite, fsplit, fjoin, feqI, suffices, frame, await, done}
+use types.Kit.{
+  Given,
+  Item,
+  ‵,
+  raw,
+  _⊛_,
+  some,
+  later,
+  ⋆,
+  anyQ,
+  atRet,
+  Sq,
+  runs,
+  _$_,
+  _∵_,
+  !,
+  qed,
+  by,
+  move,
+  drop,
+  use0,
+  use1,
+  use2,
+  use3,
+  split,
+  join,
+  pick,
+  rewrite,
+  fsplit,
+  fjoin,
+  feqI,
+  suffices,
+  frame,
+  await,
+  done,
+}
 use types.Run.{
   look,
   init,
