@@ -165,6 +165,8 @@ module _ (t : RefT (List ℕ)) (reader : ℕ → Reader) (says : ℕ → LineTol
         );
         numbers = λ i l. ap (λ (r : Reader). r .line) (stands i l);
         places = λ i l. ap (λ (r : Reader). r .place) (stands i l);
+        lines = λ i l. ap (λ (r : Reader). lineAt s (r .place)) (stands i (omega (arith, l))) ∙ line-is s i (before-end i l);
+        to-the-end = omega (arith, at-end, ap (λ (r : Reader). r .place) (stands n (omega arith)));
         over = λ i l. past i l .0;
         stays = λ i l. past i l .1 ∙ sym (stands-on i l);
       }

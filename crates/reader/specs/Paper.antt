@@ -13,8 +13,8 @@ use Rattle.concordance.specs.declared.Verdict.{Verdict}
 use Rattle.concordance.specs.declared.Verdict.the-variants.{Wrong, Unreadable}
 use Rattle.concordance.specs.declared.LineTold.{LineTold}
 use Rattle.concordance.specs.declared.LineTold.the-variants as LineTold'
-use Rattle.concordance.specs.Text.{placeOf}
-use Rattle.concordance.specs.Verdicts.{verdictNumber}
+use Rattle.concordance.specs.Text.{linesOf, placeOf}
+use Rattle.concordance.specs.Verdicts.{verdictNumber, lineAt}
 use Rattle.concordance.specs.Promises.{JudgeText}
 use Rattle.reader.specs.declared.Reader.{Reader}
 use Rattle.reader.specs.Readers.{opened, NextLine}
@@ -29,11 +29,13 @@ pub record Steps (t : RefT (List ℕ)) (reader : ℕ → Reader) (says : ℕ →
   pub step : (i : ℕ) → NextLine (reader i) (reader (i + 1)) (says i)
 
 -- the reader's i-th verdict and line number are the call's: where the call answers n, the first n steps give its n verdicts, in order, and
--- the line numbers 1 to n; and every further step that none is left, and leaves the reader as it was
+-- the line numbers 1 to n, each from the place where its line starts; and every further step that none is left, and leaves the reader as it was
 pub record AsTheCall (t : RefT (List ℕ)) (n : ℕ) (out : List ℕ) (reader : ℕ → Reader) (says : ℕ → LineTold) : Type 0 where
   pub verdicts : (i : ℕ) → i < n → (v : Verdict) × (says i ≡ LineTold'.Line v) × (verdictNumber v ≡ getD out i 0)
   pub numbers : (i : ℕ) → i ≤ n → reader i .line ≡ i
   pub places : (i : ℕ) → i ≤ n → reader i .place ≡ placeOf (now t) i
+  pub lines : (i : ℕ) → i < n → lineAt (now t) (reader i .place) ≡ getD (linesOf (now t)) i []
+  pub to-the-end : length (now t) ≤ reader n .place
   pub over : (i : ℕ) → n ≤ i → says i ≡ LineTold'.Ended
   pub stays : (i : ℕ) → n ≤ i → reader (i + 1) ≡ reader i
 
