@@ -2,6 +2,7 @@
 -- says nothing of this crate.
 --     mid g ds ys i    the first i places of ys hold the images of ds's first i elements
 --     mid-length       it is as long as ys
+--     mid-at           what a filled place holds
 --     mid-next         place i is filled too
 --     mid-ends         all are filled
 -- Assumes nothing.
@@ -30,6 +31,14 @@ module _ {X Y : Type 0} (g : X → Y) where
   mid-length [] ys (suc i) = refl
   mid-length (d ∷ ds) [] (suc i) = refl
   mid-length (d ∷ ds) (y ∷ ys) (suc i) = ap suc (mid-length ds ys i)
+
+  pub mid-at : (ds : List X) (ys : List Y) (i j : ℕ) (e : X) (z : Y) → j < i → j < length ds → j < length ys → getD (mid ds ys i) j z ≡ g (getD ds j e)
+  unfolding mid
+  mid-at ds ys zero j e z b l m = absurd (not-suc-le-zero b)
+  mid-at [] ys (suc i) j e z b l m = absurd (not-suc-le-zero l)
+  mid-at (d ∷ ds) [] (suc i) j e z b l m = absurd (not-suc-le-zero m)
+  mid-at (d ∷ ds) (y ∷ ys) (suc i) zero e z b l m = refl
+  mid-at (d ∷ ds) (y ∷ ys) (suc i) (suc j) e z b l m = mid-at ds ys i j e z (le-of-suc-le-suc b) (le-of-suc-le-suc l) (le-of-suc-le-suc m)
 
   next : (ds : List X) (ys : List Y) (i : ℕ) (e : X) → i < length ds → i < length ys → set (mid ds ys i) i (g (getD ds i e)) ≡ mid ds ys (suc i)
   unfolding mid

@@ -1,48 +1,51 @@
--- What the days of one month share, and the date of a day made of it. Assumes nothing.
+-- What the days of one month share, and the date of a day made from that of another day of its month. Assumes nothing.
 use Prim.Native.Nat.{ℕ, _+_, _-_, _%_, _^_, _≤_, _<_}
 use native.Mathlib.Omega.{arith}
-use mathlib.Core.Path.{_≡_, refl, ap, sym, _∙_}
+use mathlib.Core.Path.{_≡_, refl, ap, sym, _∙_, subst}
 use Rattle.rule.specs.Counts.{DayInRange, dayName}
 use Rattle.rule.specs.Rule.{monthStart, monthLength, InMonth, monthOfDay}
 use Rattle.rule.proofs.Months.{of-day-low, of-day-high, of-day-only, of-day-range, start-next, start-end, length-range}
 use Rattle.dates.specs.declared.Date.{Date}
 use Rattle.dates.specs.Dates.{dateOf, dateIn}
-use Rattle.drawer.specs.Shared.{OfMonth, Holds}
+use Rattle.drawer.specs.declared.Shared.{Shared}
+use Rattle.drawer.specs.Shared.{noMonth, sharedBy, IsShared, Holds}
 
 -- day of month and length of a day's date, by its month
-its-day : (d : ℕ) → dateOf d .«day_of_month» ≡ d - monthStart (monthOfDay d) + 1
+pub its-day : (d : ℕ) → dateOf d .«day_of_month» ≡ d - monthStart (monthOfDay d) + 1
 unfolding dateOf dateIn
 its-day d = refl
 
-its-length : (d : ℕ) → dateOf d .«month_length» ≡ monthLength (monthOfDay d)
+pub its-length : (d : ℕ) → dateOf d .«month_length» ≡ monthLength (monthOfDay d)
 unfolding dateOf dateIn
 its-length d = refl
 
--- a date says where its month begins and ends: m is its day of month, l its month's length
-module _ (d m l : ℕ) (i : DayInRange d) (p : m ≡ dateOf d .«day_of_month») (q : l ≡ dateOf d .«month_length») where
-  pub day-is : m ≡ d - monthStart (monthOfDay d) + 1
-  day-is = p ∙ its-day d
+-- a date says where its month begins: m is its day of month
+pub first : (d m : ℕ) → m ≡ dateOf d .«day_of_month» → d + 1 - m ≡ monthStart (monthOfDay d)
+first d m p = omega (arith, p ∙ its-day d, of-day-low d)
 
-  first : d + 1 - m ≡ monthStart (monthOfDay d)
-  first = omega (arith, day-is, of-day-low d)
+-- a day that is less than so many days after the first, counted round, is one of them
+pub round : (start count d w : ℕ) → start + count ≤ 14989860 → (w + start) % 2 ^ 32 ≡ d → w < count → Holds start count d
+round start count d w fits e l = (omega arith, omega arith)
 
-  past : d + 1 - m + l ≡ monthStart (monthOfDay d + 1)
-  past = omega (arith, first, q ∙ its-length d, start-next (monthOfDay d))
+-- what is kept before place i: if a day lies in it, a record before i has the date of a day of that month
+pub record Kept (day : ℕ → ℕ) (i : ℕ) (s : Shared) : Type 0 where
+  pub is-shared : IsShared s
+  pub known : (d : ℕ) → Holds (s .start) (s .«month_length») d → (s .at < i) × (s ≡ sharedBy (day (s .at)) (s .at))
 
-  pub made-of : {X : Type 0} (of : ℕ → X) (x : X) → x ≡ of d → OfMonth of (d + 1 - m) l x
-  made-of of x e =
-      record {
-        n = monthOfDay d;
-        e = d;
-        begins = first;
-        ends = past;
-        in-range = of-day-range d .0 i;
-        on-its-days = (of-day-low d, of-day-high d);
-        given = e;
-      }
+pub none-kept : (day : ℕ → ℕ) → Kept day 0 noMonth
+none-kept day = record { is-shared = (omega arith, omega arith); known = λ d h. absurd (let z : d < 0 + 0 = h .1 in omega arith) }
 
-  pub holds-it : Holds (d + 1 - m) l d
-  holds-it = (omega (arith, first, of-day-low d), omega (arith, past, of-day-high d))
+pub still-kept : (day : ℕ → ℕ) (i : ℕ) (s : Shared) → Kept day i s → Kept day (i + 1) s
+still-kept day i s k =
+    record { is-shared = k .is-shared; known = λ d h. (let l : s .at < i = k .known d h .0 in omega arith, k .known d h .1) }
+
+pub now-kept : (day : ℕ → ℕ) (i : ℕ) → DayInRange (day i) → Kept day (i + 1) (sharedBy (day i) i)
+now-kept day i r =
+    record {
+      is-shared =
+          (omega (arith, start-next (monthOfDay (day i)), start-end (monthOfDay (day i) + 1) (omega (arith, of-day-range (day i) .0 r))), length-range (monthOfDay (day i)) .1);
+      known = λ d h. (omega arith, refl);
+    }
 
 -- the date of a day from that of another day of its month: day of month and day name are its own
 abbrev pub withDay : Date → ℕ → ℕ → Date
@@ -60,25 +63,19 @@ withDay r m name =
       eclipse = r .eclipse;
     }
 
-same : (n d e : ℕ) → InMonth n d → InMonth n e → monthOfDay d ≡ monthOfDay e
-same n d e i j = of-day-only n d i ∙ sym (of-day-only n e j)
+-- day d lies in day e's month
+module _ (d e : ℕ) (h : Holds (monthStart (monthOfDay e)) (monthLength (monthOfDay e)) d) where
+  same : monthOfDay e ≡ monthOfDay d
+  same = sym (of-day-only (monthOfDay e) d (h .0, omega (arith, h .1, start-next (monthOfDay e))))
 
-other : (n d e : ℕ) → InMonth n d → InMonth n e → withDay (dateOf e) (d - monthStart n + 1) (dayName d) ≡ dateOf d
-unfolding dateOf dateIn
-other n d e i j = rw (same n e d j i, ← of-day-only n d i)
+  other : withDay (dateOf e) (d - monthStart (monthOfDay e) + 1) (dayName d) ≡ dateOf d
+  unfolding dateOf dateIn
+  other = rw (same)
 
--- a month of which x is given, and a day of its
-module _ {X : Type 0} {of : ℕ → X} {start count : ℕ} {x : X} (i : OfMonth of start count x) (d : ℕ) where
-  module _ (h : Holds start count d) where
-    within : InMonth (i .n) d
-    within = (omega (arith, i .begins, h .0), omega (arith, i .ends, h .1))
-
-    pub in-days : d - start + 1 ≤ 30
-    in-days = omega (arith, i .begins, i .ends, start-next (i .n), length-range (i .n), h .0, h .1)
-
-    pub dated : withDay (dateOf (i .e)) (d - start + 1) (dayName d) ≡ dateOf d
-    dated = ap (λ (s : ℕ). withDay (dateOf (i .e)) (d - s + 1) (dayName d)) (i .begins) ∙ other (i .n) d (i .e) within (i .on-its-days)
-
-  -- a day that is less than so many days after the month's first, counted round, is one of them
-  pub round : (w : ℕ) → (w + start) % 2 ^ 32 ≡ d → w < count → Holds start count d
-  round w e l = let r = i .in-range in let a = i .begins in let b = i .ends in omega (arith, start-end (i .n + 1) (omega arith))
+-- so by what is kept
+pub beside : (day : ℕ → ℕ) (i : ℕ) (s : Shared) (d : ℕ) → Kept day i s → Holds (s .start) (s .«month_length») d →
+    withDay (dateOf (day (s .at))) (d - s .start + 1) (dayName d) ≡ dateOf d
+beside day i s d k h =
+    let e : s ≡ sharedBy (day (s .at)) (s .at) = k .known d h .1 in
+    ap (λ (t : ℕ). withDay (dateOf (day (s .at))) (d - t + 1) (dayName d)) (ap (λ (t : Shared). t .start) e)
+    ∙ other d (day (s .at)) (subst (λ (t : Shared). Holds (t .start) (t .«month_length») d) e h)

@@ -1,24 +1,19 @@
 -- What the days of one month share, for the functions that keep it from one day to the next. Assumes nothing.
 use Prim.Native.Nat.{ℕ, _+_, _≤_, _<_}
-use mathlib.Core.Path.{_≡_}
-use Rattle.rule.specs.Counts.{MonthInRange}
-use Rattle.rule.specs.Rule.{monthStart, InMonth}
-use Rattle.dates.specs.Dates.{dateOf}
+use Rattle.rule.specs.Rule.{monthStart, monthLength, monthOfDay}
 use Rattle.drawer.specs.declared.Shared.{Shared}
 
--- month n, a month in range, starts on day `start` and has `count` days, and x is what `of` gives for its day e
-pub record OfMonth {X : Type 0} (of : ℕ → X) (start count : ℕ) (x : X) : Type 0 where
-  pub n : ℕ
-  pub e : ℕ
-  pub begins : start ≡ monthStart n
-  pub ends : start + count ≡ monthStart (n + 1)
-  pub in-range : MonthInRange n
-  pub on-its-days : InMonth n e
-  pub given : x ≡ of e
+-- before the first day: a month without days
+abbrev pub noMonth : Shared
+noMonth = record { start = 0; «month_length» = 0; at = 0 }
 
--- what is shared holds the date of one of its days
+-- what the days of day d's month share, where place p has the date of one of them
+abbrev pub sharedBy : ℕ → ℕ → Shared
+sharedBy d p = record { start = monthStart (monthOfDay d); «month_length» = monthLength (monthOfDay d); at = p }
+
+-- what is shared is of no day after the last, and of at most thirty
 abbrev pub IsShared : Shared → Type 0
-IsShared s = OfMonth dateOf (s .start) (s .«month_length») (s .date)
+IsShared s = (s .start + s .«month_length» ≤ 14989860) × (s .«month_length» ≤ 30)
 
 -- day d is one of the `count` days from `start` on
 abbrev pub Holds : ℕ → ℕ → ℕ → Type 0

@@ -1,12 +1,13 @@
-// A whole drawer at once: the dates of a list of days, put into a lent list of records. Neighbouring days mostly lie in one month: what its
-// days share is kept from one day to the next, and made new where a day leaves it.
+// A whole drawer at once: the dates of a list of days, put into a lent list of records. Neighbouring days mostly lie in one month: which that is,
+// and which record has a date of it, is kept from one day to the next, and new where a day leaves it.
 ghost use mathlib.Core.Path.{_≡_};
-ghost use Prim.Native.Nat.{_≤_};
+ghost use Prim.Native.Nat.{_≤_, _+_, _-_};
+ghost use lib.Dec.{T};
 ghost use lib.ListN.{length};
 ghost use Rattle.rule.specs.Counts.{DayInRange};
 ghost use Rattle.dates.specs.Dates.{dateOf};
 ghost use Rattle.drawer.specs.Drawer.{allInRange, daysFrom, drawerAt, saidFilled, toFill, FillDates};
-ghost use Rattle.drawer.specs.Shared.{IsShared, Holds};
+ghost use Rattle.drawer.specs.Shared.{noMonth, sharedBy, IsShared, Holds};
 use dates::Date;
 use rule::Reason;
 
@@ -17,11 +18,11 @@ pub enum Filled {
     Refused(Reason),
 }
 
-// What the days of one month share: its first day, how many they are, and the date of one of them.
-struct Shared {
+// What the days of one month share: its first day, how many they are, and the place of a record with the date of one of them.
+pub struct Shared {
     pub start: u32,
     pub month_length: u32,
-    pub date: Date,
+    pub at: usize,
 }
 
 // Whether all days are in range. It looks at every one, whatever it has found, which is faster than to ask at each.
@@ -80,53 +81,66 @@ pub fn to_fill(answer: Filled) -> usize
     }
 }
 
-// What the days of a day's month share, by its date.
-fn shared_at(day: u32) -> Shared
-    requires { ⌜ DayInRange day ⌝ }
-    ensures { λ r. ⌜ IsShared r × Holds (r .start) (r .«month_length») day ⌝ }
+// Before the first day: a month without days.
+pub fn no_month() -> Shared
+    ensures { λ r. ⌜ r ≡ noMonth ⌝ }
 {
-    let date = dates::date_at(day);
+    Shared {
+        start: 0,
+        month_length: 0,
+        at: 0,
+    }
+}
+
+// What the days of a day's month share, by its date and the place where that is put.
+pub fn shared_at(date: Date, day: u32, at: usize) -> Shared
+    requires { ⌜ DayInRange day × (date ≡ dateOf day) ⌝ }
+    ensures { λ r. ⌜ r ≡ sharedBy day at ⌝ }
+{
     Shared {
         start: day + 1 - date.day_of_month as u32,
         month_length: date.month_length as u32,
-        date: date,
+        at: at,
     }
 }
 
-// The same, kept while the day lies in that month. (A day before the month's first wraps round to more than its days.)
-fn shared_for(kept: Shared, day: u32) -> Shared
-    requires { ⌜ IsShared kept × DayInRange day ⌝ }
-    ensures { λ r. ⌜ IsShared r × Holds (r .start) (r .«month_length») day ⌝ }
+// Whether a day lies in that month. (A day before its first wraps round to more than its days.)
+pub fn lies_in(shared: Shared, day: u32) -> bool
+    requires { ⌜ IsShared shared ⌝ }
+    ensures { λ r. ⌜ (T r → Holds (shared .start) (shared .«month_length») day) ⌝ }
 {
-    if std::num::wrapping_sub_u32(day, kept.start) < kept.month_length {
-        return kept;
-    }
-    shared_at(day)
+    std::num::wrapping_sub_u32(day, shared.start) < shared.month_length
 }
 
-// The date of a day from what the days of its month share: day of month and day name are its own.
-fn date_in(shared: Shared, day: u32) -> Date
+// Its day of month then.
+pub fn day_in(shared: Shared, day: u32) -> u8
     requires { ⌜ IsShared shared × Holds (shared .start) (shared .«month_length») day ⌝ }
-    ensures { λ r. ⌜ r ≡ dateOf day ⌝ }
+    ensures { λ r. ⌜ r ≡ day - shared .start + 1 ⌝ }
 {
-    let mut date = shared.date;
-    date.day_of_month = (day - shared.start + 1) as u8;
-    date.day_name = rule::day_name(day);
-    date
+    (day - shared.start + 1) as u8
 }
 
-// The dates of all days, a record each, at the front of the lent list.
+// The dates of all days, a record each, at the front of the lent list. A day in the month of a day before it has that day's record, but for its
+// day of month and day name.
 pub fn fill_dates(days: &[u32], out: &mut [Date]) -> Filled
     ensures { λ r. ⌜ FillDates (now (days .entry)) (now (out .entry)) r (now (out .exit)) ⌝ }
 {
     let answer = drawer_at(days, out.len());
     let n = to_fill(answer);
-    let mut shared = shared_at(0);
+    let mut shared = no_month();
     let mut i: usize = 0;
     while i < n {
         let day = days[i];
-        shared = shared_for(shared, day);
-        out[i] = date_in(shared, day);
+        if lies_in(shared, day) {
+            let at = shared.at;
+            out[i] = out[at];
+            out[i].day_of_month = day_in(shared, day);
+            out[i].day_name = rule::day_name(day);
+        } else {
+            let date = dates::date_at(day);
+            shared = shared_at(date, day, i);
+            out[i] = date;
+        }
         i += 1;
     }
     answer
