@@ -252,19 +252,27 @@ pub extern "C" fn oes_figures(
     flat::flat_figures(yearbook::figures_of(capped::cap(first), capped::cap(last), leaps, names))
 }
 
-// A drawer of days: the date of each, at the front of the lent records. What the days of a month share is kept from one day to the next.
+// A drawer of days: the date of each, at the front of the lent records, filled as `drawer::fill_dates` fills them.
 #[no_mangle]
 pub extern "C" fn oes_dates(days: &[u32], out: &mut [CDate]) -> CFilled
     ensures { λ r. ⌜ CFillDates (now (days .entry)) (now (out .entry)) r (now (out .exit)) ⌝ }
 {
     let answer = flat::flat_drawer_at(days, out.len());
     let n = flat::flat_to_fill(answer);
-    let mut shared = flat::flat_shared_at(0);
+    let mut shared = drawer::no_month();
     let mut i: usize = 0;
     while i < n {
         let day = days[i];
-        shared = flat::flat_shared_for(shared, day);
-        out[i] = flat::flat_date_in(shared, day);
+        if drawer::lies_in(shared, day) {
+            let at = shared.at;
+            out[i] = out[at];
+            out[i].day_of_month = flat::flat_day_in(shared, day);
+            out[i].day_name = flat::flat_day_name(day);
+        } else {
+            let date = dates::date_at(day);
+            shared = drawer::shared_at(date, day, i);
+            out[i] = flat::given_date(date);
+        }
         i += 1;
     }
     answer

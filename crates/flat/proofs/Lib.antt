@@ -1,2 +1,2 @@
--- A date laid flat, from what the days of its month share.
+-- A date laid flat, from that of another day of its month.
 pub mod Sharing

@@ -1,13 +1,12 @@
--- A date laid flat, from what the days of its month share. Assumes nothing.
-use Prim.Native.Nat.{ℕ, _+_, _-_, _≤_}
-use native.Mathlib.Omega.{arith}
+-- A date laid flat, from that of another day of its month. Assumes nothing.
+use Prim.Native.Nat.{ℕ, _+_, _-_}
 use mathlib.Core.Path.{_≡_, ap, sym, _∙_}
 use Rattle.rule.specs.Counts.{DayInRange, dayName}
-use Rattle.rule.proofs.Months.{start-end}
 use Rattle.dates.specs.Dates.{dateOf}
 use Rattle.dates.proofs.Days.{a-day}
-use Rattle.drawer.specs.Shared.{OfMonth, Holds}
-use Rattle.drawer.proofs.Sharing.{dated}
+use Rattle.drawer.specs.declared.Shared.{Shared}
+use Rattle.drawer.specs.Shared.{Holds}
+use Rattle.drawer.proofs.Sharing.{Kept, beside}
 use Rattle.offered.specs.declared.CDate.{CDate}
 use Rattle.offered.specs.Flat.{givenDate, flatDate}
 use Rattle.offered.specs.Promises.{cDateAt}
@@ -34,16 +33,10 @@ flatWithDay r m name =
       eclipse = r .eclipse;
     }
 
-module _ {start count : ℕ} {x : CDate} (i : OfMonth cDateAt start count x) (d : ℕ) (h : Holds start count d) where
-  -- the month's days are in range
-  ends : start + count ≤ 14989860
-  ends = omega (arith, i .ends, start-end (i .n + 1) (omega (arith, i .in-range)))
-
-  other-in-range : DayInRange (i .e)
-  other-in-range = omega (arith, i .ends, ends, i .on-its-days .1)
-
-  pub flat-dated : flatWithDay x (d - start + 1) (dayName d) ≡ cDateAt d
-  flat-dated =
-      ap (λ (r : CDate). flatWithDay r (d - start + 1) (dayName d)) (i .given ∙ sym (at-its-date (i .e) other-in-range))
-      ∙ ap givenDate (dated i d h)
-      ∙ at-its-date d (omega (arith, h .1, ends))
+-- the date of a day laid flat, from that of another day of its month
+pub flat-beside : (day : ℕ → ℕ) (i : ℕ) (s : Shared) (d : ℕ) → Kept day i s → DayInRange (day (s .at)) → DayInRange d →
+    Holds (s .start) (s .«month_length») d → flatWithDay (cDateAt (day (s .at))) (d - s .start + 1) (dayName d) ≡ cDateAt d
+flat-beside day i s d k r q h =
+    ap (λ (x : CDate). flatWithDay x (d - s .start + 1) (dayName d)) (sym (at-its-date (day (s .at)) r))
+    ∙ ap givenDate (beside day i s d k h)
+    ∙ at-its-date d q

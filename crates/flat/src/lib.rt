@@ -1,7 +1,7 @@
-// Answers laid flat for C, each into its struct of the crate `offered`. Numbers are widened, and nothing is decided but, for a drawer, whether a
-// day still lies in the month that was kept.
+// Answers laid flat for C, each into its struct of the crate `offered`. Numbers are widened, and nothing is decided.
 ghost use mathlib.Core.Path.{_≡_};
-ghost use Rattle.rule.specs.Counts.{DayInRange};
+ghost use Prim.Native.Nat.{_+_, _-_};
+ghost use Rattle.rule.specs.Counts.{dayName};
 ghost use Rattle.dates.specs.Promises.{saidDate, saidDay};
 ghost use Rattle.facts.specs.Promises.{saidSolsticeYear, saidYear, saidMonth, saidQuarter, saidTerm};
 ghost use Rattle.clerk.specs.Clerk.{saidClerk};
@@ -12,7 +12,7 @@ ghost use Rattle.emending.specs.Emended.{saidEmended};
 ghost use Rattle.yearbook.specs.Promise.{saidFigured};
 ghost use Rattle.offered.specs.Yearbook.{flatFigures};
 ghost use Rattle.drawer.specs.Drawer.{drawerAt, saidFilled};
-ghost use Rattle.drawer.specs.Shared.{OfMonth, Holds};
+ghost use Rattle.drawer.specs.Shared.{IsShared, Holds};
 ghost use Rattle.sheet.specs.Promises.{saidCounts, saidHowMany};
 ghost use Rattle.newsheet.specs.Promises.{saidNew};
 ghost use Rattle.offered.specs.Renewed.{flatFour};
@@ -47,6 +47,7 @@ use dates::Date;
 use dates::Dated;
 use dates::DayTold;
 use drawer::Filled;
+use drawer::Shared;
 use emending::Emended;
 use facts::LeapMonth;
 use facts::MonthFacts;
@@ -87,7 +88,7 @@ use sheet::SheetCounts;
 use yearbook::Figured;
 
 // A date laid flat, and an answer.
-fn given_date(d: Date) -> CDate
+pub fn given_date(d: Date) -> CDate
     ensures { λ r. ⌜ r ≡ givenDate d ⌝ }
 {
     let m = d.month;
@@ -572,44 +573,16 @@ pub fn flat_length(a: HowMany) -> CLength
     }
 }
 
-// What the days of one month share, the date of one of them laid flat (drawer::Shared has it as it is).
-pub struct FlatShared {
-    pub start: u32,
-    pub month_length: u32,
-    pub date: CDate,
+// The day of month of a day of a kept month, and a day's name: the two fields in which the records of a month's days differ.
+pub fn flat_day_in(shared: Shared, day: u32) -> u32
+    requires { ⌜ IsShared shared × Holds (shared .start) (shared .«month_length») day ⌝ }
+    ensures { λ r. ⌜ r ≡ day - shared .start + 1 ⌝ }
+{
+    drawer::day_in(shared, day) as u32
 }
 
-// What the days of a day's month share.
-pub fn flat_shared_at(day: u32) -> FlatShared
-    requires { ⌜ DayInRange day ⌝ }
-    ensures { λ r. ⌜ OfMonth cDateAt (r .start) (r .«month_length») (r .date) × Holds (r .start) (r .«month_length») day ⌝ }
+pub fn flat_day_name(day: u32) -> u32
+    ensures { λ r. ⌜ r ≡ dayName day ⌝ }
 {
-    let date = dates::date_at(day);
-    FlatShared {
-        start: day + 1 - date.day_of_month as u32,
-        month_length: date.month_length as u32,
-        date: given_date(date),
-    }
-}
-
-// The same, kept while the day lies in that month.
-pub fn flat_shared_for(kept: FlatShared, day: u32) -> FlatShared
-    requires { ⌜ OfMonth cDateAt (kept .start) (kept .«month_length») (kept .date) × DayInRange day ⌝ }
-    ensures { λ r. ⌜ OfMonth cDateAt (r .start) (r .«month_length») (r .date) × Holds (r .start) (r .«month_length») day ⌝ }
-{
-    if std::num::wrapping_sub_u32(day, kept.start) < kept.month_length {
-        return kept;
-    }
-    flat_shared_at(day)
-}
-
-// The date of a day, laid flat, from what the days of its month share.
-pub fn flat_date_in(shared: FlatShared, day: u32) -> CDate
-    requires { ⌜ OfMonth cDateAt (shared .start) (shared .«month_length») (shared .date) × Holds (shared .start) (shared .«month_length») day ⌝ }
-    ensures { λ r. ⌜ r ≡ cDateAt day ⌝ }
-{
-    let mut date = shared.date;
-    date.day_of_month = day - shared.start + 1;
-    date.day_name = rule::day_name(day) as u32;
-    date
+    rule::day_name(day) as u32
 }
