@@ -3,8 +3,8 @@ use Prim.Native.Nat.{ℕ, _+_, _-_, _%_, _^_, _≤_, _<_}
 use native.Mathlib.Omega.{arith}
 use mathlib.Core.Path.{_≡_, refl, ap, sym, _∙_, subst}
 use Rattle.rule.specs.Counts.{DayInRange, dayName}
-use Rattle.rule.specs.Rule.{monthStart, monthLength, InMonth, monthOfDay}
-use Rattle.rule.proofs.Months.{of-day-low, of-day-high, of-day-only, of-day-range, start-next, start-end, length-range}
+use Rattle.rule.specs.Rule.{monthStart, monthLength, monthOfDay}
+use Rattle.rule.proofs.Months.{of-day-low, of-day-only, of-day-range, start-next, start-end, length-range}
 use Rattle.dates.specs.declared.Date.{Date}
 use Rattle.dates.specs.Dates.{dateOf, dateIn}
 use Rattle.drawer.specs.declared.Shared.{Shared}

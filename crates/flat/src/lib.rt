@@ -40,7 +40,6 @@ ghost use Rattle.offered.specs.Flat.{
   flatCounts,
   flatLength,
 };
-ghost use Rattle.offered.specs.Promises.{cDateAt};
 use clerk::Clerk;
 use clerk::ClerkTold;
 use dates::Date;

@@ -1,5 +1,4 @@
 -- `drawer::lies_in` meets its contract: what wraps round is more than a month's days. Assumes nothing.
-use native.Mathlib.Omega.{arith}
 use lib.Dec.{ltb→lt}
 use borrow.Author.Needs.{needs}
 use Rattle.drawer.proofs.Sharing.{round}
