@@ -24,7 +24,8 @@ const DRAWER: usize = 4_096;
 /// How often each side is run, where `--rounds` says nothing else; the best time counts.
 const ROUNDS: usize = 25;
 
-// The bars: the most that the many-at-once call may take, in times of the straightforward program.
+// The bars: the most that the many-at-once call may take, in times of the straightforward program. Into a table of the whole yuan there is none:
+// how fast the machine's memory takes 80 MB is no matter of the call, and the write itself, beside it, tells that.
 const IN_ORDER: f64 = 0.25;
 const SHUFFLED: f64 = 0.85;
 
@@ -426,6 +427,7 @@ impl Asked {
         let rows = [
             (
                 "oes_dates",
+                Some(bar),
                 Some(limit.0),
                 self.in_turn(
                     || fill_yuan(plainly, days, &mut own_out),
@@ -434,6 +436,7 @@ impl Asked {
             ),
             (
                 "oes_dates, into a table of the yuan",
+                None,
                 Some(limit.1),
                 self.in_turn(
                     || fill_yuan(plainly, days, &mut own_table),
@@ -442,27 +445,31 @@ impl Asked {
             ),
             (
                 "fill_dates, and the reading",
+                Some(bar),
                 None,
                 self.in_turn(|| draw_yuan(draw_plainly, days), || draw_yuan(draw, days)),
             ),
         ];
-        for (what, limit, (own, called)) in &rows {
-            told(&format!("{what}, {order}"), own, called, *limit, bar);
+        for (what, bar, limit, (own, called)) in &rows {
+            told(&format!("{what}, {order}"), own, called, *bar, *limit);
         }
         rows.iter()
-            .all(|(_, _, (own, called))| own.sum == called.sum)
+            .all(|(_, _, _, (own, called))| own.sum == called.sum)
     }
 }
 
 /// A row: both times, the ratio and whether it meets the bar, and the write itself.
-fn told(what: &str, own: &Run, called: &Run, limit: Option<Run>, bar: f64) {
+fn told(what: &str, own: &Run, called: &Run, bar: Option<f64>, limit: Option<Run>) {
     let ratio = called.a_day() / own.a_day();
-    let met = if ratio <= bar { "met" } else { "NOT MET" };
+    let met = bar.map_or(String::new(), |bar| {
+        let met = if ratio <= bar { "met" } else { "NOT MET" };
+        format!(", at most {bar}: {met}")
+    });
     let limit = limit.map_or(String::new(), |limit| {
         format!("; the write itself {:.2} ns", limit.a_day())
     });
     println!(
-        "{what:<48}{:>7.2} ns{:>7.2} ns{ratio:>7.2}, at most {bar}: {met}{limit}",
+        "{what:<48}{:>7.2} ns{:>7.2} ns{ratio:>7.2}{met}{limit}",
         own.a_day(),
         called.a_day()
     );
