@@ -12,6 +12,7 @@ import sys
 
 sys.dont_write_bytecode = True
 
+from newsheets import converted, new_sheet, read_new
 from verdicts import verdict
 from walked import (DAYS, MONTHS, PLANETS, ROOT, YEARS, Desk, common_divisor, hold, is_eclipse, kth, listed_day, month_fields,
                     read_sheet, refused, write_sheet, year_block)
@@ -360,6 +361,25 @@ def emended(desk, row, room):
 # The example for C, crates/capi/example.c: of a refusal its number alone, since C has no words of the reasons.
 
 
+def example_form(desk, form, data):
+    """A sheet in the other form, or the reason."""
+    answer = converted(desk, form, data)
+    told = [refused(answer)] if isinstance(answer, int) else [f"BYTES {len(answer)}", "SHEET" + spaced(answer)]
+    return [f"TO {form.upper()}" + spaced(data), *told]
+
+
+def example_readings(desk):
+    """Year 11 in the new form and back; with a reading beside it: what is read, the search's answer to the reading, and no old form."""
+    row, year = "27 9 L 1 ? ? 3600 4000", new_sheet(years=[11])
+    *fields, first, last = row_values(row)
+    data = new_sheet([([f or 0 for f in fields], first, last)], years=[11])
+    read, (answer, days) = read_new(desk, data), found(desk, row, 2)
+    out = example_form(desk, "new", year[:-2]) + example_form(desk, "old", year)
+    out += ["READ NEW" + spaced(data), "COUNTS" + spaced(map(len, read)), "NUMBERS" + spaced(read[3][0])]
+    out += [f"SEARCH {row} INTO 2", *answer, *(line for d in days for line in desk.day(d))]
+    return out + example_form(desk, "old", data)
+
+
 def example(desk):
     out = echoed(desk, """DAY 14989859,DAY 14989860,DATE 0 12 - 1,DATE 11 8 L 1,DATE 11 9 L 30,MOVE 0 11 - 1 27759,MOVE 0 11 - 1 -1,PLACE 9366,MONTH 115830,QUARTER 115830 2,TERM 9366 0,YEAR 11,CLERK 2 0,CLERK 2 1,CLERK 1 129,CLERK 540 940,CLERK 541 0,CONJUNCTION 4 11826,NEXT 4 3453334""".split(","))
     row, sheet = "27 9 ? 1 ? ? 3600 4000", write_sheet(([11], [], []), 8)
@@ -373,6 +393,7 @@ def example(desk):
     out += echoed(desk, ["FIGURES 11 11", "FIGURES 9368 9443", "FIGURES 9 8"])
     out += ["WRITE 11,,", f"BYTES {len(sheet)}", "SHEET" + spaced(sheet), "COUNTS" + spaced(map(len, read_sheet(sheet, (1,) * 3)))]
     out += uses_printed(desk, "YEAR", 11)
+    out += example_readings(desk)
     judged = [verdict(desk, line) for line in b"128 4 - 60 30 -\n129 5 - 30 29 E\n130 6 -".split(b"\n")]
     out += ["CONCORDANCE", f"LINES {len(judged)}", *(f"{i} {7 if v is None else v}" for i, v in enumerate(judged, 1))]
     return [" ".join(line.split()[:2]) if line.startswith("REFUSED") else line for line in out]

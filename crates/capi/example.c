@@ -221,6 +221,15 @@ static void yearbook(void)
     show_figures(9, 8);
 }
 
+/* Bytes, to the end of the line. */
+static void bytes_line(const uint8_t *bytes, size_t n)
+{
+    for (size_t i = 0; i < n; i++) {
+        printf(" %u", bytes[i]);
+    }
+    puts("");
+}
+
 /* The sheet with civil year 11 alone, written, read back and printed. */
 static void sheet(void)
 {
@@ -233,16 +242,62 @@ static void sheet(void)
     uint8_t text[674] = {0};
     oes_length written = oes_write_sheet(years, 1, none, 0, none, 0, bytes, sizeof bytes);
     printf("WRITE 11,,\nBYTES %zu\nSHEET", written.length);
-    for (size_t i = 0; i < written.length; i++) {
-        printf(" %u", bytes[i]);
-    }
+    bytes_line(bytes, written.length);
     oes_sheet_counts c = oes_read_sheet(bytes, written.length, years_read, 1, months_read, 1, days_read, 1);
-    printf("\nCOUNTS %zu %zu %zu\n", c.years, c.months, c.days);
+    printf("COUNTS %zu %zu %zu\n", c.years, c.months, c.days);
     for (size_t i = 0; i < c.years; i++) {
         oes_length printed = oes_print_year(years_read[i], text, sizeof text);
         printf("PRINT YEAR %u\n", years_read[i]);
         fwrite(text, 1, printed.length, stdout);
     }
+}
+
+/* A sheet in the new form, or in the old one; ten bytes at most. */
+static void show_form(bool to_new, const uint8_t *bytes, size_t n)
+{
+    uint8_t out[10] = {0};
+    oes_length form = to_new ? oes_to_new(bytes, n, out, sizeof out) : oes_to_old(bytes, n, out, sizeof out);
+    printf("TO %s", to_new ? "NEW" : "OLD");
+    bytes_line(bytes, n);
+    if (form.reason != 0) {
+        printf("REFUSED %u\n", form.reason);
+        return;
+    }
+    printf("BYTES %zu\nSHEET", form.length);
+    bytes_line(out, form.length);
+}
+
+/* A sheet's reading, from its eight numbers, as the search takes it: a field of 0 was not read. The window is the last two. */
+static oes_reading reading_of(const uint32_t n[8])
+{
+    return (oes_reading){n[0], n[1], n[2], n[3], n[4], n[5], n[0] != 0, n[1] != 0, n[2] != 0, n[3] != 0, n[4] != 0, n[5] != 0};
+}
+
+/* Year 11 in the new form and back. With a reading beside it, the first day of a leap month 9 in a civil year of name 27: the sheet
+ * is read, its reading searched for, and the old form cannot hold it. */
+static void new_form(void)
+{
+    const uint8_t year[10] = {1, 0, 11, 0, 0, 0, 0, 0, 0, 0};
+    const uint8_t slip[24] = {1, 0, 11, 0, 0, 0, 0, 0, 1, 0, 27, 9, 2, 1, 0, 0, 16, 14, 0, 0, 160, 15, 0, 0};
+    uint16_t years[1] = {0};
+    uint32_t none[1] = {0};
+    uint32_t numbers[8] = {0};
+    uint32_t days[2] = {0};
+    show_form(true, year, 8);
+    show_form(false, year, 10);
+    oes_new_counts c = oes_read_new(slip, sizeof slip, years, 1, none, 0, none, 0, numbers, 8);
+    printf("READ NEW");
+    bytes_line(slip, sizeof slip);
+    printf("COUNTS %zu %zu %zu %zu\nNUMBERS", c.years, c.months, c.days, c.readings);
+    for (size_t i = 0; i < 8 * c.readings; i++) {
+        printf(" %u", numbers[i]);
+    }
+    oes_found f = oes_search(reading_of(numbers), numbers[6], numbers[7], days, 2);
+    printf("\nSEARCH 27 9 L 1 ? ? 3600 4000 INTO 2\nFOUND %u\n", f.total);
+    for (uint32_t i = 0; f.reason == 0 && i < f.total; i++) {
+        date_line(oes_date_of_day(days[i]));
+    }
+    show_form(false, slip, sizeof slip);
 }
 
 /* Three lines of a concordance: as printed; the second of two big months struck out; cut. */
@@ -268,6 +323,7 @@ int main(void)
     emendings();
     yearbook();
     sheet();
+    new_form();
     concordance();
     return 0;
 }
