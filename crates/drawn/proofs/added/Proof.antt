@@ -12,8 +12,7 @@ returns : tie.Need-returns
 unfolding addedOf
 returns c =
     let high = c .before in
-    let low = high .before in
-    rw (c .wrapping-add-u642 .ensures, low .wrapping-add-u64 .ensures, high .high-word .ensures .0, low .before .low-word .ensures)
+    rw (c .wrapping-add-u64 .ensures, high .high-word .ensures .0, high .before .low-word .ensures)
 
 pub added-spec : {M : Type 1} → statement M
 added-spec =
@@ -21,7 +20,6 @@ added-spec =
     (tie.spec
     (λ c. search needs)
     add-turned
-    (λ c κs. search needs)
     (λ c κs. search needs)
     (λ c κs. search needs)
     (λ c. search needs)
