@@ -56,7 +56,7 @@ pub fn date_at(day: u32) -> Date
         year: year,
         day_of_month: (passed + 1) as u8,
         month_length: length as u8,
-        day_name: rule::day_name(day),
+        day_name: rule::day_name_at(day),
         year_name: rule::year_name(year),
         ji: place.ji,
         bu: place.bu,

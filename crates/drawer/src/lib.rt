@@ -135,7 +135,7 @@ pub fn fill_dates(days: &[u32], out: &mut [Date]) -> Filled
             let at = shared.at;
             out[i] = out[at];
             out[i].day_of_month = day_in(shared, day);
-            out[i].day_name = rule::day_name(day);
+            out[i].day_name = rule::day_name_at(day);
         } else {
             let date = dates::date_at(day);
             shared = shared_at(date, day, i);

@@ -1,7 +1,7 @@
 // Answers laid flat for C, each into its struct of the crate `offered`. Numbers are widened, and nothing is decided.
 ghost use mathlib.Core.Path.{_≡_};
 ghost use Prim.Native.Nat.{_+_, _-_};
-ghost use Rattle.rule.specs.Counts.{dayName};
+ghost use Rattle.rule.specs.Counts.{DayInRange, dayName};
 ghost use Rattle.dates.specs.Promises.{saidDate, saidDay};
 ghost use Rattle.facts.specs.Promises.{saidSolsticeYear, saidYear, saidMonth, saidQuarter, saidTerm};
 ghost use Rattle.clerk.specs.Clerk.{saidClerk};
@@ -581,7 +581,8 @@ pub fn flat_day_in(shared: Shared, day: u32) -> u32
 }
 
 pub fn flat_day_name(day: u32) -> u32
+    requires { ⌜ DayInRange day ⌝ }
     ensures { λ r. ⌜ r ≡ dayName day ⌝ }
 {
-    rule::day_name(day) as u32
+    rule::day_name_at(day) as u32
 }

@@ -152,6 +152,15 @@ pub fn day_name(day: u32) -> u8
     (day % 60 + 1) as u8
 }
 
+// The same of a day in range, without a remainder: in parts of which 2 to the 32nd are sixty days, and 71,582,789 one (60 times so many are a little
+// more). It is three steps shorter, and a drawer names every day.
+pub fn day_name_at(day: u32) -> u8
+    requires { ⌜ DayInRange day ⌝ }
+    ensures { λ r. ⌜ r ≡ dayName day ⌝ }
+{
+    (60 * (71582789 * (day as u64) % 4294967296) / 4294967296 + 1) as u8
+}
+
 // The name of a civil year.
 pub fn year_name(year: u16) -> u8
     ensures { λ r. ⌜ r ≡ yearName year ⌝ }

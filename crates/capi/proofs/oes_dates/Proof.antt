@@ -413,10 +413,9 @@ module _ {M : Type 1} (𝓤 : URA M) (H : Heap 𝓤) (A : Atoms 𝓤) (W : Given
   abbrev to-day-name : ℕ → DayName 𝓤 H A mem run .Ghost
   to-day-name d = ((tt, tt, tt, (d, tt), (vint w32 d ∷ [], tt)), tt)
 
-  goes-day-name : (d : ℕ) → d < 2 ^ 32 → ent 𝓤 (sem 𝓤 H A ftrue) (DayName 𝓤 H A mem run .pre (to-day-name d))
-  goes-day-name d fits =
-      qed W (‵ ftrue ∷ []) ∵ nothing ! $ owned ! u32 (Is u32) (uint-makes 𝓤 H A W w32) d _ (refl, fits) $ fjoin ! $
-      move ! (1 ∷ 0 ∷ []) $ join ! $ frame ! $ done !
+  goes-day-name : (d : ℕ) → d < 2 ^ 32 → DayInRange d → ent 𝓤 (sem 𝓤 H A ftrue) (DayName 𝓤 H A mem run .pre (to-day-name d))
+  goes-day-name d fits good =
+      qed W (‵ ftrue ∷ []) ∵ says ! good $ frame ! $ nothing ! $ owned ! u32 (Is u32) (uint-makes 𝓤 H A W w32) d _ (refl, fits) $ fjoin ! $ done !
 
   of-day-name : (d : ℕ) (r : ℕ) →
       ent 𝓤 (ensured 𝓤 H A day-name.ended (day-name.clauses 𝓤 H A mem run) tt (d, tt) tt r) (fact 𝓤 (r ≡ dayName d))
@@ -706,7 +705,7 @@ module _ {M : Type 1} (𝓤 : URA M) (H : Heap 𝓤) (A : Atoms 𝓤) (W : Given
           (store-in ! 0 (sub ! 4 refl (whole !)) (tt, record { fits = ia .1 })) $
           forget ! (L 8 22) refl $ forget ! (L 8 21) refl $ forget ! (L 8 16) refl $
           -- the day's name
-          use0 W (raw (DayName 𝓤 H A mem run .pre (to-day-name (day i)))) (goes-day-name (day i) fit) $
+          use0 W (raw (DayName 𝓤 H A mem run .pre (to-day-name (day i)))) (goes-day-name (day i) fit (good i less .in-range)) $
           calls-at ! (fmOf 𝓤 H (W .laws) 𝓣) (DayName 𝓤 H A mem run) (known .met-day-name) (to-day-name (day i))
           (and-then ! (load ! (from ! (stop !)) (look ! (L 9 7) refl)) (no-more !)) (λ y.
           use1 W

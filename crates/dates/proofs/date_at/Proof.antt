@@ -35,10 +35,9 @@ unfolding midTermDay
 mid-day c = c .term-of .ensures .0
 
 -- the name is that of the day itself
-own-name : (c : tie.After-day-name) →
-    c .day-name .result ≡ dayName (c .before .before .before .before .before .before .before .before .before .args .day)
-unfolding dayName
-own-name c = omega (arith, c .day-name .ensures)
+own-name : (c : tie.After-day-name-at) →
+    c .day-name-at .result ≡ dayName (c .before .before .before .before .before .before .before .before .before .args .day)
+own-name c = omega (arith, c .day-name-at .ensures)
 
 -- the day's month is in range
 in-range : (c : tie.After-year-name) → MonthInRange (c .before .before .before .before .before .before .before .before .before .stands .result .month)

@@ -173,10 +173,10 @@ use Rattle.drawer.proofs.day_in as day-in
 use Rattle.drawer.proofs.day_in.Symbol as day-in-def
 use Rattle.drawer.proofs.day_in.Symbol.{name as #drawer·day-in}
 use Rattle.drawer.proofs.day_in.Met as day-in-thm
-use Rattle.rule.proofs.day_name as day-name
-use Rattle.rule.proofs.day_name.Symbol as day-name-def
-use Rattle.rule.proofs.day_name.Symbol.{name as #rule·day-name}
-use Rattle.rule.proofs.day_name.Met as day-name-thm
+use Rattle.rule.proofs.day_name_at as day-name
+use Rattle.rule.proofs.day_name_at.Symbol as day-name-def
+use Rattle.rule.proofs.day_name_at.Symbol.{name as #rule·day-name}
+use Rattle.rule.proofs.day_name_at.Met as day-name-thm
 use Rattle.dates.proofs.date_at as date-at
 use Rattle.dates.proofs.date_at.Symbol as date-at-def
 use Rattle.dates.proofs.date_at.Symbol.{name as #dates·date-at}
@@ -400,10 +400,9 @@ module _ {M : Type 1} (𝓤 : URA M) (H : Heap 𝓤) (A : Atoms 𝓤) (W : Given
   abbrev to-day-name : ℕ → DayName 𝓤 H A mem run .Ghost
   to-day-name d = ((tt, tt, tt, (d, tt), (vint w32 d ∷ [], tt)), tt)
 
-  goes-day-name : (d : ℕ) → d < 2 ^ 32 → ent 𝓤 (sem 𝓤 H A ftrue) (DayName 𝓤 H A mem run .pre (to-day-name d))
-  goes-day-name d fits =
-      qed W (‵ ftrue ∷ []) ∵ nothing ! $ owned ! u32 (Is u32) (uint-makes 𝓤 H A W w32) d _ (refl, fits) $ fjoin ! $
-      move ! (1 ∷ 0 ∷ []) $ join ! $ frame ! $ done !
+  goes-day-name : (d : ℕ) → d < 2 ^ 32 → DayInRange d → ent 𝓤 (sem 𝓤 H A ftrue) (DayName 𝓤 H A mem run .pre (to-day-name d))
+  goes-day-name d fits good =
+      qed W (‵ ftrue ∷ []) ∵ says ! good $ frame ! $ nothing ! $ owned ! u32 (Is u32) (uint-makes 𝓤 H A W w32) d _ (refl, fits) $ fjoin ! $ done !
 
   of-day-name : (d : ℕ) (r : ℕ) →
       ent 𝓤 (ensured 𝓤 H A day-name.ended (day-name.clauses 𝓤 H A mem run) tt (d, tt) tt r) (fact 𝓤 (r ≡ dayName d))
@@ -672,7 +671,7 @@ module _ {M : Type 1} (𝓤 : URA M) (H : Heap 𝓤) (A : Atoms 𝓤) (W : Given
           (store-in ! 0 (sub ! 2 refl (whole !)) (tt, record { fits = ia .1 })) $
           forget ! (L 8 22) refl $ forget ! (L 8 21) refl $ forget ! (L 8 16) refl $
           -- the day's name
-          use0 W (raw (DayName 𝓤 H A mem run .pre (to-day-name (day i)))) (goes-day-name (day i) fit) $
+          use0 W (raw (DayName 𝓤 H A mem run .pre (to-day-name (day i)))) (goes-day-name (day i) fit (good i less .in-range)) $
           calls-at ! (fmOf 𝓤 H (W .laws) 𝓣) (DayName 𝓤 H A mem run) (known .met-day-name) (to-day-name (day i))
           (and-then ! (load ! (from ! (stop !)) (look ! (L 9 7) refl)) (no-more !)) (λ y.
           use1 W
@@ -903,7 +902,7 @@ fill-dates-spec 𝓤 H 𝓜 𝓖 𝓡 =
       met-no-month = cited 𝓤 H (NoMonth 𝓤 H (𝓖 .A) m r) 𝓜 𝓡 code.env #drawer·no-month no-month-def.routine code.calls-drawer·no-month (no-month-thm.met 𝓤 H 𝓜 𝓖 𝓡);
       met-lies-in = cited 𝓤 H (LiesIn 𝓤 H (𝓖 .A) m r) 𝓜 𝓡 code.env #drawer·lies-in lies-in-def.routine code.calls-drawer·lies-in (lies-in-thm.met 𝓤 H 𝓜 𝓖 𝓡);
       met-day-in = cited 𝓤 H (DayIn 𝓤 H (𝓖 .A) m r) 𝓜 𝓡 code.env #drawer·day-in day-in-def.routine code.calls-drawer·day-in (day-in-thm.met 𝓤 H 𝓜 𝓖 𝓡);
-      met-day-name = cited 𝓤 H (DayName 𝓤 H (𝓖 .A) m r) 𝓜 𝓡 code.env #rule·day-name day-name-def.routine code.calls-rule·day-name (day-name-thm.met 𝓤 H 𝓜 𝓖 𝓡);
+      met-day-name = cited 𝓤 H (DayName 𝓤 H (𝓖 .A) m r) 𝓜 𝓡 code.env #rule·day-name day-name-def.routine code.calls-rule·day-name-at (day-name-thm.met 𝓤 H 𝓜 𝓖 𝓡);
       met-date-at = cited 𝓤 H (DateAt 𝓤 H (𝓖 .A) m r) 𝓜 𝓡 code.env #dates·date-at date-at-def.routine code.calls-dates·date-at (date-at-thm.met 𝓤 H 𝓜 𝓖 𝓡);
       met-shared-at = cited 𝓤 H (SharedAt 𝓤 H (𝓖 .A) m r) 𝓜 𝓡 code.env #drawer·shared-at shared-at-def.routine code.calls-drawer·shared-at (shared-at-thm.met 𝓤 H 𝓜 𝓖 𝓡);
     }))
