@@ -666,6 +666,10 @@ module _ {M : Type 1} (𝓤 : URA M) (H : Heap 𝓤) (A : Atoms 𝓤) (W : Given
           ends-turn (i, le, k₀, is₀, kept₀) less k (subst (Is S.the-row k) (LL.tells S.the-type S′.the-laws k _ is-k) is-k)
           (subst (Kept day (i + 1)) (sym ek) (now-kept day i (good i less .in-range))))))))))))))))
 
+      -- the day of the record that is copied is in range
+      its-range : (i : ℕ) (k : Shared) → T (ltb i m) → Kept day i k → Holds (k .start) (k .«month_length») (day i) → DayInRange (day (k .at))
+      its-range i k less kept holds = good (k .at) (at-fits i (k .at) less (kept .known (day i) holds .0)) .in-range
+
       -- what is put over the copy makes it the day's date
       put-over : (i : ℕ) (k : Shared) (r : CDate) (a c : ℕ) → DayInRange (day (k .at)) → DayInRange (day i) → r ≡ cDateAt (day (k .at)) →
           a ≡ day i - k .start + 1 → c ≡ dayName (day i) → Kept day i k → Holds (k .start) (k .«month_length») (day i) → flatWithDay r a c ≡ cDateAt (day i)
@@ -728,7 +732,7 @@ module _ {M : Type 1} (𝓤 : URA M) (H : Heap 𝓤) (A : Atoms 𝓤) (W : Given
           owned ! R.the-row (Is R.the-row) (LL.makes R.the-type R′.the-plain 𝓤 H A) (flatWithDay r a c) _ (made r a c (ia .1) (ic .1) is) $
           move ! (1 ∷ 0 ∷ []) $ elem-put ! R.the-row fullShare (at i) i (flatWithDay r a c) (dateVal (flatWithDay r a c) ∷ []) b o (within i less) $
           rewrite ! 0 (λ (zs : List CDate). ‵ (row R.the-row fullShare zs b o))
-          (mid-next cDateAt ds ys i 0 (flatWithDay r a c) (put-over i k r a c (good (k .at) (at-fits i (k .at) less (kept .known (day i) holds .0)) .in-range) (good i less .in-range) er ea ec kept holds) (good i less .a-day) (good i less .a-record)) refl $
+          (mid-next cDateAt ds ys i 0 (flatWithDay r a c) (put-over i k r a c (its-range i k less kept holds) (good i less .in-range) er ea ec kept holds) (good i less .a-day) (good i less .a-record)) refl $
           forget ! (L 7 23) refl $ forget ! (L 7 21) refl $ forget ! (L 7 19) refl $ move ! (1 ∷ 2 ∷ 0 ∷ []) $
           ends-turn (i, le, k, is-k, kept) less k is-k (still-kept day i k kept)))))))))
 
