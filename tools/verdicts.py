@@ -7,7 +7,6 @@ expression and held against the walked calendar of tools/walked.py, which shares
 
 usage: tools/verdicts.py               write the sample, the program's input and its expected output
        tools/verdicts.py --check       say whether what stands is what it computes (exit status 1 if not)
-       tools/verdicts.py --report      read a text on standard input and write its report
 """
 import random
 import re
@@ -112,9 +111,6 @@ def page(desk):
 
 def main():
     desk = Desk()
-    if sys.argv[1:] == ["--report"]:
-        sys.stdout.buffer.write(report(desk, sys.stdin.buffer.read()))
-        return 0
     sample = b"\n".join(line for line, _ in PUBLISHER)
     kinds = report(desk, sample)
     assert all(words.encode() in kinds for words in ["RIGHT", "UNREADABLE", *FIELDS])

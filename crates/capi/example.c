@@ -140,7 +140,7 @@ static void search(void)
     printf("SEARCH 27 9 ? 1 ? ? 3600 4000 INTO 1\nREFUSED %u\nTOTAL %u\n", few.reason, few.total);
     oes_found all = oes_search(slip, 3600, 4000, days, 2);
     printf("SEARCH 27 9 ? 1 ? ? 3600 4000 INTO 2\nFOUND %u\n", all.total);
-    for (uint32_t i = 0; i < all.total; i++) {
+    for (uint32_t i = 0; all.reason == 0 && i < all.total; i++) {
         date_line(oes_date_of_day(days[i]));
     }
 }

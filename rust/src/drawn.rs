@@ -46,7 +46,7 @@ pub fn sum_of(dates: impl Iterator<Item = Date>) -> u64 {
 /// The two words of one record more in a sum.
 #[inline]
 pub fn added(sum: u64, (low, high): (u64, u64)) -> u64 {
-    sum.rotate_left(7) ^ low.wrapping_add(4_294_967_291 * high)
+    sum.rotate_left(7).wrapping_add(low ^ 4_294_967_291 * high)
 }
 
 /// The values of a date in two words, the first in the lowest bits: 16 bits for the year, 8 for any other.

@@ -266,7 +266,7 @@ pub extern "C" fn oes_dates(days: &[u32], out: &mut [CDate]) -> CFilled
         if drawer::lies_in(shared, day) {
             let at = shared.at;
             out[i] = out[at];
-            out[i].day_of_month = flat::flat_day_in(shared, day);
+            out[i].day_of_month = flat::flat_day_of_month_in(shared, day);
             out[i].day_name = flat::flat_day_name(day);
         } else {
             let date = dates::date_at(day);

@@ -8,7 +8,7 @@ use Rattle.rule.proofs.Months.{of-day-low, of-day-only, of-day-range, start-nex
 use Rattle.dates.specs.declared.Date.{Date}
 use Rattle.dates.specs.Dates.{dateOf, dateIn}
 use Rattle.drawer.specs.declared.Shared.{Shared}
-use Rattle.drawer.specs.Shared.{noMonth, sharedBy, IsShared, Holds}
+use Rattle.drawer.specs.Shared.{noMonth, sharedAt, IsShared, Holds}
 
 -- day of month and length of a day's date, by its month
 pub its-day : (d : ℕ) → dateOf d .«day_of_month» ≡ d - monthStart (monthOfDay d) + 1
@@ -30,7 +30,7 @@ round start count d w fits e l = (omega arith, omega arith)
 -- what is kept before place i: if a day lies in it, a record before i has the date of a day of that month
 pub record Kept (day : ℕ → ℕ) (i : ℕ) (s : Shared) : Type 0 where
   pub is-shared : IsShared s
-  pub known : (d : ℕ) → Holds (s .start) (s .«month_length») d → (s .at < i) × (s ≡ sharedBy (day (s .at)) (s .at))
+  pub known : (d : ℕ) → Holds (s .start) (s .«month_length») d → (s .at < i) × (s ≡ sharedAt (day (s .at)) (s .at))
 
 pub none-kept : (day : ℕ → ℕ) → Kept day 0 noMonth
 none-kept day = record { is-shared = (omega arith, omega arith); known = λ d h. absurd (let z : d < 0 + 0 = h .1 in omega arith) }
@@ -39,7 +39,7 @@ pub still-kept : (day : ℕ → ℕ) (i : ℕ) (s : Shared) → Kept day i s →
 still-kept day i s k =
     record { is-shared = k .is-shared; known = λ d h. (let l : s .at < i = k .known d h .0 in omega arith, k .known d h .1) }
 
-pub now-kept : (day : ℕ → ℕ) (i : ℕ) → DayInRange (day i) → Kept day (i + 1) (sharedBy (day i) i)
+pub now-kept : (day : ℕ → ℕ) (i : ℕ) → DayInRange (day i) → Kept day (i + 1) (sharedAt (day i) i)
 now-kept day i r =
     record {
       is-shared =
@@ -76,6 +76,6 @@ module _ (d e : ℕ) (h : Holds (monthStart (monthOfDay e)) (monthLength (monthO
 pub beside : (day : ℕ → ℕ) (i : ℕ) (s : Shared) (d : ℕ) → Kept day i s → Holds (s .start) (s .«month_length») d →
     withDay (dateOf (day (s .at))) (d - s .start + 1) (dayName d) ≡ dateOf d
 beside day i s d k h =
-    let e : s ≡ sharedBy (day (s .at)) (s .at) = k .known d h .1 in
+    let e : s ≡ sharedAt (day (s .at)) (s .at) = k .known d h .1 in
     ap (λ (t : ℕ). withDay (dateOf (day (s .at))) (d - t + 1) (dayName d)) (ap (λ (t : Shared). t .start) e)
     ∙ other d (day (s .at)) (subst (λ (t : Shared). Holds (t .start) (t .«month_length») d) e h)

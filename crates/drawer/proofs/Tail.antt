@@ -29,27 +29,27 @@ head return = skip
 head (call f xs d) = skip
 
 -- the arm of a branch that is taken where its test holds
-abbrev pub held : Body → Body
-held skip = skip
-held (seq s t) = skip
-held (assign p v) = skip
-held (block s) = skip
-held (loop s) = skip
-held (cond c s t) = s
-held (switch c arms) = skip
-held (exit n) = skip
-held return = skip
-held (call f xs d) = skip
+abbrev pub taken : Body → Body
+taken skip = skip
+taken (seq s t) = skip
+taken (assign p v) = skip
+taken (block s) = skip
+taken (loop s) = skip
+taken (cond c s t) = s
+taken (switch c arms) = skip
+taken (exit n) = skip
+taken return = skip
+taken (call f xs d) = skip
 
 -- and where it fails
-abbrev pub failed : Body → Body
-failed skip = skip
-failed (seq s t) = skip
-failed (assign p v) = skip
-failed (block s) = skip
-failed (loop s) = skip
-failed (cond c s t) = t
-failed (switch c arms) = skip
-failed (exit n) = skip
-failed return = skip
-failed (call f xs d) = skip
+abbrev pub not-taken : Body → Body
+not-taken skip = skip
+not-taken (seq s t) = skip
+not-taken (assign p v) = skip
+not-taken (block s) = skip
+not-taken (loop s) = skip
+not-taken (cond c s t) = t
+not-taken (switch c arms) = skip
+not-taken (exit n) = skip
+not-taken return = skip
+not-taken (call f xs d) = skip

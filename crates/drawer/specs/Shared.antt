@@ -8,10 +8,10 @@ abbrev pub noMonth : Shared
 noMonth = record { start = 0; «month_length» = 0; at = 0 }
 
 -- what the days of day d's month share, where place p has the date of one of them
-abbrev pub sharedBy : ℕ → ℕ → Shared
-sharedBy d p = record { start = monthStart (monthOfDay d); «month_length» = monthLength (monthOfDay d); at = p }
+abbrev pub sharedAt : ℕ → ℕ → Shared
+sharedAt d p = record { start = monthStart (monthOfDay d); «month_length» = monthLength (monthOfDay d); at = p }
 
--- what is shared is of no day after the last, and of at most thirty
+-- what is shared is of no day after the last, and of at most thirty days
 abbrev pub IsShared : Shared → Type 0
 IsShared s = (s .start + s .«month_length» ≤ 14989860) × (s .«month_length» ≤ 30)
 

@@ -7,7 +7,7 @@ ghost use lib.ListN.{length};
 ghost use Rattle.rule.specs.Counts.{DayInRange};
 ghost use Rattle.dates.specs.Dates.{dateOf};
 ghost use Rattle.drawer.specs.Drawer.{allInRange, daysFrom, drawerAt, saidFilled, toFill, FillDates};
-ghost use Rattle.drawer.specs.Shared.{noMonth, sharedBy, IsShared, Holds};
+ghost use Rattle.drawer.specs.Shared.{noMonth, sharedAt, IsShared, Holds};
 use dates::Date;
 use rule::Reason;
 
@@ -95,7 +95,7 @@ pub fn no_month() -> Shared
 // What the days of a day's month share, by its date and the place where that is put.
 pub fn shared_at(date: Date, day: u32, at: usize) -> Shared
     requires { ⌜ DayInRange day × (date ≡ dateOf day) ⌝ }
-    ensures { λ r. ⌜ r ≡ sharedBy day at ⌝ }
+    ensures { λ r. ⌜ r ≡ sharedAt day at ⌝ }
 {
     Shared {
         start: day + 1 - date.day_of_month as u32,
@@ -113,15 +113,15 @@ pub fn lies_in(shared: Shared, day: u32) -> bool
 }
 
 // Its day of month then.
-pub fn day_in(shared: Shared, day: u32) -> u8
+pub fn day_of_month_in(shared: Shared, day: u32) -> u8
     requires { ⌜ IsShared shared × Holds (shared .start) (shared .«month_length») day ⌝ }
     ensures { λ r. ⌜ r ≡ day - shared .start + 1 ⌝ }
 {
     (day - shared.start + 1) as u8
 }
 
-// The dates of all days, a record each, at the front of the lent list. A day in the month of a day before it has that day's record, but for its
-// day of month and day name.
+// The dates of all days, a record each, at the front of the lent list. A day in the month of the day before it gets a copy of a record of that month,
+// with its own day of month and day name.
 pub fn fill_dates(days: &[u32], out: &mut [Date]) -> Filled
     ensures { λ r. ⌜ FillDates (now (days .entry)) (now (out .entry)) r (now (out .exit)) ⌝ }
 {
@@ -134,7 +134,7 @@ pub fn fill_dates(days: &[u32], out: &mut [Date]) -> Filled
         if lies_in(shared, day) {
             let at = shared.at;
             out[i] = out[at];
-            out[i].day_of_month = day_in(shared, day);
+            out[i].day_of_month = day_of_month_in(shared, day);
             out[i].day_name = rule::day_name_at(day);
         } else {
             let date = dates::date_at(day);

@@ -25,10 +25,10 @@ lowOf d =
 unfoldable pub highOf : Date → ℕ
 highOf d = d .ji + 256 * d .bu + 65536 * (d .«year_in_bu» + 256 * bit (d .eclipse))
 
--- one record more: the sum of 64 bits is turned by seven of them, which loses nothing, and both numbers are added, the second an odd number
--- of times, and laid over it bit by bit; so another value in one place of one record makes another sum, however many records follow
+-- one record more: the sum of 64 bits is turned by seven of them, which loses nothing, and the first number, over which an odd multiple of the
+-- second is laid bit by bit, is added; so another value in one place of one record makes another sum, however many records follow
 unfoldable pub addedOf : ℕ → Date → ℕ
-addedOf s d = bitXor (s % 144115188075855872 * 128 + s / 144115188075855872) ((lowOf d + 4294967291 * highOf d) % 2 ^ 64)
+addedOf s d = (s % 144115188075855872 * 128 + s / 144115188075855872 + bitXor (lowOf d) (4294967291 * highOf d)) % 2 ^ 64
 
 unfoldable pub sumFrom : ℕ → List Date → ℕ
 sumFrom s [] = s

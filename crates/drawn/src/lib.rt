@@ -64,14 +64,14 @@ fn high_word(date: Date) -> u64
     place + 65536 * (date.year_in_bu as u64 + 256 * eclipse)
 }
 
-// One record more in the sum: it is turned by seven bits, and the record's two words, which are joined first, are laid over it bit by bit. Cheap,
-// since it is timed with the call: with sums alone the compiler would put the words in one after the other, each waiting for the one before.
+// One record more in the sum: it is turned by seven bits, and the record's two words, laid one over the other bit by bit, come in. Cheap, since it is
+// timed with the call: with sums alone the compiler would add the words' parts to it one after the other, each waiting for the one before.
 fn added(sum: u64, date: Date) -> u64
     ensures { λ r. ⌜ r ≡ addedOf sum date ⌝ }
 {
     let turned = sum % 144115188075855872 * 128 + sum / 144115188075855872;
-    let words = std::num::wrapping_add_u64(low_word(date), 4294967291 * high_word(date));
-    turned ^ words
+    let words = low_word(date) ^ 4294967291 * high_word(date);
+    std::num::wrapping_add_u64(turned, words)
 }
 
 // An answer laid flat; the sum is 0 where the drawer comes back.

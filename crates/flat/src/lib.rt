@@ -573,11 +573,11 @@ pub fn flat_length(a: HowMany) -> CLength
 }
 
 // The day of month of a day of a kept month, and a day's name: the two fields in which the records of a month's days differ.
-pub fn flat_day_in(shared: Shared, day: u32) -> u32
+pub fn flat_day_of_month_in(shared: Shared, day: u32) -> u32
     requires { ⌜ IsShared shared × Holds (shared .start) (shared .«month_length») day ⌝ }
     ensures { λ r. ⌜ r ≡ day - shared .start + 1 ⌝ }
 {
-    drawer::day_in(shared, day) as u32
+    drawer::day_of_month_in(shared, day) as u32
 }
 
 pub fn flat_day_name(day: u32) -> u32

@@ -152,8 +152,8 @@ pub fn day_name(day: u32) -> u8
     (day % 60 + 1) as u8
 }
 
-// The same of a day in range, without a remainder: in parts of which 2 to the 32nd are sixty days, and 71,582,789 one (60 times so many are a little
-// more). It is three steps shorter, and a drawer names every day.
+// The same of a day in range, without a remainder by sixty: in parts of which 2 to the 32nd are sixty days, and 71,582,789 one (60 times so many are
+// a little more). It is two or three steps shorter, and a drawer names every day.
 pub fn day_name_at(day: u32) -> u8
     requires { ⌜ DayInRange day ⌝ }
     ensures { λ r. ⌜ r ≡ dayName day ⌝ }

@@ -138,11 +138,11 @@ use Rattle.dates.specs.declared.Date.{Date}
 use Rattle.dates.specs.Dates.{dateOf}
 use Rattle.drawer.specs.declared.Shared.{Shared}
 use Rattle.drawer.specs.Drawer.{drawerAt, toFill}
-use Rattle.drawer.specs.Shared.{noMonth, sharedBy, IsShared, Holds}
+use Rattle.drawer.specs.Shared.{noMonth, sharedAt, IsShared, Holds}
 use Rattle.drawer.proofs.Mid.{mid, mid-none, mid-length, mid-next, mid-at}
 use Rattle.drawer.proofs.Sharing.{Kept, none-kept, still-kept, now-kept}
 use Rattle.drawer.proofs.Filling.{Fills, fills, filled}
-use Rattle.drawer.proofs.Tail.{tail, head, held, failed}
+use Rattle.drawer.proofs.Tail.{tail, head, taken, not-taken}
 use Rattle.offered.specs.declared.CDate.{CDate}
 use Rattle.offered.specs.declared.CFilled.{CFilled}
 use Rattle.offered.specs.Flat.{givenDate, flatFilled}
@@ -173,10 +173,10 @@ use Rattle.drawer.proofs.lies_in as lies-in
 use Rattle.drawer.proofs.lies_in.Symbol as lies-in-def
 use Rattle.drawer.proofs.lies_in.Symbol.{name as #drawer·lies-in}
 use Rattle.drawer.proofs.lies_in.Met as lies-in-thm
-use Rattle.flat.proofs.flat_day_in as day-in
-use Rattle.flat.proofs.flat_day_in.Symbol as day-in-def
-use Rattle.flat.proofs.flat_day_in.Symbol.{name as #flat·day-in}
-use Rattle.flat.proofs.flat_day_in.Met as day-in-thm
+use Rattle.flat.proofs.flat_day_of_month_in as day-in
+use Rattle.flat.proofs.flat_day_of_month_in.Symbol as day-in-def
+use Rattle.flat.proofs.flat_day_of_month_in.Symbol.{name as #flat·day-in}
+use Rattle.flat.proofs.flat_day_of_month_in.Met as day-in-thm
 use Rattle.flat.proofs.flat_day_name as day-name
 use Rattle.flat.proofs.flat_day_name.Symbol as day-name-def
 use Rattle.flat.proofs.flat_day_name.Symbol.{name as #flat·day-name}
@@ -302,8 +302,8 @@ module _ {M : Type 1} (𝓤 : URA M) (H : Heap 𝓤) (A : Atoms 𝓤) (W : Given
   answer = drawerAt ds (length ys)
 
   -- `out` where i records are stored
-  abbrev at : ℕ → List CDate
-  at i = mid cDateAt ds ys i
+  abbrev so-far : ℕ → List CDate
+  so-far i = mid cDateAt ds ys i
 
   abbrev Post : Val → SProp 𝓤
   Post = walkOf 𝓤 H A f.ended stayed (f.clauses 𝓤 H A mem run) .post (((κ, (κ′, tt)), (q, (q′, tt)), tt, a, vals), tt)
@@ -443,8 +443,8 @@ module _ {M : Type 1} (𝓤 : URA M) (H : Heap 𝓤) (A : Atoms 𝓤) (W : Given
       owned ! D.the-row (Is D.the-row) (LL.makes D.the-type D′.the-plain 𝓤 H A) r _ is $ fjoin ! $ done !
 
   of-shared-at : (r : Date) (d i : ℕ) (k : Shared) →
-      ent 𝓤 (ensured 𝓤 H A shared-at.ended (shared-at.clauses 𝓤 H A mem run) tt (r, (d, (i, tt))) tt k) (fact 𝓤 (k ≡ sharedBy d i))
-  of-shared-at r d i k = exE 𝓤 _ (λ ws. snd∗ 𝓤 (sem 𝓤 H A (lasts shared-at.ended tt (r, (d, (i, tt))) ws)) (fact 𝓤 (k ≡ sharedBy d i)))
+      ent 𝓤 (ensured 𝓤 H A shared-at.ended (shared-at.clauses 𝓤 H A mem run) tt (r, (d, (i, tt))) tt k) (fact 𝓤 (k ≡ sharedAt d i))
+  of-shared-at r d i k = exE 𝓤 _ (λ ws. snd∗ 𝓤 (sem 𝓤 H A (lasts shared-at.ended tt (r, (d, (i, tt))) ws)) (fact 𝓤 (k ≡ sharedAt d i)))
 
   abbrev to-given-date : Date → Val → GivenDate 𝓤 H A mem run .Ghost
   to-given-date r x = ((tt, tt, tt, (r, tt), (x ∷ [], tt)), tt)
@@ -532,7 +532,7 @@ module _ {M : Type 1} (𝓤 : URA M) (H : Heap 𝓤) (A : Atoms 𝓤) (W : Given
 
       abbrev Ghosts : ℕ → List (Item 𝓤) → List (Item 𝓤)
       Ghosts i Γ =
-          ‵ (flft κ q) ∷ ‵ Shr ∷ ‵ (row R.the-row fullShare (at i) b o) ∷ ‵ (fobor κ′ q′ (Held R.the-row (length ys) b o γ))
+          ‵ (flft κ q) ∷ ‵ Shr ∷ ‵ (row R.the-row fullShare (so-far i) b o) ∷ ‵ (fobor κ′ q′ (Held R.the-row (length ys) b o γ))
           ∷ ‵ (Obs ys) ∷ ‵ (Auth ys) ∷ ‵ Res ∷ Γ
 
       abbrev At : Upto → List (Item 𝓤)
@@ -550,7 +550,7 @@ module _ {M : Type 1} (𝓤 : URA M) (H : Heap 𝓤) (A : Atoms 𝓤) (W : Given
       good : (i : ℕ) → T (ltb i m) → Fills ds (length ys) i
       good i less = fills ds (length ys) i (subst (λ (k : ℕ). i < k) as-answered (ltb→lt i m less))
 
-      within : (i : ℕ) → T (ltb i m) → i < length (at i)
+      within : (i : ℕ) → T (ltb i m) → i < length (so-far i)
       within i less = subst (λ (k : ℕ). i < k) (sym (mid-length cDateAt ds ys i)) (good i less .a-record)
 
       fits1 : (i : ℕ) → T (ltb i m) → i + 1 < 2 ^ 64
@@ -574,8 +574,8 @@ module _ {M : Type 1} (𝓤 : URA M) (H : Heap 𝓤) (A : Atoms 𝓤) (W : Given
       at-fits : (i a : ℕ) → T (ltb i m) → a < i → T (ltb a m)
       at-fits i a less l = let z : i < m = ltb→lt i m less in lt→ltb a m (omega arith)
 
-      there : (i a : ℕ) → T (ltb i m) → a < i → a < length (at i)
-      there i a less l = let z : i < length (at i) = within i less in omega arith
+      there : (i a : ℕ) → T (ltb i m) → a < i → a < length (so-far i)
+      there i a less l = let z : i < length (so-far i) = within i less in omega arith
 
       -- what follows a branch of the turn, and what is to be shown of a branch
       abbrev after : Body
@@ -605,7 +605,7 @@ module _ {M : Type 1} (𝓤 : URA M) (H : Heap 𝓤) (A : Atoms 𝓤) (W : Given
           again ! Nearer At (i, le, k₀, is₀, kept₀) (i + 1, up i less, k, is-k, kept) (nearer i less)
 
       -- the day lies in no month that is kept: its date is made and stored, and its month is kept
-      makes : (j : Upto) (less : T (ltb (j .0) m)) → day (j .0) < 2 ^ 32 → Sq W (Asked (j .0) (j .2)) (runs C Λ En (failed fork) (Then j))
+      makes : (j : Upto) (less : T (ltb (j .0) m)) → day (j .0) < 2 ^ 32 → Sq W (Asked (j .0) (j .2)) (runs C Λ En (not-taken fork) (Then j))
       makes (i, le, k₀, is₀, kept₀) less fit =
           use0 W (raw (DateAt 𝓤 H A mem run .pre (to-date-at (day i)))) (goes-date-at (day i) fit (good i less .in-range)) $
           calls-at ! (fmOf 𝓤 H (W .laws) 𝓣) (DateAt 𝓤 H A mem run) (known .met-date-at) (to-date-at (day i))
@@ -628,7 +628,7 @@ module _ {M : Type 1} (𝓤 : URA M) (H : Heap 𝓤) (A : Atoms 𝓤) (W : Given
           (later (some (λ (k : Shared). (‵ ftrue ⊛ ‵ (S.the-row .own k (y ∷ [])))
           ⊛ raw (ensured 𝓤 H A shared-at.ended (shared-at.clauses 𝓤 H A mem run) tt (r, (day i, (i, tt))) tt k)))) (id⊢ 𝓤 _) $
           await ! tt $ pick ! (λ k.
-          split ! $ move ! (1 ∷ []) $ use1 W (raw (fact 𝓤 (k ≡ sharedBy (day i) i))) (of-shared-at r (day i) i k) $ heard ! (k ≡ sharedBy (day i) i) (λ ek.
+          split ! $ move ! (1 ∷ []) $ use1 W (raw (fact 𝓤 (k ≡ sharedAt (day i) i))) (of-shared-at r (day i) i k) $ heard ! (k ≡ sharedAt (day i) i) (λ ek.
           split ! $ drop ! $
           peeks ! S.the-row (Is S.the-row) (shows 𝓤 H A S.the-row) k (y ∷ []) (λ is-k.
           land ! (from ! (stop !)) (store ! (L 8 5) refl (LL.lawful S.the-type S′.the-laws 𝓤 H A W .typed k _ is-k .0)) $ drop ! $
@@ -653,13 +653,13 @@ module _ {M : Type 1} (𝓤 : URA M) (H : Heap 𝓤) (A : Atoms 𝓤) (W : Given
           rewrite ! (L 7 26) (λ (a : ℕ). ‵ (fat fullShare tyPtr l₂₆ 0 (vptr b a))) (sym (place-is sz o i)) refl $
           move ! (2 ∷ []) $
           elem-out ! R.the-row (Is R.the-row) (shows 𝓤 H A R.the-row) (LL.vals R.the-type R′.the-laws) (LL.tells R.the-type R′.the-laws)
-          fullShare (at i) i t b o (within i less) (λ _.
+          fullShare (so-far i) i t b o (within i less) (λ _.
           -- [out[i]; what it owns; the others; the token; Shr; the open borrow; obs; auth; Res; _26; …]
           assigns-last ! (of-opd ! (load ! (from ! (stop !)) (look ! (L 9 24) refl))) (from ! (hop ! (look ! (L 9 26) refl) (stop !)))
           (store-raw ! 0 refl (LL.lawful R.the-type R′.the-laws 𝓤 H A W .typed t _ is-t .0)) $
           exec ! C Λ En after (anyQ (Turned (i, le, k₀, is₀, kept₀))) $
           move ! (1 ∷ []) $ drop ! $ owned ! R.the-row (Is R.the-row) (LL.makes R.the-type R′.the-plain 𝓤 H A) t _ is-t $
-          move ! (1 ∷ 0 ∷ []) $ elem-put ! R.the-row fullShare (at i) i t (v ∷ []) b o (within i less) $
+          move ! (1 ∷ 0 ∷ []) $ elem-put ! R.the-row fullShare (so-far i) i t (v ∷ []) b o (within i less) $
           rewrite ! 0 (λ (zs : List CDate). ‵ (row R.the-row fullShare zs b o))
           (mid-next cDateAt ds ys i 0 t (et ∙ ap givenDate e ∙ at-its-date (day i) (good i less .in-range)) (good i less .a-day) (good i less .a-record)) refl $
           forget ! (L 7 26) refl $ forget ! (L 7 25) refl $ forget ! (L 7 24) refl $ forget ! (L 7 9) refl $ move ! (1 ∷ 2 ∷ 0 ∷ []) $
@@ -677,16 +677,16 @@ module _ {M : Type 1} (𝓤 : URA M) (H : Heap 𝓤) (A : Atoms 𝓤) (W : Given
 
       -- the day lies in the kept month: the record that has a date of it is copied
       abbrev known-date : ℕ → Shared → CDate
-      known-date i k = getD (at i) (k .at) (cDateAt 0)
+      known-date i k = getD (so-far i) (k .at) (cDateAt 0)
 
       -- day of month and day name are put over the copy, which stands in place i and is taken out of the row
       puts : (j : Upto) (less : T (ltb (j .0) m)) (r : CDate) → Is R.the-row r (dateVal r ∷ []) → r ≡ cDateAt (day (j .2 .at)) → day (j .0) < 2 ^ 32 →
           Holds (j .2 .start) (j .2 .«month_length») (day (j .0)) →
           Sq W
-          (‵ (cellAt fullShare (R.the-row .mir) (dateVal r ∷ []) b (place sz o (j .0))) ∷ ‵ (others (shares R.the-row) fullShare (at (j .0)) (j .0) b o)
+          (‵ (cellAt fullShare (R.the-row .mir) (dateVal r ∷ []) b (place sz o (j .0))) ∷ ‵ (others (shares R.the-row) fullShare (so-far (j .0)) (j .0) b o)
           ∷ ‵ (flft κ q) ∷ ‵ Shr ∷ ‵ (fobor κ′ q′ (Held R.the-row (length ys) b o γ)) ∷ ‵ (Obs ys) ∷ ‵ (Auth ys) ∷ ‵ Res
           ∷ Lo (told u) (word l₄ m) (month (j .2)) (word l₆ (j .0)) (half l₇ (day (j .0))))
-          (runs C Λ En (tail (tail (tail (tail (tail (tail (tail (held fork)))))))) (Then j))
+          (runs C Λ En (tail (tail (tail (tail (tail (tail (tail (taken fork)))))))) (Then j))
       puts (i, le, k, is-k, kept) less r is er fit holds =
           use0 W (raw (DayIn 𝓤 H A mem run .pre (to-day-in k (day i)))) (goes-day-in k (day i) is-k fit (kept .is-shared, holds)) $
           calls-at ! (fmOf 𝓤 H (W .laws) 𝓣) (DayIn 𝓤 H A mem run) (known .met-day-in) (to-day-in k (day i))
@@ -730,14 +730,14 @@ module _ {M : Type 1} (𝓤 : URA M) (H : Heap 𝓤) (A : Atoms 𝓤) (W : Given
           (store-in ! 0 (sub ! 6 refl (whole !)) (tt, record { fits = ic .1 })) $
           exec ! C Λ En after (anyQ (Turned (i, le, k, is-k, kept))) $
           owned ! R.the-row (Is R.the-row) (LL.makes R.the-type R′.the-plain 𝓤 H A) (flatWithDay r a c) _ (made r a c (ia .1) (ic .1) is) $
-          move ! (1 ∷ 0 ∷ []) $ elem-put ! R.the-row fullShare (at i) i (flatWithDay r a c) (dateVal (flatWithDay r a c) ∷ []) b o (within i less) $
+          move ! (1 ∷ 0 ∷ []) $ elem-put ! R.the-row fullShare (so-far i) i (flatWithDay r a c) (dateVal (flatWithDay r a c) ∷ []) b o (within i less) $
           rewrite ! 0 (λ (zs : List CDate). ‵ (row R.the-row fullShare zs b o))
           (mid-next cDateAt ds ys i 0 (flatWithDay r a c) (put-over i k r a c (its-range i k less kept holds) (good i less .in-range) er ea ec kept holds) (good i less .a-day) (good i less .a-record)) refl $
           forget ! (L 7 23) refl $ forget ! (L 7 21) refl $ forget ! (L 7 19) refl $ move ! (1 ∷ 2 ∷ 0 ∷ []) $
           ends-turn (i, le, k, is-k, kept) less k is-k (still-kept day i k kept)))))))))
 
       copies : (j : Upto) (less : T (ltb (j .0) m)) → day (j .0) < 2 ^ 32 → Holds (j .2 .start) (j .2 .«month_length») (day (j .0)) →
-          Sq W (Asked (j .0) (j .2)) (runs C Λ En (held fork) (Then j))
+          Sq W (Asked (j .0) (j .2)) (runs C Λ En (taken fork) (Then j))
       copies (i, le, k, is-k, kept) less fit holds =
           let before : k .at < i = kept .known (day i) holds .0 in
           let less′ : T (ltb (k .at) m) = at-fits i (k .at) less before in
@@ -750,10 +750,10 @@ module _ {M : Type 1} (𝓤 : URA M) (H : Heap 𝓤) (A : Atoms 𝓤) (W : Given
           rewrite ! (L 7 17) (λ (a : ℕ). ‵ (fat fullShare tyPtr l₁₇ 0 (vptr b a))) (sym (place-is sz o (k .at))) refl $
           move ! (2 ∷ []) $
           elem-out ! R.the-row (Is R.the-row) (shows 𝓤 H A R.the-row) (LL.vals R.the-type R′.the-laws) (LL.tells R.the-type R′.the-laws)
-          fullShare (at i) (k .at) (cDateAt 0) b o (there i (k .at) less before) (λ g.
+          fullShare (so-far i) (k .at) (cDateAt 0) b o (there i (k .at) less before) (λ g.
           assigns ! (of-opd ! (load ! (from ! (hop ! (look ! (L 9 17) refl) (stop !))) (look-raw ! 0 refl))) (from ! (stop !))
           (init ! (L 9 18) refl (LL.lawful R.the-type R′.the-laws 𝓤 H A W .typed (known-date i k) _ g .0)) $
-          elem-back ! R.the-row fullShare (at i) (k .at) (cDateAt 0) (dateVal (known-date i k) ∷ []) b o (there i (k .at) less before) $
+          elem-back ! R.the-row fullShare (so-far i) (k .at) (cDateAt 0) (dateVal (known-date i k) ∷ []) b o (there i (k .at) less before) $
           -- it is stored
           assigns ! (bin ! (load ! (from ! (stop !)) (look ! (L 7 6) refl)) (lit ! tt) (record { fits = fits-sz i less })) (from ! (stop !))
           (init ! (L 7 19) refl (tt, record { fits = fits-sz i less })) $
@@ -761,7 +761,7 @@ module _ {M : Type 1} (𝓤 : URA M) (H : Heap 𝓤) (A : Atoms 𝓤) (W : Given
           (from ! (stop !)) (init ! (L 7 20) refl (tt, tt)) $
           rewrite ! (L 7 20) (λ (a : ℕ). ‵ (fat fullShare tyPtr l₂₀ 0 (vptr b a))) (sym (place-is sz o i)) refl $
           elem-out ! R.the-row (Is R.the-row) (shows 𝓤 H A R.the-row) (LL.vals R.the-type R′.the-laws) (LL.tells R.the-type R′.the-laws)
-          fullShare (at i) i (cDateAt 0) b o (within i less) (λ _.
+          fullShare (so-far i) i (cDateAt 0) b o (within i less) (λ _.
           assigns ! (of-opd ! (load ! (from ! (stop !)) (look ! (L 9 18) refl))) (from ! (hop ! (look ! (L 9 20) refl) (stop !)))
           (store-raw ! 0 refl (LL.lawful R.the-type R′.the-laws 𝓤 H A W .typed (known-date i k) _ g .0)) $
           move ! (1 ∷ []) $ drop ! $
@@ -807,7 +807,7 @@ module _ {M : Type 1} (𝓤 : URA M) (H : Heap 𝓤) (A : Atoms 𝓤) (W : Given
           (λ over. jumps ! $ exec ! C Λ En t-7 (atRet En Post) $
           assigns ! (of-opd ! (load ! (from ! (stop !)) (look ! (L 7 3) refl))) (from ! (stop !))
           (init ! (L 7 0) refl (LL.lawful F.the-type F′.the-laws 𝓤 H A W .typed v _ is-v .0)) $
-          move ! (2 ∷ 3 ∷ 4 ∷ 5 ∷ []) $ closes-slice ! tt R.the-row ys (at i) (mid-length cDateAt ds ys i) b o $
+          move ! (2 ∷ 3 ∷ 4 ∷ 5 ∷ []) $ closes-slice ! tt R.the-row ys (so-far i) (mid-length cDateAt ds ys i) b o $
           -- [obs; the borrow; out's token; days' token; Shr; Res; _26; …]
           returns ! (look ! (L 6 0) refl) $ forget ! (L 6 11) refl $ forget ! (L 6 10) refl $ forget ! (L 6 6) refl $ forget ! (L 6 5) refl $
           forget ! (L 6 4) refl $ forget ! (L 6 3) refl $ forget ! (L 6 2) refl $ forget ! (L 6 1) refl $ forget ! (L 6 0) refl $
@@ -818,7 +818,7 @@ module _ {M : Type 1} (𝓤 : URA M) (H : Heap 𝓤) (A : Atoms 𝓤) (W : Given
           move ! (Two 6 16) $ free1 ! $ move ! (Two 6 17) $ free1 ! $ move ! (Two 6 18) $ free1 ! $ move ! (Two 6 19) $ free1 ! $
           move ! (Two 6 20) $ free1 ! $ move ! (Two 6 21) $ free1 ! $ move ! (Two 6 22) $ free1 ! $ move ! (Two 6 23) $ free1 ! $
           move ! (Two 6 24) $ free1 ! $ move ! (Two 6 25) $ free1 ! $ move ! (Two 6 26) $ free1 ! $ free0 ! $
-          by ! (exits v u is-v ev (at i) (mid-length cDateAt ds ys i) (ap at (all i le over ∙ as-answered) ∙ filled cDateAt ds ys)))
+          by ! (exits v u is-v ev (so-far i) (mid-length cDateAt ds ys i) (ap so-far (all i le over ∙ as-answered) ∙ filled cDateAt ds ys)))
 
       -- `i` is 0, the borrow of `out` is opened, and the loop runs
       begins : (k : Shared) → Is S.the-row k (sharedVal k ∷ []) → k ≡ noMonth →
@@ -939,7 +939,7 @@ oes-dates-spec 𝓤 H 𝓜 𝓖 𝓡 =
       met-to-fill = cited 𝓤 H (ToFill 𝓤 H (𝓖 .A) m r) 𝓜 𝓡 code.env #flat·to-fill to-fill-def.routine code.calls-flat·flat-to-fill (to-fill-thm.met 𝓤 H 𝓜 𝓖 𝓡);
       met-no-month = cited 𝓤 H (NoMonth 𝓤 H (𝓖 .A) m r) 𝓜 𝓡 code.env #drawer·no-month no-month-def.routine code.calls-drawer·no-month (no-month-thm.met 𝓤 H 𝓜 𝓖 𝓡);
       met-lies-in = cited 𝓤 H (LiesIn 𝓤 H (𝓖 .A) m r) 𝓜 𝓡 code.env #drawer·lies-in lies-in-def.routine code.calls-drawer·lies-in (lies-in-thm.met 𝓤 H 𝓜 𝓖 𝓡);
-      met-day-in = cited 𝓤 H (DayIn 𝓤 H (𝓖 .A) m r) 𝓜 𝓡 code.env #flat·day-in day-in-def.routine code.calls-flat·flat-day-in (day-in-thm.met 𝓤 H 𝓜 𝓖 𝓡);
+      met-day-in = cited 𝓤 H (DayIn 𝓤 H (𝓖 .A) m r) 𝓜 𝓡 code.env #flat·day-in day-in-def.routine code.calls-flat·flat-day-of-month-in (day-in-thm.met 𝓤 H 𝓜 𝓖 𝓡);
       met-day-name = cited 𝓤 H (DayName 𝓤 H (𝓖 .A) m r) 𝓜 𝓡 code.env #flat·day-name day-name-def.routine code.calls-flat·flat-day-name (day-name-thm.met 𝓤 H 𝓜 𝓖 𝓡);
       met-date-at = cited 𝓤 H (DateAt 𝓤 H (𝓖 .A) m r) 𝓜 𝓡 code.env #dates·date-at date-at-def.routine code.calls-dates·date-at (date-at-thm.met 𝓤 H 𝓜 𝓖 𝓡);
       met-shared-at = cited 𝓤 H (SharedAt 𝓤 H (𝓖 .A) m r) 𝓜 𝓡 code.env #drawer·shared-at shared-at-def.routine code.calls-drawer·shared-at (shared-at-thm.met 𝓤 H 𝓜 𝓖 𝓡);
