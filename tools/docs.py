@@ -14,10 +14,9 @@
   a line that begins with `Edits:`, one that stands in another crate with that in front (`penned::last_day_refused`); functions in a column `Call` or `Function`, or in a line that begins with `Functions:`. What is
   listed and stands in no such crate is told too, and a signature that is not the code's.
 - CONTRIBUTING.md's table of the crates names each crate once.
-- With --run, docs/TRUST.md's table of what each program assumes is what rt printed of it (target/log/), and the archive for C, where
-  `tools/native capi` was the last to prove `capi`, assumes nothing.
+- With --run, docs/TRUST.md's table of what each program assumes is what rt prints of it, and the archive for C assumes nothing.
 
-usage: tools/docs.py [--run]    exit status 1 if something is not there, or does not come out; --run is for after `rt check`
+usage: tools/docs.py [--run]    exit status 1 if something is not there, or does not come out; --run is for after `rt ci`
 """
 import pathlib
 import re
@@ -42,7 +41,7 @@ BRANCHES = "子 zi 丑 chou 寅 yin 卯 mao 辰 chen 巳 si 午 wu 未 wei 申 s
 def words():
     found = {path.stem for path in CRATES.glob("*/must-fail/*.edit")} | {path.name for path in CRATES.iterdir()}
     for path in CRATES.glob("*/*/**/*"):
-        if path.suffix in (".rt", ".antt"):
+        if path.suffix in (".rt", ".antt") and path.relative_to(CRATES).parts[1] != "out":
             text = path.read_text(encoding="utf8")
             found |= set(re.findall(r"[^\s(){}\[\];,.«»:&]+", text)) | set(re.findall(r"\w+", text))
     return found
@@ -129,24 +128,31 @@ def strange_crates(page):
 
 
 def assumed(crate):
-    """What rt printed as axioms of a crate, as docs/TRUST.md has it: each function of C's by its name, those of `os` by their number."""
-    said = (ROOT / "target" / "log" / f"{crate}.say").read_text(encoding="utf8")
-    by_name = re.findall(r"^axioms libc: (.*) \(", said, re.MULTILINE)
-    by_number = re.findall(r"^axioms os: .*\((\d+) of", said, re.MULTILINE)
-    count = re.findall(r"^logic=proved .*axioms=(\d+)", said, re.MULTILINE)
-    told = ", ".join(f"`{name}`" for name in ", ".join(by_name).split(", ") if name) + "".join(f"; {n} of `os`" for n in by_number)
-    known = told.count("libc::") + sum(map(int, by_number))
-    return told if count == ([str(known)] if known else []) else f"{told} and others"
+    """What rt prints as axioms of a crate, as docs/TRUST.md has it: each function of C's by its name, those of another library by their
+    number."""
+    run = subprocess.run(["rt", "check", "--list-axioms"], cwd=CRATES / crate, stdin=subprocess.DEVNULL, stdout=subprocess.PIPE, check=False)
+    # What is said of the crate itself comes last, below what is said of the libraries that had to be built.
+    said, proved = re.split(r"^logic=proved ", "\n" + run.stdout.decode(), flags=re.MULTILINE)[-2:] if run.returncode == 0 else ("", "")
+    if not proved:
+        return "what is not proved"
+    by_name = re.findall(r"^  (libc::\S+) +reached$", said, re.MULTILINE)
+    by_number = re.findall(r"^axioms (\w+): (\d+) reached of", said, re.MULTILINE)
+    numbers = {library: int(n) for library, n in by_number}
+    count = sum(int(n) for n in re.findall(r"\baxioms=(\d+)", proved.partition("\n")[0]))
+    told = ", ".join(f"`{name}`" for name in by_name) + "".join(f"; {n} of `{library}`" for library, n in by_number if library != "libc")
+    return told if numbers.get("libc", 0) == len(by_name) and sum(numbers.values()) == count else f"{told} and others"
 
 
 def strange_axioms(page):
     rows = re.findall(r"^\| (`[^|]*) \| (`libc[^|]*) \|$", page.read_text(encoding="utf8"), re.MULTILINE)
     told = {name: cell for programs, cell in rows for name in names(programs)}
-    if assumed("capi"):
-        yield f"{page.name}: the archive for C assumes {assumed('capi')}"
+    by_c = assumed("capi")
+    if by_c:
+        yield f"{page.name}: the archive for C assumes {by_c}"
     for crate in sorted(path.parent.parent.name for path in CRATES.glob("*/src/main.rt")):
-        if told.get(crate, "").partition(" (")[0] != assumed(crate):
-            yield f"{page.name}: `{crate}` assumes {assumed(crate)}, and the table has {told.get(crate)}"
+        by_it = assumed(crate)
+        if told.get(crate, "").partition(" (")[0] != by_it:
+            yield f"{page.name}: `{crate}` assumes {by_it}, and the table has {told.get(crate)}"
 
 
 def source(crate):

@@ -8,7 +8,8 @@ or if it is a type, where something else that is `pub` has it in its signature; 
 signatures in docs/CALLS.md, are needed as they are. It is needed of
 a definition of proofs/ where another file names it, or one of its constructors, or where it stands in a signature that is `pub`. Of
 specs/ every `pub` may stay, so that a statement's parts can be cited. A definition of specs/ or proofs/ is needed where it is named at
-all; needed as they are the proofs of statements, what a Proof.antt says of its function, and the figures of a Cases.antt.
+all; needed as they are the proofs of statements, what a Proof.antt, an Invariants.antt and an Answers.antt say of their function (the
+proof, what is asked of `Given` or of `Goals`), and the figures of a Cases.antt.
 
 usage: tools/unused.py [CRATE..]          what is found, in these crates or in all; exit status 1 if something is
        tools/unused.py --fix [CRATE..]    take out the imports, and each `pub` of proofs/ (run `rt fmt` after it, and this again); the
@@ -25,6 +26,8 @@ USE = re.compile(r"^(?:pub |unfoldable |ghost )*use\s+([^\s{;]+?)(?:(?:\.|::)\{(
 DECLARED = re.compile(r"[ \t]*((?:abbrev |unfoldable |pub )*)(record |data |ruleset )?([^\s(){};,.]+)")
 CODE = re.compile(r"^pub (extern\s+)?(fn|struct|enum|const|static) (\w+)", re.M)
 
+# The place of an argument in an operator's name.
+MARK = "◌"
 NO_NAMES = {"module", "use", "mod", "mutual", "infixl", "infixr", "infix", "unfolding", "where", "axiom"}
 
 Import = collections.namedtuple("Import", "module item name ghost start line")
@@ -87,9 +90,7 @@ class File:
         if one.item is None:
             heads = re.findall(r"(?<![^\s(){},;])([^\s(){},;.]+)\.", self.clauses)
             return one.name in heads or any(one.name == other.module.partition(".")[0] for other in self.imports)
-        if "_" in one.name and not one.name.startswith("«"):
-            return one.name in self.atoms or all(part in self.atoms for part in one.name.split("_") if part)
-        return one.name in self.atoms
+        return is_among(one.name, self.atoms)
 
     def unused(self):
         return [one for one in self.imports if not self.is_needed(one)]
@@ -119,8 +120,13 @@ class File:
 
 def atoms(text):
     """The names that stand in a text, not those behind a dot; of an operator's section its parts too."""
-    found = set(re.findall(r"(?<![^\s(){};,])([^\s(){};,.]+)", text))
-    return found | {part for name in found if "_" in name and not name.startswith("«") for part in name.split("_")}
+    found = set(re.findall(r"(?<![^\s(){}\[\];,])([^\s(){}\[\];,.]+|\[\])", text))
+    return found | {part for name in found if MARK in name for part in name.split(MARK)}
+
+
+def is_among(name, atoms):
+    """Whether a name stands among these: as it is, or an operator by its parts."""
+    return name in atoms or MARK in name and all(part in atoms for part in name.split(MARK) if part)
 
 
 def module_of(path):
@@ -130,8 +136,8 @@ def module_of(path):
 
 
 def named_module(module):
-    """The same of what an import names: `Rattle·rule·specs.specs.Rule` from inside, `Rattle·rule.specs.Rule` from outside."""
-    found = re.fullmatch(r"Rattle·(\w+?)(?:·(?:specs|proofs))?\.(.*)", module)
+    """The same of what an import names: `Rattle.rule.specs.Rule`, from inside as from outside."""
+    found = re.fullmatch(r"Rattle\.(\w+)\.(.*)", module)
     return found.groups() if found else (None, module)
 
 
@@ -148,7 +154,7 @@ def named_in(file):
                 below, _, name = path.rpartition(".")
                 found.add((crate, module + ("." + below if below else ""), name))
                 found.add((crate, module, path.partition(".")[0]))
-    for crate, module, name in re.findall(r"Rattle·(\w+?)(?:·(?:specs|proofs))?\.([^\s(){},;]+)\.([^\s(){},;.]+)", file.clauses):
+    for crate, module, name in re.findall(r"Rattle\.(\w+)\.([^\s(){},;]+)\.([^\s(){},;.]+)", file.clauses):
         found.add((crate, module, name))
     return found
 
@@ -183,8 +189,15 @@ def in_folder(file, folder):
 def is_root(file, name, stated):
     """What is needed though no file names it."""
     if file.path.stem == "Proof":
-        return name.endswith("-spec")
-    return in_folder(file, "proofs") and (file.path.stem == "Cases" or (file.crate, name.lower()) in stated)
+        return name.endswith("_spec")
+    if file.path.stem in ("Invariants", "Answers") and re.search(rf"^[ \t]*(?:abbrev |pub )*{re.escape(name)} : \S*\bgoal\.", file.body, re.M):
+        return True
+    return in_folder(file, "proofs") and (file.path.stem == "Cases" or (file.crate, plain(name)) in stated)
+
+
+def plain(name):
+    """A name in small letters alone: a statement `NoOther` has the proof `no-other`."""
+    return re.sub(r"[-_']", "", name).lower()
 
 
 def occurs_in_own(file, name, one):
@@ -192,7 +205,7 @@ def occurs_in_own(file, name, one):
     own = re.compile(r"[ \t]{%d}%s(?=[\s(]|$)" % (one.indent, re.escape(one.name)))
     lines = enumerate(file.body.splitlines(), 1)
     rest = atoms("\n".join(line for number, line in lines if number not in one.block and not own.match(line)))
-    return name in rest or all(part in rest for part in ([name] if name.startswith("«") else name.split("_")) if part)
+    return is_among(name, rest)
 
 
 def narrowed(file, found):
@@ -216,7 +229,7 @@ def needless_definitions(files):
             named[what].add(file.path)
     antt = [file for file in files if file.path.suffix == ".antt" and file.path.stem != "Lib"]
     specs = [file for file in antt if in_folder(file, "specs")]
-    stated = {(file.crate, one.name.lower()) for file in specs for one in declarations(file) if one.name[0].isupper()}
+    stated = {(file.crate, plain(one.name)) for file in specs for one in declarations(file) if one.name[0].isupper()}
     nowhere, narrow = [], []
     for file in antt:
         crate, module = module_of(file.path)
@@ -254,7 +267,7 @@ def needless_code(files):
             for_c, kind, name = found.groups()
             word = re.compile(rf"\b{name}\b")
             in_code = any(re.search(rf"\b{head}::{name}\b", spelled[one]) for one in others if one is not file)
-            in_proofs = any(re.search(rf"Rattle·{file.crate}\.[^\s{{]*\b{name}\b", one.text) for one in antt if one.crate != file.crate)
+            in_proofs = any(re.search(rf"Rattle\.{file.crate}\.[^\s{{]*\b{name}\b", one.text) for one in antt if one.crate != file.crate)
             in_public = kind in ("struct", "enum") and any(word.search(text) for item, text in public if item != name)
             if not (for_c or in_code or in_proofs or in_public or f"{file.crate}::{name}" in calls):
                 line = file.code.count("\n", 0, found.start()) + 1
@@ -275,7 +288,7 @@ def fix(file, narrow):
 
 
 def main():
-    files = [File(path) for path in sorted(CRATES.glob("*/*/**/*")) if path.suffix in (".antt", ".rt")]
+    files = [File(path) for path in sorted(CRATES.glob("*/*/**/*")) if path.suffix in (".antt", ".rt") and path.relative_to(CRATES).parts[1] != "out"]
     words = [word for word in sys.argv[1:] if word != "--fix"]
     asked = set(words) or {file.crate for file in files}
     if not all((CRATES / crate).is_dir() for crate in asked):

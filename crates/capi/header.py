@@ -54,9 +54,9 @@ def of_header(text):
 
 def of_code(text):
     found = {}
-    for name, body in re.findall(r"#\[repr\(C\)\]\npub struct (\w+) \{(.*?)\n\}", text, re.DOTALL):
+    for name, body in re.findall(r"#\[repr\(C\)\]\n(?:#\[derive\([^\n]*\)\]\n)?pub struct (\w+) \{(.*?)\n\}", text, re.DOTALL):
         found[name] = re.findall(r"pub (\w+): (\w+),", body)
-    for name, body, result in re.findall(r'#\[no_mangle\]\npub extern "C" fn (\w+)\((.*?)\) -> (\w+)', text, re.DOTALL):
+    for name, body, result in re.findall(r'#\[unsafe\(no_mangle\)\]\npub extern "C" fn (\w+)\((.*?)\) -> (\w+)', text, re.DOTALL):
         found[name] = []
         for arg, kind in re.findall(r"(\w+): ([^,]+)", body):
             part = re.match(r"(&mut |&)\[(\w+)\]", kind)

@@ -181,7 +181,7 @@ named-told y k false n = civil-told y (Ordinary k) n
 
 -- the date of a day
 date-told : (d : ℕ) (r : Date) → DateOfDay d (Dated'.Is r) ↔ DateByTerms term_before d r
-date-told d r = (λ p. there ((Dates.date-of-day d r).0 p), λ a. (Dates.date-of-day d r).1 (back a))
+date-told d r = (λ p. there ((Dates.date-of-day-exactly d r).0 p), λ a. (Dates.date-of-day-exactly d r).1 (back a))
   where
     there : DayInRange d × IsDate d r → DateByTerms term_before d r
     there (h, i) =
@@ -208,7 +208,7 @@ date-told d r = (λ p. there ((Dates.date-of-day d r).0 p), λ a. (Dates.date-of
 
 -- the day of a date
 day-told : (y k : ℕ) (l : Bool) (m d : ℕ) → DayOfDate y k l m (DayTold'.Is d) ↔ DayByTerms term_before y k l m d
-day-told y k l m d = (λ p. there ((Dates.day-of-date y k l m d).0 p), λ a. (Dates.day-of-date y k l m d).1 (back a))
+day-told y k l m d = (λ p. there ((Dates.day-of-date-exactly y k l m d).0 p), λ a. (Dates.day-of-date-exactly y k l m d).1 (back a))
   where
     there : IsDayOf y k l m d → DayByTerms term_before y k l m d
     there i = record { n = i.n; the-month = (named-told y k l i.n).0 (i.of-the-year, i.the-month); the-day = i.the-day; counted = i.counted }
@@ -246,11 +246,11 @@ dates-by-terms told h = subst DatesBy (sym (λ i y k. Facts.term-as-before y k (
 solstice-given : (y : ℕ) → SolsticeYearInRange y → (a : SolsticeYearTold) → SolsticeYearFacts y a → a ≡ Solstice'.Is (solstice_year y)
 solstice-given y h a p =
     (Facts.unique-facts).solstice-year y a (Solstice'.Is (solstice_year y)) p
-    ((Facts.solstice-year y (solstice_year y)).1 (h, (solstice-exactly y h.0 (solstice_year y)).0 refl))
+    ((Facts.solstice-year-exactly y (solstice_year y)).1 (h, (solstice-exactly y h.0 (solstice_year y)).0 refl))
 
 month-given : (n : ℕ) → MonthInRange n → (a : MonthTold) → MonthByCount n a → a ≡ Month'.Is (month_facts n)
 month-given n h a p =
-    (Facts.unique-facts).month n a (Month'.Is (month_facts n)) p ((Facts.month-by-count n (month_facts n)).1 (h, (month-exactly n (month_facts n)).0 refl))
+    (Facts.unique-facts).month n a (Month'.Is (month_facts n)) p ((Facts.month-by-count-exactly n (month_facts n)).1 (h, (month-exactly n (month_facts n)).0 refl))
 
 pub place-and-mark : Paper.PlaceAndMark
 unfolding solstice_year month_facts
@@ -264,7 +264,7 @@ place-and-mark d r p =
     }
   where
     i : IsDate d r
-    i = ((Dates.date-of-day d r).0 p).1
+    i = ((Dates.date-of-day-exactly d r).0 p).1
 
     n : ℕ
     n = i.n

@@ -3,20 +3,19 @@ use Prim.Native.Nat.{ℕ, suc, ◌*◌, ◌<◌}
 use native.Mathlib.Omega.{arith}
 use mathlib.Core.Path.{◌≡◌, refl, ap, sym, ◌∙◌, subst}
 use mathlib.Core.Bool.{cond}
-use mathlib.Core.List.{List, [], ◌∷◌, ◌++◌, append-nil}
-use lib.Dec.{eqb}
+use mathlib.Core.List.{List, [], ◌++◌, append-nil}
 use lib.ListN.{length, get_or, take, drop, take-append-drop}
-use borrow.Author.Tests.{eq-eqb, ne_eqb}
+use borrow.Author.Tests.{ne_eqb}
 use Rattle.rule.specs.Reasons.{Answer, is, and_then}
 use Rattle.sheet.specs.Sheet.{ListsFor}
-use Rattle.fields.specs.Fields.{word, decimal, digits, mark, followed, each}
+use Rattle.fields.specs.Fields.{word, decimal, digits, followed, each}
 use Rattle.fields.proofs.Putting.{put_as}
 use Rattle.listed.proofs.Fronts.{sections-taken}
 use Rattle.listed.specs.Paper.{TakenInto}
 use Rattle.newsheet.specs.New.{eight_of, eights, new_sections, Four, four_named, read_new}
 use Rattle.newsheet.proofs.Eights.{eights-slice}
 use Rattle.answered.specs.declared.Head.{Head}
-use Rattle.answered.specs.Answers.{field_shown, mark_shown, reading_line, answer_to_reading, head_text, readings_after, answers_text}
+use Rattle.answered.specs.Answers.{reading_line, answer_to_reading, head_text, readings_after, answers_text}
 use Rattle.answered.specs.Paper as Paper
 use Rattle.answered.specs.Paper.{HoldsReadings, HeadPut}
 
@@ -70,16 +69,3 @@ pub held_at : (list : List ℕ) (n : ℕ) (xs : List ℕ) → HoldsReadings list
 held_at list n xs h j l =
     let e : list ≡ eights xs ++ drop (8 * n) list = sym (take-append-drop (8 * n) list) ∙ ap (λ (t : List ℕ). t ++ drop (8 * n) list) h.numbers in
     ap (λ (t : List ℕ). take 8 (drop (8 * j) t)) e ∙ eights-slice xs (drop (8 * n) list) j (omega (arith, l, h.many))
-
--- the fields' texts, by the number
-pub no_field : (n : ℕ) → n ≡ 0 → word " ?" ≡ 32 ∷ field_shown n
-no_field n h = rw (eq-eqb n 0 h) refl
-
-pub some-field : (n : ℕ) → (n ≡ 0 → ⊥) → 32 ∷ decimal n ≡ 32 ∷ field_shown n
-some-field n h = rw (ne_eqb n 0 h) refl
-
-pub no-mark : (n : ℕ) → n ≡ 0 → word " ?" ≡ 32 ∷ mark_shown n
-no-mark n h = rw (eq-eqb n 0 h) refl
-
-pub some-mark : (n : ℕ) → (n ≡ 0 → ⊥) → 32 ∷ mark (eqb n 2) 76 ∷ [] ≡ 32 ∷ mark_shown n
-some-mark n h = rw (ne_eqb n 0 h) refl

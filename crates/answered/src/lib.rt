@@ -10,6 +10,8 @@ ghost use Rattle.answered.specs.Answers.{field_shown, mark_shown, rest_text, rea
 ghost use Rattle.answered.specs.Paper.{answers_held, HeadPut, InputHeaded, ReadingAnswered};
 
 use newsheet::{Eight, NewCounts};
+use std::io;
+use std::io::{Read, Write};
 
 // How many bytes come before the readings, and how many readings follow.
 #[derive(Clone, Copy)]
@@ -93,23 +95,37 @@ fn eight_at(list: &[u32], j: usize) -> Eight
 }
 
 // Reading j of n, answered.
-fn answer_reading(list: &[u32], n: usize, j: usize, days: &mut [u32], out: &mut [u8])
+fn answer_reading<W: Write>(
+    list: &[u32],
+    n: usize,
+    j: usize,
+    days: &mut [u32],
+    out: &mut [u8],
+    to: &mut W,
+) -> io::Result<()>
     requires { (j < n) × (n ≤ 500) × (8 * n ≤ length list.now) × (places ≤ length days.old) × (3275666 ≤ length out.old) }
     ensures { ReadingAnswered list.now n j out.old out.new }
 {
     let m = put_answer(eight_at(list, j), days, out);
-    io::write_all(1, &out[0..m]);
+    to.write_all(&out[0..m])
 }
 
 // The n readings of a list, one by one.
-fn answer_readings(list: &[u32], n: usize, days: &mut [u32], out: &mut [u8])
+fn answer_readings<W: Write>(
+    list: &[u32],
+    n: usize,
+    days: &mut [u32],
+    out: &mut [u8],
+    to: &mut W,
+) -> io::Result<()>
     requires { (n ≤ 500) × (8 * n ≤ length list.now) × (places ≤ length days.old) × (3275666 ≤ length out.old) }
 {
     let mut j = 0;
     while j < n {
-        answer_reading(list, n, j, days, out);
+        answer_reading(list, n, j, days, out, to)?;
         j += 1;
     }
+    Ok(())
 }
 
 // What comes before the readings, at the front of a buffer that has room for the longest listing; and the readings that follow, put into a list
@@ -149,15 +165,22 @@ fn head_taken(bytes: &[u8], n: usize, list: &mut [u32], out: &mut [u8]) -> Head
 }
 
 // The input answered: first what comes before the readings, then reading by reading.
-fn answer_taken(bytes: &[u8], n: usize, list: &mut [u32], days: &mut [u32], out: &mut [u8])
+fn answer_taken<W: Write>(
+    bytes: &[u8],
+    n: usize,
+    list: &mut [u32],
+    days: &mut [u32],
+    out: &mut [u8],
+    to: &mut W,
+) -> io::Result<()>
     requires { (answers_held ≡ length bytes.now) × (n ≤ length bytes.now) × (4000 ≤ length list.old)
         × (places ≤ length days.old) × (3275666 ≤ length out.old) }
 {
     let h = head_taken(bytes, n, list, out);
     let m = h.bytes;
     let k = h.readings;
-    io::write_all(1, &out[0..m]);
-    answer_readings(list, k, days, out);
+    to.write_all(&out[0..m])?;
+    answer_readings(list, k, days, out, to)
 }
 
 // The longest sheet has 17,008 bytes; one byte more shows that an input is longer.
@@ -178,11 +201,11 @@ fn day_room() -> [u32; 111036] {
 }
 
 // A sheet's answers.
-pub fn answer_from(fd: i32) {
+pub fn answer_from<R: Read, W: Write>(from: &mut R, to: &mut W) -> io::Result<()> {
     let mut bytes = sheet_room();
     let mut out = room();
     let mut days = day_room();
     let mut list = [0u32; 4000];
-    let n = io::read_full(fd, &mut bytes);
-    answer_taken(&bytes, n, &mut list, &mut days, &mut out);
+    let n = streams::read_full(from, &mut bytes);
+    answer_taken(&bytes, n, &mut list, &mut days, &mut out, to)
 }

@@ -21,15 +21,6 @@ beyond (r ∷ rs) (suc k) h = beyond rs k (omega arith)
 pub arm : (fs : List (List ℕ)) {w : Places} {k i : ℕ} {q : Query} → w ≡ places_in capped fs → k ≡ i → query_at (table w (slip_in capped fs)) i ≡ q → q ≡ query_at (table_of capped fs) k
 arm fs e h r = sym r ∙ ap₂ (λ (v : Places) (j : ℕ). query_at (table v (slip_in capped fs)) j) e (sym h)
 
--- the last arm of a `match`: none of the numbers before n
-abbrev Denied : ℕ → ℕ → Type 0
-Denied zero k = Unit {0}
-Denied (suc n) k = Denied n k × (k ≡ n → ⊥)
-
-pub all-denied : (n k : ℕ) → Denied n k → n ≤ k
-all-denied zero k d = omega arith
-all-denied (suc n) k (d, e) = omega (arith, all-denied n k d, e)
-
 -- whether a line is a note, by its first byte
 pub no_byte : (s : List ℕ) → length s ≡ 0 → false ≡ hashed s
 unfolding hashed

@@ -63,9 +63,6 @@ pub record Scanning (s : List ℕ) (v i : ℕ) : Type 0 where
   pub value : worth i v (first_field (drop i s)) ≡ worth 0 0 (first_field s)
   pub end : i + length (first_field (drop i s)) ≡ length (first_field s)
 
-pub scan-none : (s : List ℕ) → Scanning s 0 0
-scan-none s = record { inside = omega arith; nine = omega arith; low = omega arith; value = refl; end = omega arith }
-
 module _ (s : List ℕ) (v i : ℕ) (h : Scanning s v i) where
   -- it fits, and so does one digit more
   pub scan-fits : i < 9 → 10 * v + 9 < 4294967296

@@ -1,10 +1,9 @@
 -- The line at a place, and a reader's step from it. Assumes nothing.
-use Rattle.std.proofs.Common.{◌≡◌, ℕ, ◌+◌, ◌-◌, ◌%◌, ◌<◌, ◌≤◌, List, length, take, drop, refl, arith, length-drop, le-ltb, lt-ltb, le-leb}
+use Rattle.std.proofs.Common.{◌≡◌, ℕ, ◌+◌, ◌%◌, ◌<◌, ◌≤◌, List, length, drop, refl, arith, length-drop, le-ltb, lt-ltb, le-leb}
 use borrow.Author.Tests.{lt-leb}
 use Rattle.rule.specs.declared.Reason.TheVariants.{TextTooLong}
-use Rattle.concordance.specs.Text.{line_length, advance}
-use Rattle.concordance.specs.Verdicts.{verdict_of, step_of}
-use Rattle.concordance.specs.declared.Verdict.{Verdict}
+use Rattle.concordance.specs.Text.{line_length}
+use Rattle.concordance.specs.Verdicts.{step_of}
 use Rattle.concordance.specs.declared.LineTold.TheVariants as LineTold'
 use Rattle.concordance.specs.declared.Judged.{Judged}
 use Rattle.concordance.specs.declared.Step.{Step}
@@ -14,12 +13,6 @@ use Rattle.concordance.proofs.Filling.{told}
 module _ (s : List ℕ) (p : ℕ) where
   pub line-in : (to : ℕ) → p ≤ length s → to ≡ p + line_length (drop p s) → to ≤ length s
   line-in to h e = omega (arith, len-le (drop p s), length-drop p s)
-
-  pub told_is : (to n : ℕ) (v : Verdict) → to ≡ p + line_length (drop p s) → v ≡ verdict_of (take (to - p) (drop p s)) → n ≡ p + advance (drop p s) →
-      ◌≡◌ {A = Judged} (record { verdict = v; next = n }) (told s p)
-  told_is to n v a b d =
-      let e : to - p ≡ line_length (drop p s) = omega arith in
-      rw (b, d, e) refl
 
 module _ (s : List ℕ) (p i : ℕ) where
   pub step-long : 65536 < length s → ◌≡◌ {A = Step} (record { said = LineTold'.Refused TextTooLong; place = p; line = i }) (step_of s p i)

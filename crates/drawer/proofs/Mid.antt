@@ -20,13 +20,6 @@ module _ {X Y : Type 0} (g : X → Y) where
   unfolding mid
   mid_none ds ys = refl
 
-  pub mid-length : (ds : List X) (ys : List Y) (i : ℕ) → length (mid ds ys i) ≡ length ys
-  unfolding mid
-  mid-length ds ys zero = refl
-  mid-length [] ys (suc i) = refl
-  mid-length (d ∷ ds) [] (suc i) = refl
-  mid-length (d ∷ ds) (y ∷ ys) (suc i) = ap suc (mid-length ds ys i)
-
   pub mid_at : (ds : List X) (ys : List Y) (i j : ℕ) (e : X) (z : Y) → j < i → j < length ds → j < length ys → get_or (mid ds ys i) j z ≡ g (get_or ds j e)
   unfolding mid
   mid_at ds ys zero j e z b l m = absurd (not-suc-le-zero b)

@@ -16,7 +16,7 @@ use Rattle.dates.specs.Promises.{DateOfDay}
 use Rattle.dates.specs.Paper.{first_of_bu2}
 use Rattle.dates.proofs.Days.{a-day}
 use Rattle.dates.proofs.Laws.{dated}
-use Rattle.dates.proofs.Paper.{date-of-day, date-agrees, second-of-two-big}
+use Rattle.dates.proofs.Paper.{date-of-day-exactly, date-agrees, second-of-two-big}
 use Rattle.dates.proofs.Computing.{dates-computed}
 use Rattle.drawer.specs.declared.Filled.{Filled}
 use Rattle.drawer.specs.declared.Filled.TheVariants.{Is, BadDay, Refused}
@@ -63,7 +63,7 @@ single-call days old n new i none s l =
 pub records-literally : Paper.RecordsLiterally
 records-literally =
     record {
-      a-date = λ days old n new i none s l. ((date-of-day (get_or days i 0) (get_or new i none)).0 (single-call days old n new i none s l)).1;
+      a-date = λ days old n new i none s l. ((date-of-day-exactly (get_or days i 0) (get_or new i none)).0 (single-call days old n new i none s l)).1;
       agrees = λ days old n new i none s l. date-agrees (get_or days i 0) (get_or new i none) (single-call days old n new i none s l);
     }
 

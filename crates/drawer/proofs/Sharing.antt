@@ -1,5 +1,5 @@
 -- What the days of one month share, and the date of a day made from that of another day of its month. Assumes nothing.
-use Rattle.std.proofs.Common.{◌≡◌, ℕ, ◌+◌, ◌-◌, ◌%◌, ◌^◌, ◌<◌, ◌≤◌, sym, refl, ap, ◌∙◌, subst, arith}
+use Rattle.std.proofs.Common.{◌≡◌, ℕ, ◌+◌, ◌-◌, ◌<◌, sym, refl, ap, ◌∙◌, subst, arith}
 use Rattle.rule.specs.Counts.{DayInRange, day_name}
 use Rattle.rule.specs.Rule.{month_start, month_length, month_of_day}
 use Rattle.rule.proofs.Months.{of-day-low, of-day-only, of-day-range, start-next, start-end, length-range}
@@ -20,10 +20,6 @@ its-length d = refl
 -- a date says where its month begins: m is its day of month
 pub first : (d m : ℕ) → m ≡ (date_of d).day_of_month → d + 1 - m ≡ month_start (month_of_day d)
 first d m p = omega (arith, p ∙ its-day d, of-day-low d)
-
--- a day that is less than so many days after the first, counted round, is one of them
-pub round : (start count d w : ℕ) → start + count ≤ 14989860 → (w + start) % 2 ^ 32 ≡ d → w < count → Holds start count d
-round start count d w fits e l = (omega arith, omega arith)
 
 -- what is kept before place i: if a day lies in it, a record before i has the date of a day of that month
 pub record Kept (day : ℕ → ℕ) (i : ℕ) (s : Shared) : Type 0 where

@@ -1,4 +1,2 @@
--- Laws of the sum; a literal above 1,023 and a local array in a walk.
+-- Laws of the sum.
 pub mod Sums
-pub mod Big
-pub mod LocalArray

@@ -3,7 +3,7 @@ use Prim.Native.Nat.{ℕ}
 use mathlib.Core.Path.{◌≡◌, refl, sym, ◌∙◌, ap, ap₂}
 use mathlib.Core.Bool.{true}
 use native.Mathlib.Omega.{arith}
-use borrow.Author.Tests.{eq-eqb, ne_eqb}
+use borrow.Author.Tests.{ne_eqb}
 use Rattle.reading.specs.declared.Field.{Field}
 use Rattle.reading.specs.declared.Field.TheVariants.{Known}
 use Rattle.reading.specs.declared.Reading.{Reading}
@@ -13,15 +13,8 @@ use Rattle.emending.specs.Faults.{fault_in, together, is_more, name_fault, numbe
 
 -- a known field, by whether it is the value
 module _ (i : ℕ) {f : Field} {k : ℕ} (v : ℕ) (e : f ≡ Known k) where
-  pub no-fault : k ≡ v → Without ≡ fault_in i f v
-  no-fault h = rw (e, eq-eqb k v h)
-
   pub one-fault : (k ≡ v → ⊥) → One i k v ≡ fault_in i f v
   one-fault h = rw (e, ne_eqb k v h)
-
--- a fault of one part is not undone by nothing in the other
-pub and_none : (a b : Fault) {i k v : ℕ} → a ≡ One i k v → b ≡ Without → One i k v ≡ together a b
-and_none a b e f = rw (e, f)
 
 pub more-is : (a : Fault) → is_more a ≡ true → a ≡ More
 more-is Without h = absurd (let o : ◌≡◌ {A = ℕ} 0 1 = cc in omega arith)

@@ -2,10 +2,10 @@
 use Prim.Native.Nat.{ℕ, zero, suc, ◌+◌, ◌-◌, ◌*◌, ◌≤◌, ◌<◌}
 use native.Mathlib.Nat.{add-zero, add-suc, add_assoc, sub_self}
 use native.Mathlib.Omega.{arith}
-use mathlib.Core.Path.{◌≡◌, refl, ap, ap₂, sym, ◌∙◌, subst}
+use mathlib.Core.Path.{◌≡◌, refl, ap, ap₂, sym, ◌∙◌}
 use mathlib.Core.Bool.{Bool, true, false, cond}
-use mathlib.Core.List.{List, [], ◌∷◌, ◌++◌, append-nil, append_assoc}
-use lib.ListN.{length, set, length-append}
+use mathlib.Core.List.{List, [], ◌++◌, append-nil, append_assoc}
+use lib.ListN.{length, length-append}
 use lib.Seq.{sets, length-sets}
 use Rattle.rule.specs.Lists.{kept, those, placed}
 use Rattle.rule.proofs.Stores.{sets-append, from_front}
@@ -93,28 +93,3 @@ module _ (out : List ℕ) (at : ℕ) where
 pub put_front : (xs old : List ℕ) (w : Bool) → (w ≡ true → length xs ≤ length old) → cond w (sets old 0 xs) old ≡ cond w (placed xs old) old
 put_front xs old true h = from_front xs old (h refl)
 put_front xs old false h = refl
-
--- four stores in a row are a run of four; none where it is only counted
-module _ (out : List ℕ) (at a b c d : ℕ) (w : Bool) where
-  pub four-put : w ≡ true → set (set (set (set out at a) (at + 1) b) (at + 2) c) (at + 3) d ≡ cond w (sets out at (a ∷ b ∷ c ∷ d ∷ [])) out
-  four-put e =
-      let f : at + 1 ≡ suc at = omega arith in
-      let g : at + 2 ≡ suc (suc at) = omega arith in
-      let h : at + 3 ≡ suc (suc (suc at)) = omega arith in
-      rw (e, f, g, h)
-
-  pub four-counted : w ≡ false → out ≡ cond w (sets out at (a ∷ b ∷ c ∷ d ∷ [])) out
-  four-counted e = rw (e)
-
--- what is put of a fault, by its case
-module _ (day : ℕ) (out : List ℕ) (at : ℕ) (w : Bool) where
-  abbrev PutOf : Fault → ℕ → List ℕ → Type 0
-  PutOf a k new = (k ≡ at + length (laid_out day a)) × (new ≡ cond w (sets out at (laid_out day a)) out)
-
-  pub nothing_put : (a : Fault) → is_one a ≡ false → PutOf a at out
-  nothing_put Without e = (omega arith, put-none out at w)
-  nothing_put (One i k v) e = absurd (let o : ◌≡◌ {A = ℕ} 0 1 = cc in omega arith)
-  nothing_put More e = (omega arith, put-none out at w)
-
-  pub one-put : (a : Fault) {i k v n : ℕ} {new : List ℕ} → a ≡ One i k v → PutOf (One i k v) n new → PutOf a n new
-  one-put a {n = n} {new} e h = subst (λ (x : Fault). PutOf x n new) (sym e) h

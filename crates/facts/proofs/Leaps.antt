@@ -25,9 +25,6 @@ module _ (first months i : ℕ) (none : those leap first i ≡ []) where
   unfolding those
   still-none l = ap (those leap first) (add-one i) ∙ rw (none, l)
 
-pub none_at_all : (first months : ℕ) → those leap first months ≡ [] → first_of (those leap first months) ≡ Without
-none_at_all first months e = ap first_of e
-
 -- a civil year's leap months are at most one, so that a month of the year that is leap is the first of them
 pub leap-found : (y n : ℕ) → InCivilYear y n → leap n ≡ true → leap_month y ≡ With (month_number n) n
 unfolding leap_month

@@ -127,28 +127,28 @@ unique-facts =
     term (Term'.Refused r) = ap Term'.Refused (reason-back r)
 
 -- the literal readings
-pub solstice-year : Paper.SolsticeYearExactly
+pub solstice-year-exactly : Paper.SolsticeYearExactly
 unfolding solstice_year_at
-solstice-year y s =
+solstice-year-exactly y s =
     one-literally (within 1 41040 y) 1 (solstice_year y) (within-true 1 41040 y) (Paper.IsSolsticeYear y s) s (λ h. solstice-exactly y h.0 s)
 
-pub year-facts : Paper.YearFactsExactly
+pub year-facts-exactly : Paper.YearFactsExactly
 unfolding year_facts_at
-year-facts y f = one-literally (leb y 41040) 1 (year_facts y) (at_most y 41040) (Paper.IsYearFacts y f) f (λ h. year-exactly y h f)
+year-facts-exactly y f = one-literally (leb y 41040) 1 (year_facts y) (at_most y 41040) (Paper.IsYearFacts y f) f (λ h. year-exactly y h f)
 
-pub month-by-count : Paper.MonthByCountExactly
+pub month-by-count-exactly : Paper.MonthByCountExactly
 unfolding month_facts_at
-month-by-count n f = one-literally (leb n 507599) 7 (month_facts n) (at_most n 507599) (Paper.IsMonthFacts n f) f (λ h. month-exactly n f)
+month-by-count-exactly n f = one-literally (leb n 507599) 7 (month_facts n) (at_most n 507599) (Paper.IsMonthFacts n f) f (λ h. month-exactly n f)
 
-pub quarter-of-month : Paper.QuarterOfMonthExactly
+pub quarter-of-month-exactly : Paper.QuarterOfMonthExactly
 unfolding quarter_at
-quarter-of-month n q r =
+quarter-of-month-exactly n q r =
     two-literally (leb n 507599) (leb q 3) 7 15 (omega arith) (quarter_of n q) (at_most n 507599) (at_most q 3) (Paper.IsQuarter n q r) r
     (λ h. quarter-exactly n q r)
 
-pub term-of-year : Paper.TermOfYearExactly
+pub term-of-year-exactly : Paper.TermOfYearExactly
 unfolding term_at
-term-of-year y k r =
+term-of-year-exactly y k r =
     two-literally (within 1 41040 y) (leb k 23) 1 15 (omega arith) (term_of y k) (within-true 1 41040 y) (at_most k 23)
     (IsTerm (year_term y k) r.day r.parts) r
     (λ h. term-exactly y k r)
@@ -168,7 +168,7 @@ term-as-before y k a p =
 
 pub mid-term-even : Paper.MidTermEven
 mid-term-even y j r p =
-    let g = ((term-of-year y (2 * j) r).0 p).2.falls in
+    let g = ((term-of-year-exactly y (2 * j) r).0 p).2.falls in
     let e : r.parts ≡ 2 * (487 * (12 * (y - 1) + j) - 16 * r.day) = omega (arith, g) in
     omega (arith, e)
 

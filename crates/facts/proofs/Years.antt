@@ -28,12 +28,12 @@ use Rattle.facts.proofs.Paper as Facts
 
 -- what is answered for a year and for a month
 year-told : (y : ℕ) (f : YearFacts) → YearOwnFacts y (Year'.Is f) → CivilYearInRange y × (f ≡ year_facts y)
-year-told y f p = let h = ((Facts.year-facts y f).0 p).0 in (h, told_is (year_facts y) f (year_facts_at y) (year-given y h) p)
+year-told y f p = let h = ((Facts.year-facts-exactly y f).0 p).0 in (h, told_is (year_facts y) f (year_facts_at y) (year-given y h) p)
 
 month-told : (n : ℕ) (f : MonthFacts) → MonthByCount n (Month'.Is f) → MonthInRange n × (f.month ≡ month_at n)
 unfolding month_facts
 month-told n f p =
-    let h = ((Facts.month-by-count n f).0 p).0 in (h, ap (λ (g : MonthFacts). g.month) (Facts.its-month n f h p))
+    let h = ((Facts.month-by-count-exactly n f).0 p).0 in (h, ap (λ (g : MonthFacts). g.month) (Facts.its-month n f h p))
 
 pub years-of-the-request : Years.YearsOfTheRequest
 unfolding facts-computed
@@ -69,7 +69,7 @@ by-its-own y l =
 
 pub by-the-solstice-year : Years.ByTheSolsticeYear
 by-the-solstice-year y s f p q =
-    let r = ((Facts.solstice-year y s).0 p).0 in
+    let r = ((Facts.solstice-year-exactly y s).0 p).0 in
     subst₂ (BySolsticeYear y) (sym (Facts.its-place y s r p)) (sym (year-told y f q).1) (by-its-own y r.0)
 
 pub numbers-in-order : Years.NumbersInOrder

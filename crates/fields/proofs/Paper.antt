@@ -81,6 +81,7 @@ value-from a (d ∷ ds) h (one_more low high r) =
 
 pub one-decimal : OneDecimal
 unfolding value_from
+one-decimal [] x' = elim x' [ ]
 one-decimal (d ∷ ds) nought = sym (decimal-one 0 (omega arith))
 one-decimal (d ∷ ds) (not-nought low high r) =
     ap (λ (e : ℕ). e ∷ ds) (omega arith) ∙ ap (λ (l : List ℕ). l ++ ds) (sym (decimal-one (10 * 0 + (d - 48)) (omega arith))) ∙ sym (value-from (10 * 0 + (d - 48)) ds (omega arith) r)

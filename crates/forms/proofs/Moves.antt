@@ -29,7 +29,7 @@ back_fits (suc v) h = record { sfits = omega (arith, h.fits) }
 minus_is : (v : ℕ) → Fits w32 v → pos 0 -ℤ to_z w64 v ≡ back v
 minus_is v h = ap (λ (z : ℤ). pos 0 -ℤ z) (plus v h) ∙ minus-back v
 
-pub fits-minus : (v : ℕ) → Fits w32 v → SFits w64 (pos 0 -ℤ to_z w64 v)
+fits-minus : (v : ℕ) → Fits w32 v → SFits w64 (pos 0 -ℤ to_z w64 v)
 fits-minus v h = subst (SFits w64) (sym (minus_is v h)) (back_fits v h)
 
 pub minus : (v : ℕ) → Fits w32 v → to_z w64 (of_z w64 (pos 0 -ℤ to_z w64 v)) ≡ back v

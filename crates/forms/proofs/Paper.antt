@@ -55,9 +55,9 @@ read_back =
       itself = word-alone;
     }
 
-pub all_read_lem : AllRead
+pub all-read : AllRead
 unfolding admits
-all_read_lem =
+all-read =
     record {
       number = λ k. (number_is k, number-says k);
       mark = λ l. (mark-is l, mark-says l);

@@ -13,7 +13,7 @@ use Rattle.rule.specs.Reasons.{within}
 use Rattle.fields.specs.Fields.{word}
 use Rattle.fields.specs.Paper.{value_from}
 use Rattle.capped.specs.Capped.{capped}
-use Rattle.forms.specs.Forms.{first_field, same, all_digits, leads, is_decimal, is_back, letter}
+use Rattle.forms.specs.Forms.{first_field, same, all_digits, is_decimal, is_back}
 
 -- what is left of a list, from its next byte on
 pub rest : (s : List ℕ) (i : ℕ) → i < length s → drop i s ≡ get_or s i 0 ∷ drop (i + 1) s
@@ -35,28 +35,6 @@ no_digit s i h e = ap all_digits (rest s i h) ∙ rw (e) refl
 pub no-more-digits : (s : List ℕ) (i : ℕ) → length s ≤ i → all_digits (drop i s) ≡ true
 unfolding all_digits
 no-more-digits s i h = ap all_digits (drop_of_length-le s h)
-
--- how a number may start, by its length
-pub short : (s : List ℕ) → length s < 2 → eqb (length s) 1 ≡ leads s
-short [] h = refl
-short (b ∷ []) h = refl
-short (b ∷ c ∷ s) h = absurd (omega arith)
-
-pub long : (s : List ℕ) → 2 ≤ length s → not (eqb (get_or s 0 0) 48) ≡ leads s
-long [] h = absurd (omega arith)
-long (b ∷ []) h = absurd (omega arith)
-long (b ∷ c ∷ s) h = refl
-
--- a letter alone
-pub no-letter : (s : List ℕ) → (length s ≡ 1 → ⊥) → 0 ≡ letter s
-no-letter [] h = refl
-no-letter (b ∷ []) h = absurd (h refl)
-no-letter (b ∷ c ∷ s) h = refl
-
-pub the-letter : (s : List ℕ) → length s ≡ 1 → get_or s 0 0 ≡ letter s
-the-letter [] h = refl
-the-letter (b ∷ []) h = refl
-the-letter (b ∷ c ∷ s) h = absurd (omega arith)
 
 -- what the digits that are left make of a number
 capped-step : (a d : ℕ) → capped (10 * capped a + d) ≡ capped (10 * a + d)

@@ -1,5 +1,5 @@
-// What the verdicts program prints, put into a buffer, and the program's own code: a text is read from a descriptor, and a line printed
-// for each of its lines, with the totals last.
+// What the verdicts program prints, put into a buffer, and the program's own code: a text is read from an input, and a line written to an
+// output for each of its lines, with the totals last.
 #![tactic(auto)]
 
 ghost use Rattle.std.specs.Prelude.{◌+◌, ◌*◌, ◌≤◌, ◌≡◌, ◌++◌, length};
@@ -20,6 +20,8 @@ ghost use Rattle.judging.specs.Paper.{text_held, TextReported};
 
 use rule::Reason;
 use sheet::HowMany;
+use std::io;
+use std::io::{Read, Write};
 
 // The words of a field.
 fn put_field(k: u8, out: &mut [u8], at: usize) -> usize
@@ -187,11 +189,11 @@ fn report_taken(bytes: &[u8], n: usize, vs: &mut [u8], out: &mut [u8]) -> usize
 }
 
 // A text's report.
-pub fn report_from(fd: i32) {
+pub fn report_from<R: Read, W: Write>(from: &mut R, to: &mut W) -> io::Result<()> {
     let mut bytes = text_room();
     let mut vs = verdict_room();
     let mut out = room();
-    let n = io::read_full(fd, &mut bytes);
+    let n = streams::read_full(from, &mut bytes);
     let m = report_taken(&bytes, n, &mut vs, &mut out);
-    io::write_all(1, &out[..m]);
+    to.write_all(&out[..m])
 }

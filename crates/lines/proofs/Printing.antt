@@ -1,5 +1,5 @@
 -- Laws of a text made in a space of one's own and handed over: what does not exist first, 12 last. Assumes nothing.
-use Prim.Native.Nat.{ℕ, ◌≤◌, ◌<◌}
+use Prim.Native.Nat.{ℕ, ◌≤◌}
 use native.Mathlib.Omega.{arith}
 use mathlib.Core.Path.{◌≡◌, ap, sym, ◌∙◌}
 use mathlib.Core.Bool.{Bool, true, false}
@@ -7,11 +7,10 @@ use mathlib.Core.List.{List}
 use lib.Dec.{leb}
 use lib.ListN.{length, take, drop}
 use lib.Seq.{take-append_seam}
-use borrow.Author.Tests.{le-leb, lt-leb}
+use borrow.Author.Tests.{le-leb}
 use Rattle.rule.specs.Lists.{placed}
 use Rattle.rule.specs.Reasons.{is, guard, reason_number, into_room}
 use Rattle.rule.specs.declared.Reason.{Reason}
-use Rattle.rule.specs.declared.Reason.TheVariants.{LentTooShort}
 use Rattle.rule.proofs.Answers.{stops, passes}
 use Rattle.rule.proofs.Stores.{from_front}
 use Rattle.sheet.specs.declared.HowMany.{HowMany}
@@ -20,10 +19,7 @@ use Rattle.fields.specs.Fields.{Put}
 use Rattle.penned.specs.Promises.{Printed}
 use Rattle.penned.proofs.Refusing.{printed-as, printed-refused}
 
--- 12, or the whole text at the front of the buffer
-pub too_short : (s o : List ℕ) → length o < length s → Printed (into_room (length o) s) o (HowMany'.Refused LentTooShort) o
-too_short s o h = printed-refused o LentTooShort (stops (leb (length s) (length o)) 12 (is s) (lt-leb (length s) (length o) h))
-
+-- the whole text at the front of the buffer
 pub whole-text : {w b : ℕ} {s o o' : List ℕ} → length s ≤ length o → Put w o 0 s o' b → Printed (into_room (length o) s) o (HowMany'.Is b) o'
 whole-text {w} {b} {s} {o} {o'} h p =
     printed-as (sym (passes (leb (length s) (length o)) 12 (is s) (le-leb (length s) (length o) h)))

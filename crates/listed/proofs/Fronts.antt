@@ -14,7 +14,7 @@ use borrow.Author.Tests.{leb-true, le-leb, lt-leb}
 use Rattle.rule.specs.Reasons.{Answer, is, and_then}
 use Rattle.sheet.specs.Sheet.{Section, item_read, items_read, count_of, count_read, section_read, left_after, ListsFor, sections_read}
 use Rattle.sheet.specs.Faults.{GoodSection, SectionFault}
-use Rattle.bytes.proofs.Numbers.{number_append}
+use Rattle.octets.proofs.Numbers.{number_append}
 use Rattle.sheet.proofs.Reading.{section-decided, left-append}
 
 module _ (k : Section) where

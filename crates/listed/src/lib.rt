@@ -1,4 +1,4 @@
-// The listing of a whole sheet, and the listing program's own code: a sheet is read from a descriptor, its listing printed.
+// The listing of a whole sheet, and the listing program's own code: a sheet is read from an input, its listing written to an output.
 #![tactic(auto)]
 
 ghost use Rattle.std.specs.Prelude.{◌+◌, ◌*◌, ◌≤◌, ◌≡◌, length};
@@ -9,6 +9,8 @@ ghost use Rattle.penned.specs.Lines.{year_block, month_item, day_item, listing_o
 ghost use Rattle.listed.specs.Paper.{input_held, InputListed};
 
 use sheet::SheetCounts;
+use std::io;
+use std::io::{Read, Write};
 
 // The blocks of civil years.
 fn put_years(years: &[u16], out: &mut [u8], at: usize) -> usize
@@ -59,7 +61,7 @@ fn put_day_items(days: &[u32], out: &mut [u8], at: usize) -> usize
 pub fn put_lists(years: &[u16], months: &[u32], days: &[u32], out: &mut [u8]) -> usize
     requires { GoodLists (record { years = years.now; months = months.now; days = days.now }) × (789000 ≤ length out.old) }
     ensures { Put 789000 out.old 0
-        (listing_of (record { years = years.entry.now; months = months.now; days = days.now }))
+        (listing_of (record { years = years.now; months = months.now; days = days.now }))
         out.new result }
 {
     let to1 = put_years(years, out, 0);
@@ -107,10 +109,10 @@ fn list_taken(bytes: &[u8], n: usize, out: &mut [u8]) -> usize
 }
 
 // A sheet's listing.
-pub fn list_from(fd: i32) {
+pub fn list_from<R: Read, W: Write>(from: &mut R, to: &mut W) -> io::Result<()> {
     let mut bytes = sheet_room();
     let mut out = room();
-    let n = io::read_full(fd, &mut bytes);
+    let n = streams::read_full(from, &mut bytes);
     let m = list_taken(&bytes, n, &mut out);
-    io::write_all(1, &out[..m]);
+    to.write_all(&out[..m])
 }

@@ -1,4 +1,3 @@
--- Laws of landings and of signs, and the proofs of demand 3.
+-- Laws of landings, and the proofs of the statements.
 pub mod Landing
-pub mod Sign
 pub mod Paper

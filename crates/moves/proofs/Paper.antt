@@ -59,8 +59,8 @@ only-eight (pos d) r = go (leb d 14989859) refl
     go false e h = let a : ◌≡◌ {A = Answer Date} (refused 8) (refused r) = sym (Landing.lands-out d (leb-false d 14989859 e)) ∙ h in cc
 only-eight (negsuc d) r = λ h. let a : ◌≡◌ {A = Answer Date} (refused 8) (refused r) = h in cc
 
-pub move-of-a-date : Paper.MoveOfADateExactly
-move-of-a-date y k l m d n found =
+pub move-of-a-date-exactly : Paper.MoveOfADateExactly
+move-of-a-date-exactly y k l m d n found =
     record {
       gives = λ e f r a. to-date a (ends ∙ ap landed f ∙ Landing.lands e r ∙ sym (Days.a-day e r));
       eight = λ why. (

@@ -4,7 +4,7 @@ use native.Mathlib.Nat.{zero-add}
 use native.Mathlib.Omega.{arith}
 use mathlib.Core.Path.{◌≡◌, refl, ap, sym, ◌∙◌, subst}
 use mathlib.Core.Logic.{◌↔◌}
-use mathlib.Core.Bool.{Bool, true, false, not, ◌&&◌}
+use mathlib.Core.Bool.{Bool, true, false, ◌&&◌}
 use mathlib.Core.List.{List, [], ◌∷◌, ◌++◌}
 use lib.Dec.{leb}
 use lib.ListN.{length, take, drop, length-append}
@@ -12,9 +12,9 @@ use lib.Seq.{length-take-le}
 use Rattle.rule.specs.Lists.{placed}
 use Rattle.rule.specs.Reasons.{Answer, is, refused, reason_number, guard, and_then, into_room}
 use Rattle.rule.specs.declared.Reason.{Reason}
-use Rattle.rule.proofs.Answers.{both_true, at_most, fails, failed, passed}
+use Rattle.rule.proofs.Answers.{both_true, at_most, fails}
 use Rattle.rule.proofs.Stores.{from_front}
-use Rattle.bytes.specs.Bytes.{numbers}
+use Rattle.octets.specs.Bytes.{numbers}
 use Rattle.sheet.specs.declared.Counted.{Counted}
 use Rattle.sheet.specs.declared.HowMany.TheVariants as HowMany'
 use Rattle.sheet.specs.Sheet.{sections_read, sheet_sections, lists_of, lists_in, items_of, count_of, months_part, days_part}
@@ -156,17 +156,17 @@ module _ (s y m d n : List ℕ) where
           ↔ HasRoom (four_in s).three (length y) (length m) (length d)
       has-three = rw (counts) (room-iff _ _ _ (length y) (length m) (length d))
 
-      pub three-short : not b ≡ true → answered ≡ refused 12
-      three-short o = short (λ g. (fails _ has-three).0 (failed b _ e o) g.0)
+      pub three-short : b ≡ false → answered ≡ refused 12
+      three-short o = short (λ g. (fails _ has-three).0 (sym e ∙ o) g.0)
 
-      pub to-fill-new : not b ≡ false → 8 * c.readings ≤ length n → ToFillNew s (length y) (length m) (length d) (length n) c
+      pub to-fill-new : b ≡ true → 8 * c.readings ≤ length n → ToFillNew s (length y) (length m) (length d) (length n) c
       to-fill-new o l =
           record {
             counts = sym found_all.1;
-            good = (found_all.0, (has-three.0 (passed b _ e o), omega (arith, l, ap (λ (c : FourCounts). c.readings) counts)));
+            good = (found_all.0, (has-three.0 (sym e ∙ o), omega (arith, l, ap (λ (c : FourCounts). c.readings) counts)));
           }
 
-      pub read-new-filled : not b ≡ false → 8 * c.readings ≤ length n → (y' m' d' n' : List ℕ) → FilledNew s y m d n y' m' d' n' →
+      pub read-new-filled : b ≡ true → 8 * c.readings ≤ length n → (y' m' d' n' : List ℕ) → FilledNew s y m d n y' m' d' n' →
           ReadNew s y m d n (NewCounts'.Is c) y' m' d' n'
       unfolding four_in lists_in lists_of left_over
       read-new-filled o r y' m' d' n' w =

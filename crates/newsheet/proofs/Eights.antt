@@ -9,20 +9,14 @@ use lib.Seq.{sets, length-sets, drop-append-le, drop-cons, drop-drop, take_at, d
 use Rattle.rule.specs.Reasons.{refused, reason_number}
 use Rattle.rule.specs.declared.Reason.{Reason}
 use Rattle.rule.proofs.Stores.{part-all, sets-append}
-use Rattle.reading.specs.declared.Field.TheVariants.{Known}
 use Rattle.reading.specs.declared.Tested.{Tested}
 use Rattle.reading.specs.declared.Tested.TheVariants.{Holds, Fails}
 use Rattle.reading.specs.Search.{said_tested}
-use Rattle.bytes.specs.Bytes.{number, numbers, lay}
-use Rattle.bytes.proofs.Numbers.{number_append, length-lay}
+use Rattle.octets.specs.Bytes.{number, numbers, lay}
+use Rattle.octets.proofs.Numbers.{number_append, length-lay}
 use Rattle.stated.specs.Paper.{AreBytes}
 use Rattle.stated.proofs.RoundTrip.{lay-number}
-use Rattle.newsheet.specs.New.{eight_in, eight_of, eights, field_by, tested, is_given, reason_in, reading_section}
-
--- a field that is not 0 is known
-pub known : (n : ℕ) → (n ≡ 0 → ⊥) → field_by n ≡ Known n
-known zero h = absurd (h refl)
-known (suc n) h = refl
+use Rattle.newsheet.specs.New.{eight_in, eight_of, eights, tested, is_given, reason_in, reading_section}
 
 -- the eight numbers do not look past 14 bytes
 eight-front : (p q : List ℕ) → 14 ≤ length p → eight_in (p ++ q) ≡ eight_in p
@@ -89,16 +83,7 @@ pub record StoringEights (s old : List ℕ) (n : ℕ) (out t : List ℕ) (i : �
   pub same : length out ≡ length old
   pub rest : sets out (8 * i) (eights (numbers 14 (n - i) t)) ≡ sets old 0 (eights (numbers 14 n s))
 
-module _ (s old : List ℕ) (n : ℕ) where
-  pub none-stored : (t : List ℕ) → t ≡ s → 14 * n ≤ length s → StoringEights s old n old t 0
-  none-stored t f h =
-      let e : n - 0 ≡ n = omega arith in
-      record { within = omega arith; whole = rw (e, f) h; same = refl; rest = rw (e, f) }
-
 module _ {s old : List ℕ} {n : ℕ} {out t : List ℕ} {i : ℕ} (a : StoringEights s old n out t i) where
-  pub next-whole : i < n → 14 ≤ length t
-  next-whole l = omega (arith, a.whole)
-
   pub next-stored : i < n → (out' : List ℕ) → out' ≡ sets out (8 * i) (eight_of (number 14 t)) →
       StoringEights s old n out' (take (length t - 14) (drop 14 t)) (i + 1)
   unfolding eights numbers

@@ -6,7 +6,7 @@ use Rattle.reading.specs.declared.Field.{Field}
 use Rattle.reading.specs.declared.Field.TheVariants.{Known, Unread}
 use Rattle.reading.specs.declared.Reading.{Reading}
 use Rattle.reading.specs.Search.{where_good}
-use Rattle.bytes.specs.Bytes.{number, lay}
+use Rattle.octets.specs.Bytes.{number, lay}
 use Rattle.newsheet.specs.declared.Eight.{Eight}
 use Rattle.sheet.specs.Sheet.{Section, ListsFor, lists_of, sections_read, sheet_sections, Lists, three_lists, read_sheet, room}
 

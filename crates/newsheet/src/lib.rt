@@ -6,7 +6,7 @@ ghost use Rattle.std.specs.Prelude.{◌≡◌, [], ◌∷◌, ◌+◌, ◌*◌, 
 ghost use Rattle.std.proofs.lemmas.List.Edits.{sets};
 ghost use Rattle.rule.specs.Reasons.{is, and_then};
 ghost use Rattle.reading.specs.Search.{said_tested};
-ghost use Rattle.bytes.specs.Bytes.{number, numbers};
+ghost use Rattle.octets.specs.Bytes.{number, numbers};
 ghost use Rattle.sheet.specs.Sheet.{count_of, items_read, sections_read};
 ghost use Rattle.sheet.specs.Promises.{said_how_many};
 ghost use Rattle.newsheet.specs.New.{eight_of, eights, eight_numbers, field_by, reading_in, tested, reading_section, new_sections};
@@ -59,8 +59,8 @@ fn eight_in(s: &[u8]) -> Eight
     requires { 14 ≤ length s.now }
     ensures { eight_numbers result ≡ eight_of (number 14 s.now) }
 {
-    let first = bytes::number_in(&s[6..], 4);
-    let last = bytes::number_in(&s[10..], 4);
+    let first = octets::number_in(&s[6..], 4);
+    let last = octets::number_in(&s[10..], 4);
     Eight {
         year_name: s[0] as u32,
         month_number: s[1] as u32,

@@ -7,8 +7,8 @@ use mathlib.Core.Bool.{true}
 use mathlib.Core.List.{List, [], ◌∷◌, ◌++◌, append-nil}
 use lib.ListN.{length, get_or, take, drop, length-append, length-drop, drop_of_length-le, take-append-drop}
 use lib.Seq.{drop-cons, drop-drop, take_at, drop_at, take_all, length-take-le}
-use Rattle.bytes.specs.Bytes.{number, numbers, lay}
-use Rattle.bytes.proofs.Numbers.{length-lay}
+use Rattle.octets.specs.Bytes.{number, numbers, lay}
+use Rattle.octets.proofs.Numbers.{length-lay}
 use Rattle.sheet.specs.Faults.{GoodValues}
 use Rattle.stated.specs.Paper.{AreBytes}
 use Rattle.stated.proofs.RoundTrip.{number-lay, lay-number, bytes-lay, bytes_drop, bytes-append, SmallItems}

@@ -10,7 +10,7 @@ use Rattle.rule.specs.Lists.{placed}
 use Rattle.rule.specs.Reasons.{Answer, is, refused, reason_number, reason_of, afterwards}
 use Rattle.rule.specs.declared.Reason.TheVariants.{SheetEndsEarly, BytesAfterLast}
 use Rattle.rule.proofs.Answers.{reason-back, read_back, once}
-use Rattle.bytes.specs.Bytes.{number, lay}
+use Rattle.octets.specs.Bytes.{number, lay}
 use Rattle.reading.specs.Readings.{in_ranges}
 use Rattle.sheet.specs.declared.Counted.{Counted}
 use Rattle.sheet.specs.declared.SheetCounts.{SheetCounts}

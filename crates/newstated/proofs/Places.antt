@@ -6,7 +6,7 @@ use mathlib.Core.List.{List, [], ◌∷◌, ◌++◌}
 use lib.ListN.{length, get_or, drop, length-drop, get_or-append}
 use lib.Seq.{get_or-append-add, get_or-drop, drop-drop}
 use Rattle.rule.specs.Lists.{placed}
-use Rattle.bytes.specs.Bytes.{number, numbers}
+use Rattle.octets.specs.Bytes.{number, numbers}
 use Rattle.sheet.specs.Sheet.{count_of, items_of}
 use Rattle.sheet.proofs.Places.{number_at}
 use Rattle.sheet.proofs.Sheets.{length-numbers}

@@ -4,7 +4,7 @@ use native.Mathlib.Omega.{arith}
 use mathlib.Core.Path.{◌≡◌, refl, sym}
 use Rattle.rule.specs.Reasons.{Answer, is, refused, reason_number}
 use Rattle.reading.specs.Readings.{in_ranges}
-use Rattle.bytes.specs.Bytes.{lay}
+use Rattle.octets.specs.Bytes.{lay}
 use Rattle.sheet.specs.Promises.{counts_are}
 use Rattle.sheet.proofs.Reading.{reading}
 use Rattle.sheet.proofs.Places.{unlike}

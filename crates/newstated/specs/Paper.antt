@@ -10,7 +10,7 @@ use Rattle.reading.specs.declared.Found.{Found}
 use Rattle.reading.specs.declared.Found.TheVariants as Found'
 use Rattle.reading.specs.Readings.{mark_number}
 use Rattle.reading.specs.Search.{Searched}
-use Rattle.bytes.specs.Bytes.{number}
+use Rattle.octets.specs.Bytes.{number}
 use Rattle.sheet.specs.declared.Counted.{Counted}
 use Rattle.sheet.specs.declared.SheetCounts.{SheetCounts}
 use Rattle.sheet.specs.declared.SheetCounts.TheVariants as Counts'

@@ -1,12 +1,10 @@
 -- The paper's known dates laid flat and a slip, at which a wrong definition shows at once. Assumes nothing.
 use mathlib.Core.Path.{◌≡◌, refl}
 use mathlib.Core.Bool.{true, false}
-use Rattle.rule.specs.Counts.{ji, bu}
-use Rattle.rule.specs.Rule.{leap, eclipse}
 use Rattle.dates.specs.Dates.{date_at, day_of_date}
 use Rattle.facts.specs.Facts.{solstice_year_at, year_facts_at, month_facts_at, quarter_at, term_at}
 use Rattle.clerk.specs.Clerk.{start_at}
-use Rattle.planets.specs.Planets.{phase, conjunction_at, next_at, pair_at}
+use Rattle.planets.specs.Planets.{conjunction_at, next_at, pair_at}
 use Rattle.reading.specs.declared.Field.TheVariants.{Known, Unread}
 use Rattle.offered.specs.Flat.{flat_date, flat_day, flat_solstice, flat_year, flat_month, flat_clerk, flat_quarter, flat_term, flat_conjunction, flat_next, flat_pair}
 use Rattle.offered.specs.Promises.{reading_of}

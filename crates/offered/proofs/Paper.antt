@@ -495,10 +495,10 @@ says-what-the-call-says =
         {a : Answer Date} → Sound a → (r : CDate) → (r ≡ flat_date a) ↔ ((e : Dated) × (said_date e ≡ a) × (r ≡ flat_date (said_date e)))
     date-said = as_said said_date Dated'.Is Dated'.Refused (λ x. refl) (λ w. refl) flat_date
 
-pub c-term : Paper.CTermExactly
-c-term y k r p e =
+pub c-term-exactly : Paper.CTermExactly
+c-term-exactly y k r p e =
     let (x, t, f) = (reason-0-iff-answered.term y k r p).0 e in
-    subst (λ (c : CTerm). IsTerm (year_term y k) c.day c.parts) (sym f) ((Facts.term-of-year y k x).0 t).2
+    subst (λ (c : CTerm). IsTerm (year_term y k) c.day c.parts) (sym f) ((Facts.term-of-year-exactly y k x).0 t).2
 
 pub c-term-as-before : Paper.CTermAsBefore
 c-term-as-before y k r p =
@@ -510,9 +510,9 @@ c-term-as-before y k r p =
     day-of (refused n) = refl
     day-of (refused-with n m) = refl
 
-pub c-clerk : Paper.CClerkExactly
+pub c-clerk-exactly : Paper.CClerkExactly
 unfolding walked
-c-clerk =
+c-clerk-exactly =
     record {
       shows = λ b k r m p z s.
           let (c, w, e) = (reason-0-iff-answered.clerk-walk b k r p).0 z in
@@ -533,7 +533,7 @@ agrees-flat d x r a e =
     subst (CAgrees d) (sym e)
     record {
       its_own = ap flat_day a.its_own;
-      its-date = ap flat_date ((Dates.date-of-day d x).1 ((found-date _ _ _ _ d (sym a.its_own)).0, i));
+      its-date = ap flat_date ((Dates.date-of-day-exactly d x).1 ((found-date _ _ _ _ d (sym a.its_own)).0, i));
       n = i.n;
       on-its-days = i.on-its-days;
       besides = i.besides;

@@ -53,7 +53,7 @@ use Rattle.clerk.specs.declared.Clerk.{Clerk}
 use Rattle.clerk.specs.Clerk.{before_last, stepped, step_at, head, start_at, walked}
 use Rattle.planets.specs.Planets.{numbers_of, conjunction_day, conjunction_of, conjunction_at, next_count, next_of, next_at, pair_of, pair_at}
 use Rattle.sheet.specs.declared.Items.{Items}
-use Rattle.bytes.specs.Bytes.{number, lay}
+use Rattle.octets.specs.Bytes.{number, lay}
 use Rattle.sheet.specs.Sheet.{
   Section,
   item_read,

@@ -1,3 +1,2 @@
 -- Laws of a loop over a local reader.
-pub mod Loan
 pub mod Turns

@@ -4,21 +4,27 @@
 
 ghost use Rattle.std.specs.Prelude.{◌<◌};
 
+use std::io;
+use std::io::Write;
+use streams::Output;
+
 // A place's line: the place, its day counted from the bu's head, and that day's name where the head's is 1.
-fn line(k: u16)
+fn line<W: Write>(out: &mut Output<W>, k: u16)
     requires { k < 940 }
 {
     let day = rule::printed_day(k) as u32;
-    io::print_decimal(1, k as u64);
-    show::next(day as u64);
-    show::next(rule::day_name(day) as u64);
-    show::text(b"\n");
+    out.put_decimal(k as u64);
+    show::next(out, day as u64);
+    show::next(out, rule::day_name(day) as u64);
+    show::text(out, b"\n");
 }
 
-fn main() {
+fn main(rt: HostRuntime) -> io::Result<()> {
+    let mut out = Output::new(rt.stdout());
     let mut k: u16 = 0;
     while k < 940 {
-        line(k);
+        line(&mut out, k);
         k += 1;
     }
+    out.end()
 }

@@ -1,3 +1,2 @@
 -- Laws of a reader.
-pub mod Stepping
 pub mod Paper

@@ -1,22 +1,11 @@
 -- Tests put together, over plain values, for the functions that make them. Assumes nothing.
-use Prim.Native.Nat.{ℕ, ◌+◌, ◌-◌, ◌≤◌, ◌<◌}
+use Prim.Native.Nat.{ℕ, ◌+◌, ◌-◌}
 use mathlib.Core.Path.{◌≡◌, ap, ap₂, ◌∙◌}
 use mathlib.Core.Bool.{Bool, true, false, ◌&&◌}
-use lib.Dec.{leb}
-use borrow.Author.Tests.{le-leb, lt-leb}
 use Rattle.rule.specs.Counts.{day_name, year_name}
 use Rattle.rule.specs.Rule.{month_start, civil_year_of_month, leap, month_number}
 use Rattle.reading.specs.declared.Reading.{Reading}
-use Rattle.reading.specs.Readings.{
-  mark_number,
-  field_fits,
-  field_in_range,
-  in_ranges,
-  month_fits,
-  day_fits,
-  window_days,
-  window_holds,
-}
+use Rattle.reading.specs.Readings.{mark_number, field_fits, field_in_range, in_ranges, month_fits, day_fits}
 
 pub day-made : (r : Reading) (s d : ℕ) {k : ℕ} {a b : Bool} →
     a ≡ field_fits r.day_of_month (d - s + 1) → b ≡ field_fits r.day_name k → k ≡ day_name d → (a && b) ≡ day_fits r s d
@@ -49,9 +38,3 @@ pub ranges-made : (r : Reading) {a b c d e f : Bool} →
     (a && b && c && d && e && f) ≡ in_ranges r
 unfolding in_ranges
 ranges-made r p q s t u v = ap₂ ◌&&◌ (ap₂ ◌&&◌ (ap₂ ◌&&◌ (ap₂ ◌&&◌ (ap₂ ◌&&◌ p q) s) t) u) v
-
-pub turned_round : (first last : ℕ) → last < first → window_holds first last ≡ false
-turned_round first last h = rw (lt-leb first last h)
-
-pub not-turned : (first last : ℕ) → first ≤ last → window_holds first last ≡ leb (window_days first last) 27759
-not-turned first last h = rw (le-leb first last h)

@@ -13,7 +13,7 @@ use Rattle.sheet.specs.declared.SheetCounts.{SheetCounts}
 use Rattle.sheet.specs.declared.SheetCounts.TheVariants as Counts'
 use Rattle.sheet.specs.declared.HowMany.{HowMany}
 use Rattle.sheet.specs.declared.HowMany.TheVariants as HowMany'
-use Rattle.bytes.specs.Bytes.{number, numbers}
+use Rattle.octets.specs.Bytes.{number, numbers}
 use Rattle.sheet.specs.Promises.{said_counts, said_how_many, RestKept}
 
 -- two lists that differ at a place

@@ -16,7 +16,7 @@ use Rattle.rule.specs.Reasons.{Answer, is, refused, refused-with, guard, and_the
 use Rattle.rule.proofs.Answers.{both_true, at_most}
 use Rattle.rule.proofs.Stores.{part-all}
 use Rattle.sheet.specs.declared.Counted.{Counted}
-use Rattle.bytes.specs.Bytes.{number, numbers}
+use Rattle.octets.specs.Bytes.{number, numbers}
 use Rattle.sheet.specs.Sheet.{
   Section,
   item_read,
@@ -61,7 +61,7 @@ use Rattle.sheet.specs.Faults.{
 }
 use Rattle.sheet.specs.Promises.{counts_are, counts_in}
 use Rattle.sheet.specs.Steps.{front_read, left_over, GoodFront, bytes_of, FewOf}
-use Rattle.bytes.proofs.Numbers.{number_append}
+use Rattle.octets.proofs.Numbers.{number_append}
 use Rattle.sheet.proofs.Deciding.{
   Decides,
   asks_nothing,

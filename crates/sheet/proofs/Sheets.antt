@@ -3,7 +3,7 @@ use Prim.Native.Nat.{ℕ, zero, suc, ◌≤◌, ◌<◌}
 use native.Mathlib.Omega.{arith}
 use mathlib.Core.Path.{◌≡◌, refl, ap, sym, ◌∙◌}
 use mathlib.Core.Logic.{◌↔◌}
-use mathlib.Core.Bool.{Bool, true, false, not, ◌&&◌}
+use mathlib.Core.Bool.{Bool, true, false, ◌&&◌}
 use mathlib.Core.List.{List, [], ◌∷◌, ◌++◌}
 use lib.Dec.{leb}
 use lib.ListN.{length, drop}
@@ -11,12 +11,12 @@ use lib.Seq.{sets}
 use Rattle.rule.specs.Lists.{placed}
 use Rattle.rule.specs.Reasons.{is, refused, and_then, reason_number}
 use Rattle.rule.specs.declared.Reason.{Reason}
-use Rattle.rule.proofs.Answers.{failed, passed, fails}
+use Rattle.rule.proofs.Answers.{fails}
 use Rattle.rule.proofs.Stores.{from_front}
 use Rattle.sheet.specs.declared.Counted.{Counted}
 use Rattle.sheet.specs.declared.SheetCounts.TheVariants as Counts'
 use Rattle.sheet.specs.declared.HowMany.TheVariants as HowMany'
-use Rattle.bytes.specs.Bytes.{numbers}
+use Rattle.octets.specs.Bytes.{numbers}
 use Rattle.sheet.specs.Sheet.{
   Section,
   count_of,
@@ -145,15 +145,15 @@ module _ (s y m d : List ℕ) where
     has_room : (fits c (length y) (length m) (length d) ≡ true) ↔ HasRoom (lists_in s) (length y) (length m) (length d)
     has_room = rw (counts) (room-iff _ _ _ (length y) (length m) (length d))
 
-    pub read_short : not b ≡ true → read_into s (length y) (length m) (length d) ≡ refused 12
+    pub read_short : b ≡ false → read_into s (length y) (length m) (length d) ≡ refused 12
     read_short o =
         (into-decided s (length y) (length m) (length d)).told 12
-        (later found_all.0 (record { fails = (fails _ has_room).0 (failed b _ e o); reason = refl }))
+        (later found_all.0 (record { fails = (fails _ has_room).0 (sym e ∙ o); reason = refl }))
 
-    pub to_fill : not b ≡ false → ToFill s (length y) (length m) (length d) c
-    to_fill o = record { counts = sym found_all.1; good = ((front-and-rest sheet_sections [] s found_all.0).0, has_room.0 (passed b _ e o)) }
+    pub to_fill : b ≡ true → ToFill s (length y) (length m) (length d) c
+    to_fill o = record { counts = sym found_all.1; good = ((front-and-rest sheet_sections [] s found_all.0).0, has_room.0 (sym e ∙ o)) }
 
-    pub read-filled : not b ≡ false → (y' m' d' : List ℕ) → Filled s y m d y' m' d' → ReadSheet s y m d (Counts'.Is c) y' m' d'
+    pub read-filled : b ≡ true → (y' m' d' : List ℕ) → Filled s y m d y' m' d' → ReadSheet s y m d (Counts'.Is c) y' m' d'
     read-filled o y' m' d' w =
         let g = (to_fill o).good in
         let l : Lists = lists_in s in

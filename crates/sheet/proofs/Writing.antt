@@ -12,7 +12,7 @@ use lib.Seq.{drop-cons}
 use borrow.Author.Tests.{le-leb, lt-leb}
 use Rattle.rule.specs.Reasons.{is, refused, and_then, into_room}
 use Rattle.rule.proofs.Answers.{at_most}
-use Rattle.bytes.specs.Bytes.{lay, lay_all}
+use Rattle.octets.specs.Bytes.{lay, lay_all}
 use Rattle.sheet.specs.Sheet.{
   Section,
   ListsFor,

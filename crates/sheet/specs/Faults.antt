@@ -1,7 +1,7 @@
 -- The first fault of a sheet in byte order, and of lists to be written, with its reason; and what is good, where there is none.
 -- Assumes nothing.
 use Rattle.std.specs.Prelude.{ℕ, zero, suc, ◌≤◌, ◌≡◌, true, List, [], ◌∷◌, length, drop}
-use Rattle.bytes.specs.Bytes.{number}
+use Rattle.octets.specs.Bytes.{number}
 use Rattle.sheet.specs.Sheet.{Section, count_of, left_after, ListsFor, sheet_sections, Lists, in_order, lists_in, sheet_of}
 
 -- a row of the paper's table: what it asks for, P, does not hold, and the reason r is its number k

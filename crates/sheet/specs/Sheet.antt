@@ -3,7 +3,7 @@
 use Rattle.std.specs.Prelude.{ℕ, zero, suc, ◌+◌, ◌*◌, Bool, ◌&&◌, List, [], ◌∷◌, ◌++◌, leb, length, drop}
 use Rattle.rule.specs.Reasons.{Answer, is, guard, and_then, within, reason_number, into_room}
 use Rattle.rule.specs.declared.Reason.TheVariants.{NoSuchYear, NoSuchMonth, NoSuchDay}
-use Rattle.bytes.specs.Bytes.{number, numbers, lay, lay_all}
+use Rattle.octets.specs.Bytes.{number, numbers, lay, lay_all}
 use Rattle.sheet.specs.declared.Items.{Items}
 
 -- a section of a sheet: the bytes of an item, the most items, whether an item is good, and the reason where it is not. An item is

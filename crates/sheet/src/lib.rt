@@ -98,7 +98,7 @@ pub fn count_at(s: &[u8], most: usize) -> HowMany
     if !is_whole(s, 2) {
         return HowMany::Refused(Reason::SheetEndsEarly);
     }
-    let n = bytes::number_in(s, 2) as usize;
+    let n = octets::number_in(s, 2) as usize;
     if most < n {
         return HowMany::Refused(Reason::CountTooLarge);
     }
@@ -118,7 +118,7 @@ fn check_items(s: &[u8], k: Items, n: usize) -> HowMany
         if !is_whole(t, width) {
             return HowMany::Refused(Reason::SheetEndsEarly);
         }
-        if !is_in_section(k, bytes::number_in(t, width)) {
+        if !is_in_section(k, octets::number_in(t, width)) {
             return HowMany::Refused(reason);
         }
         t = &t[width..];
@@ -217,11 +217,11 @@ pub fn fill_sheet(s: &[u8], years: &mut [u16], months: &mut [u32], days: &mut [u
     let y = c.years;
     let m = c.months;
     let d = c.days;
-    bytes::fill_two(s, years, y);
+    octets::fill_two(s, years, y);
     let t = &s[2 + 2 * y..];
-    bytes::fill_four(t, months, m);
+    octets::fill_four(t, months, m);
     let u = &t[2 + 4 * m..];
-    bytes::fill_four(u, days, d);
+    octets::fill_four(u, days, d);
 }
 
 // Have three lent lists of these lengths room for so many?
@@ -317,12 +317,12 @@ fn lay_sheet(years: &[u16], months: &[u32], days: &[u32], out: &mut [u8])
 {
     let m = 2 + 2 * years.len();
     let d = m + (2 + 4 * months.len());
-    bytes::lay_number(out, 0, 2, years.len() as u32);
-    bytes::lay_two(out, 2, years);
-    bytes::lay_number(out, m, 2, months.len() as u32);
-    bytes::lay_four(out, m + 2, months);
-    bytes::lay_number(out, d, 2, days.len() as u32);
-    bytes::lay_four(out, d + 2, days);
+    octets::lay_number(out, 0, 2, years.len() as u32);
+    octets::lay_two(out, 2, years);
+    octets::lay_number(out, m, 2, months.len() as u32);
+    octets::lay_four(out, m + 2, months);
+    octets::lay_number(out, d, 2, days.len() as u32);
+    octets::lay_four(out, d + 2, days);
 }
 
 // Writes three lists into a lent buffer. Nothing is written before the lists and the buffer are known to be good.

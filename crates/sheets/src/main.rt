@@ -2,37 +2,37 @@
 // printed for it. What it must write is made by tools/sheets.py.
 #![tactic(auto)]
 
+use std::fs::{File, Files};
+use std::io::Write;
+use std::{env, io};
+
 // A sheet's name on a line of its own.
-fn say(name: &[u8]) {
-    io::write_all(1, b"SHEET ");
-    io::write_all(1, name);
-    io::write_all(1, b"\n");
+fn say<W: Write>(name: &str, to: &mut W) -> io::Result<()> {
+    to.write_all(b"SHEET ")?;
+    to.write_all(name.as_bytes())?;
+    to.write_all(b"\n")
 }
 
 // The sheet of that name, listed.
-fn list_named(name: &[u8]) {
-    say(name);
-    let fd = os::open_read(name);
-    if fd < 0 {
-        io::write_all(1, b"is not there\n");
-        return;
+fn list_named<R: Files, W: Write>(rt: &R, name: &str, to: &mut W) -> io::Result<()> {
+    say(name, to)?;
+    match File::open(rt, name) {
+        Ok(file) => {
+            let mut file = file;
+            listed::list_from(&mut file, to)
+        }
+        Err(_) => to.write_all(b"is not there\n"),
     }
-    listed::list_from(fd);
-    libc::close(fd);
 }
 
 // The sheet that an argument names.
-fn list_one(i: usize) {
-    let mut name = io::buffer();
-    let n = os::arg(i, &mut name);
-    list_named(&name[..n]);
+fn list_one<R: Files, W: Write>(rt: &R, argument: String, to: &mut W) -> io::Result<()> {
+    list_named(rt, argument.as_str(), to)
 }
 
-fn main() {
-    let n = os::arg_count();
-    let mut i = 1;
-    while i < n {
-        list_one(i);
-        i += 1;
+fn main(rt: HostRuntime) -> io::Result<()> {
+    for argument in env::args(&rt)?.skip(1) {
+        list_one(&rt, argument, &mut rt.stdout())?;
     }
+    Ok(())
 }

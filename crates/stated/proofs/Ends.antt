@@ -7,7 +7,7 @@ use mathlib.Core.Logic.{◌⊎◌, inl, inr, ⊎_elim}
 use mathlib.Core.List.{List, [], ◌∷◌, ◌++◌}
 use lib.ListN.{length, drop, length-append}
 use lib.Seq.{drop-append-le}
-use Rattle.bytes.specs.Bytes.{number}
+use Rattle.octets.specs.Bytes.{number}
 use Rattle.sheet.specs.Sheet.{Section, count_of, left_after}
 use Rattle.sheet.specs.Faults.{
   here,
@@ -20,7 +20,7 @@ use Rattle.sheet.specs.Faults.{
   GoodSections,
   SectionsFault,
 }
-use Rattle.bytes.proofs.Numbers.{number_append}
+use Rattle.octets.proofs.Numbers.{number_append}
 use Rattle.sheet.proofs.Reading.{left-append}
 
 module _ (k : Section) where

@@ -6,9 +6,9 @@ use mathlib.Core.Path.{◌≡◌, ap, sym, ◌∙◌}
 use mathlib.Core.List.{List, [], ◌∷◌, ◌++◌, append_assoc}
 use lib.ListN.{length, get_or, take, drop}
 use lib.Seq.{take_at, drop_at, drop-drop}
-use Rattle.bytes.specs.Bytes.{number, lay, lay_all}
+use Rattle.octets.specs.Bytes.{number, lay, lay_all}
 use Rattle.sheet.specs.Sheet.{Section, count_of, items_of, lay_section}
-use Rattle.bytes.proofs.Numbers.{length-lay}
+use Rattle.octets.proofs.Numbers.{length-lay}
 use Rattle.sheet.proofs.Places.{InFront, item-in-front, number_at}
 use Rattle.stated.specs.Paper.{StandsAt, LaidAt}
 

@@ -13,7 +13,7 @@ use Rattle.rule.proofs.Answers.{within-true}
 use Rattle.sheet.specs.declared.Counted.{Counted}
 use Rattle.sheet.specs.declared.SheetCounts.TheVariants as Counts'
 use Rattle.sheet.specs.declared.HowMany.TheVariants as HowMany'
-use Rattle.bytes.specs.Bytes.{number, lay}
+use Rattle.octets.specs.Bytes.{number, lay}
 use Rattle.sheet.specs.Sheet.{
   Section,
   ranged,

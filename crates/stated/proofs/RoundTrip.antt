@@ -7,11 +7,11 @@ use mathlib.Core.Bool.{true}
 use mathlib.Core.List.{List, [], ◌∷◌, ◌++◌, append_assoc}
 use lib.ListN.{length, drop, length-append}
 use lib.Seq.{drop_at, drop-drop, get_or-drop}
-use Rattle.bytes.specs.Bytes.{number, lay, numbers, lay_all}
+use Rattle.octets.specs.Bytes.{number, lay, numbers, lay_all}
 use Rattle.sheet.specs.Sheet.{Section, items_of, left_after, ListsFor, lists_of, lay_section, lay_sections}
 use Rattle.sheet.specs.Faults.{GoodItems, GoodSection, GoodSections, GoodValues, GoodList, GoodEach}
-use Rattle.bytes.proofs.Numbers.{length-lay}
-use Rattle.bytes.proofs.Filling.{length-lay_all}
+use Rattle.octets.proofs.Numbers.{length-lay}
+use Rattle.octets.proofs.Filling.{length-lay_all}
 use Rattle.sheet.proofs.Sheets.{length-numbers}
 use Rattle.stated.specs.Paper.{AreBytes}
 

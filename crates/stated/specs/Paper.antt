@@ -10,7 +10,7 @@ use Rattle.sheet.specs.declared.SheetCounts.{SheetCounts}
 use Rattle.sheet.specs.declared.SheetCounts.TheVariants as Counts'
 use Rattle.sheet.specs.declared.HowMany.{HowMany}
 use Rattle.sheet.specs.declared.HowMany.TheVariants as HowMany'
-use Rattle.bytes.specs.Bytes.{number, lay}
+use Rattle.octets.specs.Bytes.{number, lay}
 use Rattle.sheet.specs.Sheet.{
   Section,
   ranged,

@@ -197,7 +197,7 @@ date-of-day-line e h = ap (told day_line) (back-to-day e h)
 pub move-line-literally : Paper.MoveLineLiterally
 unfolding move_text
 move-line-literally y k l m d n h =
-    let w = Moves.move-of-a-date y k l m d n (sym ((day-is y k l m d).1 h)) in
+    let w = Moves.move-of-a-date-exactly y k l m d n (sym ((day-is y k l m d).1 h)) in
     record {
       lands = λ e f i.
           ap (told text_of_date) (sym ((w.gives e f i (Is (date_of e))).1 (sym (a-day e i)))) ∙ date-of-day-line e i;

@@ -1,6 +1,8 @@
 // The reject tray: the page of notes and queries in stdin, for a person to read, through the desk program's own code with echo.
 #![tactic(auto)]
 
-fn main() {
-    held::answer_input(true);
+use std::io;
+
+fn main(rt: HostRuntime) -> io::Result<()> {
+    held::answer_input(true, &mut rt.stdin(), rt.stdout())
 }

@@ -1,6 +1,8 @@
 // The verdicts program: reads a concordance on standard input and prints the verdict on each of its lines, and the totals.
 #![tactic(auto)]
 
-fn main() {
-    judging::report_from(0);
+use std::io;
+
+fn main(rt: HostRuntime) -> io::Result<()> {
+    judging::report_from(&mut rt.stdin(), &mut rt.stdout())
 }

@@ -1,0 +1,15 @@
+-- `answers::put_numbers` meets its contract. The invariant: the first i numbers are put. Assumes nothing.
+use native.Mathlib.Omega.{arith}
+use Rattle.fields.specs.Fields.{each}
+use Rattle.fields.proofs.Putting.{put-none, each_next, turn}
+use Rattle.told.specs.Yearbook.{spaced}
+use Rattle.answers.proofs.put_numbers.Goals as goal
+
+pub loop-i-init : goal.loop-i-init
+unfolding each
+loop-i-init c = (omega arith, put-none c.args.out.now c.args.at)
+
+pub loop-i-preserved : goal.loop-i-preserved
+unfolding each
+loop-i-preserved c =
+    let i = c.loop-i.i in let next = each_next spaced c.args.counts.now i c.loop-i-test.true in (omega arith, turn i next c.loop-i.invariant.1 c.put_next-to.ensures)

@@ -1,0 +1,8 @@
+-- `capi::oes_judge_text` meets its contract. Assumes nothing.
+use mathlib.Core.Path.{ap, ◌∙◌}
+use Rattle.offered.specs.Flat.{flat_length}
+use Rattle.capi.proofs.oes_judge_text.Goals as goal
+
+pub returns : goal.returns
+returns c =
+    let w = c.judge_text.ensures in record { answer = c.flat_length.ensures ∙ ap flat_length w.answer; buffer = w.buffer }

@@ -1,0 +1,31 @@
+-- `concordance::count_newlines` meets its contract. What is left has the newlines that are not counted yet. Assumes nothing.
+use Rattle.std.proofs.Common.{arith}
+use Rattle.concordance.proofs.Places.{newline-next, newline-none, newlines-few}
+use Rattle.concordance.proofs.count_newlines.Goals as goal
+
+pub overflow_add-n : goal.overflow_add-n
+overflow_add-n c =
+    record {
+      fits = omega (
+        arith,
+        c.newline-n.ensures,
+        newline-next c.args.text.now c.loop-i.i c.loop-i-test.true,
+        newlines-few c.args.text.now,
+      );
+    }
+
+pub loop-i-preserved : goal.loop-i-preserved
+loop-i-preserved c = (
+  omega (arith, c.loop-i-test.true),
+  omega (
+    arith,
+    c.newline-n.ensures,
+    newline-next c.args.text.now c.loop-i.i
+        c.loop-i-test.true,
+    c.loop-i.invariant.1,
+  ),
+)
+
+pub returns : goal.returns
+returns c =
+    omega (arith, c.loop-i.invariant.1, newline-none c.args.text.now c.loop-i.i c.loop-i-test.false)

@@ -1,0 +1,16 @@
+-- `concordance::line_end` meets its contract. The line's end is as far from here as from its start. Assumes nothing.
+use Rattle.std.proofs.Common.{drop, arith, length-drop, eq-eqb, ne_eqb}
+use Rattle.concordance.proofs.Lines.{len-le, len-pass, len-stop}
+use Rattle.concordance.proofs.line_end.Goals as goal
+
+pub returns-then-text-i-eq10 : goal.returns-then-text-i-eq10
+returns-then-text-i-eq10 c =
+    omega (arith, len-stop c.args.text.now c.loop-i.i (omega arith) (eq-eqb _ _ c.if-text-i-eq10.true))
+
+pub loop-i-preserved : goal.loop-i-preserved
+loop-i-preserved c =
+    omega (arith, len-pass c.args.text.now c.loop-i.i (omega arith) (ne_eqb _ _ c.if-text-i-eq10.false))
+
+pub returns : goal.returns
+returns c =
+    omega (arith, len-le (drop c.loop-i.i c.args.text.now), length-drop c.loop-i.i c.args.text.now)

@@ -1,0 +1,9 @@
+-- `converted::new_from` is safe and ends: what is written lies in its room. Assumes nothing.
+use native.Mathlib.Omega.{arith}
+use Rattle.listed.proofs.Paper.{taken-itself}
+use Rattle.converted.proofs.Paper.{new-inside}
+use Rattle.converted.proofs.new_from.Goals as goal
+
+pub slice_bounds-write_all-end : goal.slice_bounds-write_all-end
+slice_bounds-write_all-end g c =
+    let p = c.new_taken.ensures _ (taken-itself _ c.read_full-n.result (omega arith)) in new-inside _ _ _ _ _ c.in-Is.is p

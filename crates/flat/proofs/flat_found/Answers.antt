@@ -1,0 +1,11 @@
+-- `flat::flat_found` meets its contract. Assumes nothing.
+use Rattle.flat.proofs.flat_found.Goals as goal
+
+pub returns-in-Is : goal.returns-in-Is
+returns-in-Is c = rw c.in-Is.is
+
+pub returns-in-TooShort : goal.returns-in-TooShort
+returns-in-TooShort c = rw c.in-TooShort.is
+
+pub returns-in-Refused : goal.returns-in-Refused
+returns-in-Refused c = rw (c.in-Refused.is, ← c.reason_number.ensures)
