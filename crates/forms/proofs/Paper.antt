@@ -6,7 +6,7 @@ use mathlib.Core.Bool.{true}
 use mathlib.Core.List.{List, [], ◌∷◌}
 use lib.ListN.{length}
 use Rattle.forms.specs.Forms.{admits}
-use Rattle.forms.specs.Paper.{FieldsJoined, FieldsWithoutSpaces, JoinedFields, ReadBack, AllRead}
+use Rattle.forms.specs.Paper.{FieldsJoined, FieldsWithoutSpaces, JoinedFields, ReadBackExactly, AllRead}
 use Rattle.forms.proofs.Spaces as spaces
 use Rattle.forms.proofs.Saying.{
   number-text,
@@ -43,9 +43,9 @@ word-alone [] t h e = absurd (omega (arith, h))
 word-alone (b ∷ []) t h e = absurd (omega (arith, h))
 word-alone (b ∷ c ∷ p) t h e = exact (b ∷ c ∷ p) t e
 
-pub read_back : ReadBack
+pub read-back-exactly : ReadBackExactly
 unfolding admits
-read_back =
+read-back-exactly =
     record {
       number = number-text;
       mark = mark-text;

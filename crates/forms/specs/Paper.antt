@@ -29,7 +29,7 @@ abbrev pub JoinedFields : Type 0
 JoinedFields = (f : List ℕ) (fs : List (List ℕ)) → NoSpaces (f ∷ fs) → fields_in (joined (f ∷ fs)) ≡ f ∷ fs
 
 -- a field that a form admits is the one text of what is read there; a word of a form is itself alone. `-0` is the text of no number
-pub record ReadBack : Type 0 where
+pub record ReadBackExactly : Type 0 where
   pub number : (t : List ℕ) → admits (word "n") t ≡ true → t ≡ decimal (value_from 0 t)
   pub mark : (t : List ℕ) → admits (word "m") t ≡ true → t ≡ leap_text (same (word "L") t)
   pub move : (t : List ℕ) → admits (word "s") t ≡ true → t ≡ signed_text (move_of (λ k. k) t)

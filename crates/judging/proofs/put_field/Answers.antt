@@ -5,30 +5,6 @@ use Rattle.judging.proofs.Reporting.{words-1, words-2, words-3, words-4, words-5
 use borrow.Author.Rules.{rules}
 use Rattle.judging.proofs.put_field.Goals as goal
 
--- LEFT (no goal today):
--- slice-aggregate-put-bytes : tie.Need-slice-aggregate-put-bytes
--- slice-aggregate-put-bytes c = search rules
-
--- LEFT (no goal today):
--- slice-aggregate-put-bytes-2 : tie.Need-slice-aggregate-put-bytes-2
--- slice-aggregate-put-bytes-2 c = search rules
-
--- LEFT (no goal today):
--- slice-aggregate-put-bytes-3 : tie.Need-slice-aggregate-put-bytes-3
--- slice-aggregate-put-bytes-3 c = search rules
-
--- LEFT (no goal today):
--- slice-aggregate-put-bytes-4 : tie.Need-slice-aggregate-put-bytes-4
--- slice-aggregate-put-bytes-4 c = search rules
-
--- LEFT (no goal today):
--- slice-aggregate-put-bytes-5 : tie.Need-slice-aggregate-put-bytes-5
--- slice-aggregate-put-bytes-5 c = search rules
-
--- LEFT (no goal today):
--- slice-aggregate-put-bytes-6 : tie.Need-slice-aggregate-put-bytes-6
--- slice-aggregate-put-bytes-6 c = search rules
-
 pub put_bytes-requires : goal.put_bytes-requires
 put_bytes-requires c = search rules
 

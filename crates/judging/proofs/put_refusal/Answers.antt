@@ -6,14 +6,6 @@ use Rattle.judging.proofs.Reporting.{as-refusal}
 use borrow.Author.Rules.{rules}
 use Rattle.judging.proofs.put_refusal.Goals as goal
 
--- LEFT (no goal today):
--- slice-aggregate-put-bytes : tie.Need-slice-aggregate-put-bytes
--- slice-aggregate-put-bytes c = search rules
-
--- LEFT (no goal today):
--- cast-put-next : tie.Need-overflow-cast-put-next
--- cast-put-next c = search rules
-
 pub put_bytes-to1-requires : goal.put_bytes-to1-requires
 put_bytes-to1-requires c = search rules
 

@@ -5,14 +5,6 @@ use Rattle.judging.proofs.Reporting.{says-right, says-unreadable, says-wrong}
 use borrow.Author.Rules.{rules}
 use Rattle.judging.proofs.put_said.Goals as goal
 
--- LEFT (no goal today):
--- slice-aggregate-put-bytes : tie.Need-slice-aggregate-put-bytes
--- slice-aggregate-put-bytes c = search rules
-
--- LEFT (no goal today):
--- slice-aggregate-put-bytes-2 : tie.Need-slice-aggregate-put-bytes-2
--- slice-aggregate-put-bytes-2 c = search rules
-
 pub put_bytes-requires : goal.put_bytes-requires
 put_bytes-requires c = search rules
 

@@ -4,10 +4,6 @@ use Rattle.judging.proofs.Reporting.{as-total}
 use borrow.Author.Rules.{rules}
 use Rattle.judging.proofs.put_total.Goals as goal
 
--- LEFT (no goal today):
--- slice-aggregate-put-bytes : tie.Need-slice-aggregate-put-bytes
--- slice-aggregate-put-bytes c = search rules
-
 pub how_many-right-requires : goal.how_many-right-requires
 how_many-right-requires c = search rules
 

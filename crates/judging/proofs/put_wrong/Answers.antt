@@ -3,10 +3,6 @@ use Rattle.fields.proofs.Putting.{then}
 use borrow.Author.Rules.{rules}
 use Rattle.judging.proofs.put_wrong.Goals as goal
 
--- LEFT (no goal today):
--- slice-aggregate-put-bytes : tie.Need-slice-aggregate-put-bytes
--- slice-aggregate-put-bytes c = search rules
-
 pub put_bytes-to1-requires : goal.put_bytes-to1-requires
 put_bytes-to1-requires c = search rules
 
