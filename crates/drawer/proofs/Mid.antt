@@ -1,7 +1,6 @@
 -- A list whose first places are filled, one by one, with the images of another list's elements: what a loop that fills has in its middle. It
 -- says nothing of this crate.
 --     mid g ds ys i    the first i places of ys hold the images of ds's first i elements
---     mid-length       it is as long as ys
 --     mid_at           what a filled place holds
 --     mid-next         place i is filled too
 --     mid-ends         all are filled

@@ -155,7 +155,7 @@ fn end_input<W: Write>(
     }
 }
 
-// The whole input. A loop needs a number that falls: no input has 2 to the 64th parts.
+// The whole input, or as much as is read until a write fails. A loop needs a number that falls: no input has 2 to the 64th parts.
 fn answer_all<R: Read, W: Write>(
     echo: bool,
     from: &mut R,
@@ -173,6 +173,9 @@ fn answer_all<R: Read, W: Write>(
         let next = take_some(echo, from, bytes, line, held, days, out, to);
         if next == 202 {
             end_input(echo, line, held, days, out, to);
+            return;
+        }
+        if !to.is_ok() {
             return;
         }
         held = next;

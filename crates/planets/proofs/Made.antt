@@ -1,7 +1,6 @@
--- What the calls make of the definitions: products that fit, and each answer where its tests lead. Assumes nothing.
-use Prim.Native.Nat.{ℕ, ◌*◌, ◌≤◌, ◌<◌, ◌^◌}
+-- What the calls make of the definitions: counts that fit, and each answer where its tests lead. Assumes nothing.
+use Prim.Native.Nat.{ℕ, ◌≤◌, ◌<◌, ◌^◌}
 use native.Mathlib.Omega.{arith}
-use native.Mathlib.Nat.{mul-le-mul}
 use mathlib.Core.Path.{◌≡◌, ap, sym, ◌∙◌}
 use mathlib.Core.Bool.{true, false}
 use lib.Dec.{leb}
@@ -23,10 +22,6 @@ use Rattle.planets.specs.Planets.{
 use Rattle.planets.specs.Paper.{Good}
 use Rattle.planets.proofs.Moments.{count-first}
 use Rattle.planets.proofs.Five.{good-planets}
-
--- a number in the range of days times one that is b at most
-pub product : (k y b : ℕ) → k ≤ 14989859 → y ≤ b → k * y ≤ 14989859 * b
-product k y b h l = mul-le-mul h l
 
 -- a test that fails: the number is beyond
 beyond : (a b : ℕ) → b < a → leb a b ≡ false

@@ -68,6 +68,11 @@ impl<W: Write> Output<W> {
         }
     }
 
+    // Whether nothing has failed so far.
+    pub fn is_ok(&self) -> bool {
+        self.so_far.is_ok()
+    }
+
     // The first error, where there was one.
     pub fn end(self) -> io::Result<()>
     where
@@ -152,7 +157,9 @@ mod tests {
         let mut room = [0u8; 5];
         let mut out = Output::new(Cursor::new(&mut room[..]));
         out.put(b"abc");
+        assert!(rt; out.is_ok());
         out.put(b"defg");
+        assert!(rt; !out.is_ok());
         out.put(b"");
         out.put_decimal(7);
         let end = out.end();

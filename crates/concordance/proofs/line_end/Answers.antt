@@ -1,15 +1,18 @@
 -- `concordance::line_end` meets its contract. The line's end is as far from here as from its start. Assumes nothing.
-use Rattle.std.proofs.Common.{drop, arith, length-drop, eq-eqb, ne_eqb}
+use Rattle.std.proofs.Common.{◌≡◌, ◌≢◌, drop, arith, length-drop, eq-eqb, ne_eqb}
+use lib.ListN.{get_or}
 use Rattle.concordance.proofs.Lines.{len-le, len-pass, len-stop}
 use Rattle.concordance.proofs.line_end.Goals as goal
 
 pub returns-then-text-i-eq10 : goal.returns-then-text-i-eq10
 returns-then-text-i-eq10 c =
-    omega (arith, len-stop c.args.text.now c.loop-i.i (omega arith) (eq-eqb _ _ c.if-text-i-eq10.true))
+    let newline : get_or c.args.text.now c.loop-i.i 0 ≡ 10 = omega (arith, c.if-text-i-eq10.true) in
+    omega (arith, len-stop c.args.text.now c.loop-i.i (omega arith) (eq-eqb _ _ newline))
 
 pub loop-i-preserved : goal.loop-i-preserved
 loop-i-preserved c =
-    omega (arith, len-pass c.args.text.now c.loop-i.i (omega arith) (ne_eqb _ _ c.if-text-i-eq10.false))
+    let other : get_or c.args.text.now c.loop-i.i 0 ≢ 10 = omega (arith, c.if-text-i-eq10.false) in
+    omega (arith, len-pass c.args.text.now c.loop-i.i (omega arith) (ne_eqb _ _ other))
 
 pub returns : goal.returns
 returns c =

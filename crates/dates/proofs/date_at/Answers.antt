@@ -10,6 +10,15 @@ use Rattle.rule.proofs.Terms.{mid-in-range}
 use Rattle.dates.proofs.Days.{between, made}
 use Rattle.dates.proofs.date_at.Goals as goal
 
+pub place_of-place-requires : goal.place_of-place-requires
+place_of-place-requires c =
+    let length : c.length_of-length.result ≡ month_length c.stands-at.result.month = c.length_of-length.ensures c.stands-at.result.month c.stands-at.ensures.2 in
+    let spans : let d = c.args.day in let p = c.stands-at.result.passed in let l = c.length_of-length.result in (p ≤ d) × (p < l) × (l ≤ 30) × (d - p + l ≤ 14989860) =
+    let at = c.stands-at.ensures in
+    between c.args.day _ _ _ at.0 at.1 (length) c.requires in
+    let last : c.last_mid_term-last.result < 492480 = mid-in-range _ _ c.last_mid_term-last.ensures.0 (spans).3 in
+    omega (arith, last)
+
 pub returns : goal.returns
 unfolding mid_term_day
 returns c =
@@ -48,15 +57,6 @@ civil_year_and_number-its-requires c =
 
 pub overflow_cast-last : goal.overflow_cast-last
 overflow_cast-last c =
-    let length : c.length_of-length.result ≡ month_length c.stands-at.result.month = c.length_of-length.ensures c.stands-at.result.month c.stands-at.ensures.2 in
-    let spans : let d = c.args.day in let p = c.stands-at.result.passed in let l = c.length_of-length.result in (p ≤ d) × (p < l) × (l ≤ 30) × (d - p + l ≤ 14989860) =
-    let at = c.stands-at.ensures in
-    between c.args.day _ _ _ at.0 at.1 (length) c.requires in
-    let last : c.last_mid_term-last.result < 492480 = mid-in-range _ _ c.last_mid_term-last.ensures.0 (spans).3 in
-    omega (arith, last)
-
-pub place_of-place-requires : goal.place_of-place-requires
-place_of-place-requires c =
     let length : c.length_of-length.result ≡ month_length c.stands-at.result.month = c.length_of-length.ensures c.stands-at.result.month c.stands-at.ensures.2 in
     let spans : let d = c.args.day in let p = c.stands-at.result.passed in let l = c.length_of-length.result in (p ≤ d) × (p < l) × (l ≤ 30) × (d - p + l ≤ 14989860) =
     let at = c.stands-at.ensures in

@@ -8,6 +8,17 @@ use Rattle.dates.specs.Dates.{number_there}
 use Rattle.dates.proofs.Days.{no-year, no_number_lem, no-day-of-month, not_there, in-ranges}
 use Rattle.dates.proofs.day_of_date.Goals as goal
 
+pub returns : goal.returns
+returns c =
+    let year-there : c.args.year ≤ 41040 = omega (arith, c.if-year-gt41040.false) in
+    let number-in-range : within 1 12 c.args.number ≡ true = sym c.in_range.ensures ∙ c.if-not-in_range.false in
+    let day-in-range : within 1 30 c.args.day_of_month ≡ true = sym c.in_range-2.ensures ∙ c.if-not-in_range-2.false in
+    let number-there : let a = c.args in number_there a.year a.number ≡ true = sym c.in_range-3.ensures ∙ c.if-not-in_range-3.false in
+    let a = c.args in
+    c.day_of_named.ensures
+    ∙ sym
+    (in-ranges a.year a.number a.leap a.day_of_month (year-there) (number-in-range) (day-in-range) (number-there))
+
 pub returns-then-year-gt41040 : goal.returns-then-year-gt41040
 returns-then-year-gt41040 c =
     let a = c.args in
@@ -42,14 +53,3 @@ returns-then-not-in_range-3 c =
     sym
     (not_there a.year a.number a.leap a.day_of_month (year-there) (number-in-range) (day-in-range)
     (sym test.ensures ∙ c.if-not-in_range-3.true))
-
-pub returns : goal.returns
-returns c =
-    let year-there : c.args.year ≤ 41040 = omega (arith, c.if-year-gt41040.false) in
-    let number-in-range : within 1 12 c.args.number ≡ true = sym c.in_range.ensures ∙ c.if-not-in_range.false in
-    let day-in-range : within 1 30 c.args.day_of_month ≡ true = sym c.in_range-2.ensures ∙ c.if-not-in_range-2.false in
-    let number-there : let a = c.args in number_there a.year a.number ≡ true = sym c.in_range-3.ensures ∙ c.if-not-in_range-3.false in
-    let a = c.args in
-    c.day_of_named.ensures
-    ∙ sym
-    (in-ranges a.year a.number a.leap a.day_of_month (year-there) (number-in-range) (day-in-range) (number-there))

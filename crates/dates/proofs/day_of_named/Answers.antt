@@ -18,6 +18,31 @@ record Asked (s r m : ℕ) (l : Bool) (q : ℕ) : Type 0 where
   pub early : s ≤ 14989860
   pub answer : day_in_month n q ≡ day_of_named m l q
 
+pub returns-then-next-start : goal.returns-then-next-start
+unfolding mid_term_day
+returns-then-next-start c =
+    let m : ℕ = c.args.m in
+    let mid-day : c.term_of-term.result.day ≡ mid_term_day (m) = c.term_of-term.ensures.0 in
+    let month : ℕ = month_of_day (mid_term_day (m)) in
+    let is-month : c.stands-at.result.month ≡ month = c.stands-at.ensures.0 ∙ ap month_of_day (mid-day) in
+    let start : c.term_of-term.result.day - c.stands-at.result.passed ≡ month_start (month) = omega (arith, ap month_start (is-month), c.stands-at.ensures.1) in
+    let left : c.stands-at.result.left + small_remainder (month) ≡ 939 = omega (arith, ap small_remainder (is-month), c.stands-at.ensures.2) in
+    let ends : let n = month in (month_start (n + 1) ≡ month_start n + month_length n) × (month_start (n + 2) ≡ month_start (n + 1) + month_length (n + 1)) × (month_start (n + 2) ≤ 14989860) =
+    let n = month in (
+      start-next n,
+      ap month_start {y = n + 1 + 1} (omega arith) ∙ start-next (n + 1),
+      named_end c.args.m 1 c.requires.0,
+    ) in
+    let length : c.length_of-start.result ≡ month_length (month) = c.length_of-start.ensures (month) (left) in
+    let next : c.term_of-term.result.day - c.stands-at.result.passed + c.length_of-start.result ≡ month_start (month + 1) = omega (arith, start, length, ends) in
+    let after : c.next_left-left.result + small_remainder (month + 1) ≡ 939 = c.next_left-left.ensures (month) (left) in
+    let end : c.term_of-term.result.day - c.stands-at.result.passed + c.length_of-start.result + c.length_of.result ≡ month_start (month + 2) =
+    let e = c.length_of.ensures (month + 1) (after) in
+    omega (arith, next, e, ends) in
+    let next-mid : c.term_of-next.result.day ≡ mid_term_day (m + 1) = c.term_of-next.ensures.0 in
+    no-leap c.args.m c.args.day_of_month c.if-leap.true
+    (omega (arith, next-mid, end))
+
 -- the month that is asked for, where the branches join
 asked : (c : Joined-leap) →
     let a = c.args in
@@ -59,31 +84,6 @@ asked c =
             answer = ordinary-asked m c.args.day_of_month w.if-leap.false;
           }
     ]
-
-pub returns-then-next-start : goal.returns-then-next-start
-unfolding mid_term_day
-returns-then-next-start c =
-    let m : ℕ = c.args.m in
-    let mid-day : c.term_of-term.result.day ≡ mid_term_day (m) = c.term_of-term.ensures.0 in
-    let month : ℕ = month_of_day (mid_term_day (m)) in
-    let is-month : c.stands-at.result.month ≡ month = c.stands-at.ensures.0 ∙ ap month_of_day (mid-day) in
-    let start : c.term_of-term.result.day - c.stands-at.result.passed ≡ month_start (month) = omega (arith, ap month_start (is-month), c.stands-at.ensures.1) in
-    let left : c.stands-at.result.left + small_remainder (month) ≡ 939 = omega (arith, ap small_remainder (is-month), c.stands-at.ensures.2) in
-    let ends : let n = month in (month_start (n + 1) ≡ month_start n + month_length n) × (month_start (n + 2) ≡ month_start (n + 1) + month_length (n + 1)) × (month_start (n + 2) ≤ 14989860) =
-    let n = month in (
-      start-next n,
-      ap month_start {y = n + 1 + 1} (omega arith) ∙ start-next (n + 1),
-      named_end c.args.m 1 c.requires.0,
-    ) in
-    let length : c.length_of-start.result ≡ month_length (month) = c.length_of-start.ensures (month) (left) in
-    let next : c.term_of-term.result.day - c.stands-at.result.passed + c.length_of-start.result ≡ month_start (month + 1) = omega (arith, start, length, ends) in
-    let after : c.next_left-left.result + small_remainder (month + 1) ≡ 939 = c.next_left-left.ensures (month) (left) in
-    let end : c.term_of-term.result.day - c.stands-at.result.passed + c.length_of-start.result + c.length_of.result ≡ month_start (month + 2) =
-    let e = c.length_of.ensures (month + 1) (after) in
-    omega (arith, next, e, ends) in
-    let next-mid : c.term_of-next.result.day ≡ mid_term_day (m + 1) = c.term_of-next.ensures.0 in
-    no-leap c.args.m c.args.day_of_month c.if-leap.true
-    (omega (arith, next-mid, end))
 
 pub returns : goal.returns
 returns c =

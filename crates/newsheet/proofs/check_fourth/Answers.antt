@@ -10,6 +10,14 @@ use Rattle.newsheet.specs.New.{reading_section}
 use Rattle.newsheet.proofs.Fourth.{section, count-bad, counted-good, fourth-bad, fourth-found, after-fourth, fourth-whole}
 use Rattle.newsheet.proofs.check_fourth.Goals as goal
 
+pub returns-else-m-s : goal.returns-else-m-s
+returns-else-m-s c =
+    let count : count_read reading_section c.args.s.now ≡ is c.in-Is.n = sym (c.count_at.ensures reading_section refl) ∙ ap said_how_many c.in-Is.is in
+    let read : section c.args.s.now ≡ said_how_many c.check_readings.result =
+    counted-good _ c.in-Is.n _ (count) (part-all 2 c.args.s.now) ∙ sym c.check_readings.ensures in
+    let good : section c.args.s.now ≡ is c.in-Is-check_readings.m = read ∙ ap said_how_many c.in-Is-check_readings.is in
+    sym (fourth-whole _ _ (good) c.if-m-s.false)
+
 pub slice_bounds-check_readings-count : goal.slice_bounds-check_readings-count
 slice_bounds-check_readings-count c =
     let count : count_read reading_section c.args.s.now ≡ is c.in-Is.n = sym (c.count_at.ensures reading_section refl) ∙ ap said_how_many c.in-Is.is in
@@ -54,11 +62,3 @@ returns-in-Refused-check_readings c =
     let read : section c.args.s.now ≡ said_how_many c.check_readings.result =
     counted-good _ c.in-Is.n _ (count) (part-all 2 c.args.s.now) ∙ sym c.check_readings.ensures in
     sym (fourth-bad _ _ (read ∙ ap said_how_many c.in-Refused-check_readings.is))
-
-pub returns-else-m-s : goal.returns-else-m-s
-returns-else-m-s c =
-    let count : count_read reading_section c.args.s.now ≡ is c.in-Is.n = sym (c.count_at.ensures reading_section refl) ∙ ap said_how_many c.in-Is.is in
-    let read : section c.args.s.now ≡ said_how_many c.check_readings.result =
-    counted-good _ c.in-Is.n _ (count) (part-all 2 c.args.s.now) ∙ sym c.check_readings.ensures in
-    let good : section c.args.s.now ≡ is c.in-Is-check_readings.m = read ∙ ap said_how_many c.in-Is-check_readings.is in
-    sym (fourth-whole _ _ (good) c.if-m-s.false)

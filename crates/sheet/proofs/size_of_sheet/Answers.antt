@@ -57,6 +57,11 @@ module _ (l : Lists) where
       let e = list-found (ranged day_items) l.days d g in
       (omega (arith, length-sheet l, a.1, b.1, e.1), omega (arith, length-sheet l, a.0, b.0, e.0))
 
+pub returns-in-Refused-check_four-2 : goal.returns-in-Refused-check_four-2
+returns-in-Refused-check_four-2 c =
+    let a = c.args in
+    sym (days-stop (three_lists a.years.now a.months.now a.days.now) _ c.in-Is.y c.in-Is-check_four.m (reason_number c.in-Refused-check_four-2.r) (sym c.in-Is.ensures) (sym c.in-Is-check_four.ensures) (sym c.in-Refused-check_four-2.ensures))
+
 pub overflow_add-result-in-Is-check_four-2 : goal.overflow_add-result-in-Is-check_four-2
 overflow_add-result-in-Is-check_four-2 c =
     let a = c.args in
@@ -77,11 +82,6 @@ pub returns-in-Refused-check_four : goal.returns-in-Refused-check_four
 returns-in-Refused-check_four c =
     let a = c.args in
     sym (months-stop (three_lists a.years.now a.months.now a.days.now) _ c.in-Is.y (reason_number c.in-Refused-check_four.r) (sym c.in-Is.ensures) (sym c.in-Refused-check_four.ensures))
-
-pub returns-in-Refused-check_four-2 : goal.returns-in-Refused-check_four-2
-returns-in-Refused-check_four-2 c =
-    let a = c.args in
-    sym (days-stop (three_lists a.years.now a.months.now a.days.now) _ c.in-Is.y c.in-Is-check_four.m (reason_number c.in-Refused-check_four-2.r) (sym c.in-Is.ensures) (sym c.in-Is-check_four.ensures) (sym c.in-Refused-check_four-2.ensures))
 
 pub returns-in-Is-check_four-2 : goal.returns-in-Is-check_four-2
 returns-in-Is-check_four-2 c =
