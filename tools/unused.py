@@ -9,7 +9,7 @@ signatures in docs/CALLS.md, are needed as they are. It is needed of
 a definition of proofs/ where another file names it, or one of its constructors, or where it stands in a signature that is `pub`. Of
 specs/ every `pub` may stay, so that a statement's parts can be cited. A definition of specs/ or proofs/ is needed where it is named at
 all; needed as they are the proofs of statements, what a Proof.antt, an Invariants.antt and an Answers.antt say of their function (the
-proof, what is asked of `Given` or of `Goals`), and the figures of a Cases.antt.
+proof, what is asked of `Given` or of `Goals`), the figures of a Cases.antt, and what a page of docs/ or README names between backticks.
 
 usage: tools/unused.py [CRATE..]          what is found, in these crates or in all; exit status 1 if something is
        tools/unused.py --fix [CRATE..]    take out the imports, and each `pub` of proofs/ (run `rt fmt` after it, and this again); the
@@ -22,9 +22,14 @@ import sys
 
 ROOT = pathlib.Path(__file__).resolve().parent.parent
 CRATES = ROOT / "crates"
-USE = re.compile(r"^(?:pub |unfoldable |ghost )*use\s+([^\s{;]+?)(?:(?:\.|::)\{([^}]*)\}|\s+as\s+([^\s;]+))?[ \t]*;?[ \t]*$", re.M)
+USE = re.compile(r"^[ \t]*(?:pub |unfoldable |ghost )*use\s+([^\s{;]+?)(?:(?:\.|::)\{([^}]*)\}|\s+as\s+([^\s;]+))?[ \t]*;?[ \t]*$", re.M)
 DECLARED = re.compile(r"[ \t]*((?:abbrev |unfoldable |pub )*)(record |data |ruleset )?([^\s(){};,.]+)")
+CLAUSE = re.compile(r"\b(?:requires|ensures)\b[^{\n]*\{|^[ \t]*ghost \w+\s*[:=]\s*\{", re.M)
+ATTRIBUTE = re.compile(r"(\w+)::((?:specs|proofs)(?:::\w+)*)::(\w+)")
 CODE = re.compile(r"^pub (extern\s+)?(fn|struct|enum|const|static) (\w+)", re.M)
+
+# Our traits: an import of one brings its functions, by which it is not named.
+TRAITS = {name for path in CRATES.glob("*/src/*.rt") for name in re.findall(r"^pub trait (\w+)", path.read_text(encoding="utf8"), re.M)}
 
 # The place of an argument in an operator's name.
 MARK = "◌"
@@ -61,8 +66,10 @@ class File:
     def read_imports(self, text):
         for found in USE.finditer(text):
             module, items, renamed = found.groups()
-            ghost = self.path.suffix == ".antt" or found.group().startswith("ghost")
-            if found.group().startswith(("pub", "unfoldable")):
+            ghost = self.path.suffix == ".antt" or found.group().lstrip().startswith("ghost")
+            if found.group().lstrip().startswith(("pub", "unfoldable")):
+                continue
+            if module.endswith("::*"):
                 continue
             if items is None:
                 name, start = renamed or re.split(r"::|\.", module)[-1], found.start()
@@ -75,7 +82,7 @@ class File:
     def parts(self):
         """Of a .rt file: its clauses, and its code without them."""
         code, clauses = list(self.body), []
-        for found in re.finditer(r"\b(?:requires|ensures)\b[^{\n]*\{", self.body):
+        for found in CLAUSE.finditer(self.body):
             depth, at = 1, found.end()
             while depth:
                 depth += {"{": 1, "}": -1}.get(self.body[at], 0)
@@ -86,7 +93,7 @@ class File:
 
     def is_needed(self, one):
         if not one.ghost:
-            return one.name in self.code_words
+            return one.name in self.code_words or one.name in TRAITS
         if one.item is None:
             heads = re.findall(r"(?<![^\s(){},;])([^\s(){},;.]+)\.", self.clauses)
             return one.name in heads or any(one.name == other.module.partition(".")[0] for other in self.imports)
@@ -156,6 +163,8 @@ def named_in(file):
                 found.add((crate, module, path.partition(".")[0]))
     for crate, module, name in re.findall(r"Rattle\.(\w+)\.([^\s(){},;]+)\.([^\s(){},;.]+)", file.clauses):
         found.add((crate, module, name))
+    for crate, module, name in ATTRIBUTE.findall(file.code):
+        found.add((file.crate if crate == "crate" else crate, module.replace("::", "."), name))
     return found
 
 
@@ -211,7 +220,7 @@ def occurs_in_own(file, name, one):
 def narrowed(file, found):
     """Of `pub` definitions that only their own file names: those that stand in no signature of what stays `pub`. An `abbrev` may."""
     lines = file.body.splitlines()
-    sections = re.findall(r"^[ \t]*module _ .*?\bwhere$", file.body, re.M | re.S)
+    sections = re.findall(r"^[ \t]*module _ .*?\bwhere$|^pub ruleset [^\n]*", file.body, re.M | re.S)
     stays = [one for one in declarations(file) if "pub" in one.marks and one not in found]
     while True:
         seen = atoms("\n".join(sections + [lines[number - 1] for one in stays for number in one.block]))
@@ -231,12 +240,14 @@ def needless_definitions(files):
     specs = [file for file in antt if in_folder(file, "specs")]
     stated = {(file.crate, plain(one.name)) for file in specs for one in declarations(file) if one.name[0].isupper()}
     nowhere, narrow = [], []
+    pages = [ROOT / "README.md", *(ROOT / "docs").glob("*.md")]
+    told = {name for page in pages for name in re.findall(r"`([^\s`]+)`", page.read_text(encoding="utf8"))}
     for file in antt:
         crate, module = module_of(file.path)
         own = []
         for one in list(declarations(file)):
             names = [one.name, *one.constructors]
-            if is_root(file, one.name, stated) or any(named[crate, module, name] - {file.path} for name in names):
+            if is_root(file, one.name, stated) or in_folder(file, "proofs") and told & set(names) or any(named[crate, module, name] - {file.path} for name in names):
                 continue
             if not any(occurs_in_own(file, name, one) for name in names):
                 nowhere.append((file, one.line, f"`{one.name}` is named nowhere"))
@@ -259,6 +270,8 @@ def needless_code(files):
     code = [file for file in files if file.path.suffix == ".rt"]
     antt = [file for file in files if file.path.suffix == ".antt"]
     spelled = {file: file.code + "".join(f"\n{one.module}::{one.item or ''}" for one in file.imports) for file in code}
+    for file in code:
+        spelled[file] += "".join(re.findall(r"^pub use [^;]*", file.text, re.M))
     for file in code:
         is_outer = file.path.name in ("lib.rt", "main.rt")
         head, others = file.crate if is_outer else file.path.stem, [one for one in code if (one.crate != file.crate) == is_outer]

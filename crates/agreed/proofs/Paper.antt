@@ -1,4 +1,8 @@
 -- What the calls say of one another, proved, each statement under its name in small letters. Assumes nothing.
+use Rattle.rule.specs.declared.Reason.{Reason}
+use Rattle.facts.specs.declared.MonthFacts.{MonthFacts}
+use Rattle.facts.specs.declared.SolsticeYear.{SolsticeYear}
+use Rattle.std.specs.Prelude.{Result, Ok}
 use Prim.Native.Nat.{ℕ, ◌+◌, ◌-◌, ◌*◌, ◌/◌, ◌%◌, ◌≤◌, ◌<◌}
 use native.Mathlib.Omega.{arith}
 use mathlib.Core.Path.{◌≡◌, refl, ap, sym, ◌∙◌, subst}
@@ -7,7 +11,7 @@ use lib.Dec.{leb}
 use mathlib.Core.Bool.{Bool, true, false, false≢true}
 use Rattle.rule.specs.Counts.{SolsticeYearInRange, DayInRange, MonthInRange, ji, bu, year_in_bu}
 use Rattle.rule.specs.Rule.{InMonth, term_day, year_term, mid_term_day, InSolsticeYear, leap, month_number, marked, number_of, solstice_year_of, InCivilYear, eclipse}
-use Rattle.rule.specs.Reasons.{is, within}
+use Rattle.rule.specs.Reasons.{said, is, within}
 use Rattle.rule.specs.Paper.{MidTerm, NoMidTerm, Numbered, IsMonth, IsPlace, EclipseMonth}
 use Rattle.rule.specs.declared.Month.{Month}
 use Rattle.rule.specs.declared.Month.TheVariants.{Ordinary, Leap}
@@ -19,16 +23,10 @@ use Rattle.rule.proofs.Years.{of-month, of-month-range}
 use Rattle.rule.proofs.Leap.{holds-next, rises-ordinary, ordinary-year, leap-follows, after-namesake, number_at}
 use Rattle.rule.proofs.Paper as Rule
 use Rattle.dates.specs.declared.Date.{Date}
-use Rattle.dates.specs.declared.Dated.TheVariants as Dated'
-use Rattle.dates.specs.declared.DayTold.TheVariants as DayTold'
 use Rattle.dates.specs.Promises.{DateOfDay, DayOfDate}
 use Rattle.dates.specs.Paper.{HasPlace, IsDate, IsDayOf}
 use Rattle.dates.proofs.Named.{last-leap}
 use Rattle.dates.proofs.Paper as Dates
-use Rattle.facts.specs.declared.SolsticeYearTold.{SolsticeYearTold}
-use Rattle.facts.specs.declared.SolsticeYearTold.TheVariants as Solstice'
-use Rattle.facts.specs.declared.MonthTold.{MonthTold}
-use Rattle.facts.specs.declared.MonthTold.TheVariants as Month'
 use Rattle.facts.specs.Facts.{solstice_year, month_facts}
 use Rattle.facts.specs.Paper.{term_before}
 use Rattle.facts.specs.Promises.{SolsticeYearFacts, MonthByCount}
@@ -180,7 +178,7 @@ named-told y k true n = civil-told y (Leap k) n
 named-told y k false n = civil-told y (Ordinary k) n
 
 -- the date of a day
-date-told : (d : ℕ) (r : Date) → DateOfDay d (Dated'.Is r) ↔ DateByTerms term_before d r
+date-told : (d : ℕ) (r : Date) → DateOfDay d (Ok r) ↔ DateByTerms term_before d r
 date-told d r = (λ p. there ((Dates.date-of-day-exactly d r).0 p), λ a. (Dates.date-of-day-exactly d r).1 (back a))
   where
     there : DayInRange d × IsDate d r → DateByTerms term_before d r
@@ -207,7 +205,7 @@ date-told d r = (λ p. there ((Dates.date-of-day-exactly d r).0 p), λ a. (Dates
         )
 
 -- the day of a date
-day-told : (y k : ℕ) (l : Bool) (m d : ℕ) → DayOfDate y k l m (DayTold'.Is d) ↔ DayByTerms term_before y k l m d
+day-told : (y k : ℕ) (l : Bool) (m d : ℕ) → DayOfDate y k l m (Ok d) ↔ DayByTerms term_before y k l m d
 day-told y k l m d = (λ p. there ((Dates.day-of-date-exactly y k l m d).0 p), λ a. (Dates.day-of-date-exactly y k l m d).1 (back a))
   where
     there : IsDayOf y k l m d → DayByTerms term_before y k l m d
@@ -243,14 +241,14 @@ pub dates-by-terms : Paper.DatesByTerms
 dates-by-terms told h = subst DatesBy (sym (λ i y k. Facts.term-as-before y k (told y k) (h y k) i)) dates-as-before
 
 -- what is answered for a solstice year and for a month in range
-solstice-given : (y : ℕ) → SolsticeYearInRange y → (a : SolsticeYearTold) → SolsticeYearFacts y a → a ≡ Solstice'.Is (solstice_year y)
+solstice-given : (y : ℕ) → SolsticeYearInRange y → (a : Result SolsticeYear Reason) → SolsticeYearFacts y a → a ≡ Ok (solstice_year y)
 solstice-given y h a p =
-    (Facts.unique-facts).solstice-year y a (Solstice'.Is (solstice_year y)) p
+    (Facts.unique-facts).solstice-year y a (Ok (solstice_year y)) p
     ((Facts.solstice-year-exactly y (solstice_year y)).1 (h, (solstice-exactly y h.0 (solstice_year y)).0 refl))
 
-month-given : (n : ℕ) → MonthInRange n → (a : MonthTold) → MonthByCount n a → a ≡ Month'.Is (month_facts n)
+month-given : (n : ℕ) → MonthInRange n → (a : Result MonthFacts Reason) → MonthByCount n a → a ≡ Ok (month_facts n)
 month-given n h a p =
-    (Facts.unique-facts).month n a (Month'.Is (month_facts n)) p ((Facts.month-by-count-exactly n (month_facts n)).1 (h, (month-exactly n (month_facts n)).0 refl))
+    (Facts.unique-facts).month n a (Ok (month_facts n)) p ((Facts.month-by-count-exactly n (month_facts n)).1 (h, (month-exactly n (month_facts n)).0 refl))
 
 pub place-and-mark : Paper.PlaceAndMark
 unfolding solstice_year month_facts

@@ -9,15 +9,13 @@ use borrow.Author.Tests.{ne_eqb}
 use Rattle.rule.specs.Reasons.{Answer, is, and_then}
 use Rattle.sheet.specs.Sheet.{ListsFor}
 use Rattle.fields.specs.Fields.{word, decimal, digits, followed, each}
-use Rattle.fields.proofs.Putting.{put_as}
 use Rattle.listed.proofs.Fronts.{sections-taken}
 use Rattle.listed.specs.Paper.{TakenInto}
 use Rattle.newsheet.specs.New.{eight_of, eights, new_sections, Four, four_named, read_new}
 use Rattle.newsheet.proofs.Eights.{eights-slice}
-use Rattle.answered.specs.declared.Head.{Head}
 use Rattle.answered.specs.Answers.{reading_line, answer_to_reading, head_text, readings_after, answers_text}
 use Rattle.answered.specs.Paper as Paper
-use Rattle.answered.specs.Paper.{HoldsReadings, HeadPut}
+use Rattle.answered.specs.Paper.{HoldsReadings, HeadWritten}
 
 -- so many bytes are read as the whole
 taken : (s : List ℕ) → read_new (take Paper.answers_held s) ≡ read_new s
@@ -49,14 +47,14 @@ reading-line-literally =
     }
 
 -- a room of so many bytes: what was taken of an input has the head of the whole
-pub taken-head : (room : List ℕ) (n : ℕ) (s list out out' : List ℕ) (h : Head) → Paper.answers_held ≡ length room → TakenInto room n s →
-    (u : List ℕ) → u ≡ take n room → HeadPut u list out out' h → HeadPut s list out out' h
-taken-head room n s list out out' h l e u i p =
-    let f : read_new u ≡ read_new s = ap read_new (i ∙ e ∙ ap (λ (k : ℕ). take k s) (sym l)) ∙ taken s in
+pub taken-head : (room : List ℕ) (n : ℕ) (s list text text' : List ℕ) (k : ℕ) → Paper.answers_held ≡ length room → TakenInto room n s →
+    HeadWritten (take n room) list text text' k → HeadWritten s list text text' k
+taken-head room n s list text text' k l e p =
+    let f : read_new (take n room) ≡ read_new s = ap read_new (e ∙ ap (λ (m : ℕ). take m s) (sym l)) ∙ taken s in
     record {
-      text = put_as (ap head_text f) p.text;
+      head = p.head ∙ ap (λ (a : Answer Four). text ++ head_text a) f;
       few = p.few;
-      readings = subst (HoldsReadings list h.readings) (ap readings_after f) p.readings;
+      readings = subst (HoldsReadings list k) (ap readings_after f) p.readings;
     }
 
 -- nothing held

@@ -1,13 +1,12 @@
 -- How much of an input the answering program needs, as a statement; the line of a reading, literally; and what the program makes of a room into which an
 -- input was read. proofs/Paper.antt proves each statement under the same name in small letters. Assumes nothing.
-use Rattle.std.specs.Prelude.{ℕ, suc, ◌*◌, ◌≤◌, ◌≡◌, List, [], ◌∷◌, ◌++◌, length, get_or, take}
-use Rattle.std.proofs.lemmas.List.Edits.{sets}
+use Rattle.std.specs.Prelude.{ℕ, suc, ◌*◌, ◌≤◌, ◌≡◌, Option, Result, IfOk, OnOk, List, [], ◌∷◌, ◌++◌, length, get_or, take}
+use Rattle.std.specs.Io.KnownBytes.{Appends}
 use Rattle.rule.specs.Reasons.{is, refused}
-use Rattle.fields.specs.Fields.{word, decimal, each, Put}
+use Rattle.fields.specs.Fields.{word, decimal, each}
 use Rattle.penned.specs.Lines.{refused_line, listing_of}
 use Rattle.listed.specs.Paper.{TakenInto}
 use Rattle.newsheet.specs.New.{eight_of, eights, Four, read_new}
-use Rattle.answered.specs.declared.Head.{Head}
 use Rattle.answered.specs.Answers.{field_shown, mark_shown, reading_line, answer_to_reading, head_text, readings_after, answers_text}
 
 -- so many bytes of an input the answering program holds: one more than the longest sheet
@@ -38,16 +37,32 @@ pub record HoldsReadings (list : List ℕ) (n : ℕ) (xs : List ℕ) : Type 0 wh
   pub many : length xs ≡ n
   pub numbers : take (8 * n) list ≡ eights xs
 
--- the head of what the bytes s are answered with stands at the front of the buffer, and the readings that follow in the list
-pub record HeadPut (s list out out' : List ℕ) (h : Head) : Type 0 where
-  pub text : Put 789000 out 0 (head_text (read_new s)) out' h.bytes
-  pub few : h.readings ≤ 500
-  pub readings : HoldsReadings list h.readings (readings_after (read_new s))
+-- after a text the head of what the bytes s are answered with is written, and the n readings that follow stand in the list
+pub record HeadWritten (s list text text' : List ℕ) (n : ℕ) : Type 0 where
+  pub head : text' ≡ text ++ head_text (read_new s)
+  pub few : n ≤ 500
+  pub readings : HoldsReadings list n (readings_after (read_new s))
 
 -- whatever input the room has taken, it is the head of the whole of it
-abbrev pub InputHeaded : (room : List ℕ) (n : ℕ) (list out out' : List ℕ) (h : Head) → Type 0
-InputHeaded room n list out out' h = (s : List ℕ) → TakenInto room n s → HeadPut s list out out' h
+abbrev pub InputHeaded : (room : List ℕ) (n : ℕ) (list text text' : List ℕ) (k : ℕ) → Type 0
+InputHeaded room n list text text' k = (s : List ℕ) → TakenInto room n s → HeadWritten s list text text' k
 
--- whatever readings the list holds, the answer to reading j stands at the front of the buffer
-abbrev pub ReadingAnswered : (list : List ℕ) (n j : ℕ) (out out' : List ℕ) → Type 0
-ReadingAnswered list n j out out' = (xs : List ℕ) → HoldsReadings list n xs → out' ≡ sets out 0 (answer_to_reading (eight_of (get_or xs j 0)))
+-- whatever readings the list holds, the answer to reading j is written after a text
+abbrev pub ReadingAnswered : (list : List ℕ) (n j : ℕ) (text text' : List ℕ) → Type 0
+ReadingAnswered list n j text text' = (xs : List ℕ) → HoldsReadings list n xs → text' ≡ text ++ answer_to_reading (eight_of (get_or xs j 0))
+
+-- whatever readings the list holds, the output has been given the answers to all of them, where nothing failed
+abbrev pub ReadingsAnswered : {E : Type 0} (list : List ℕ) (n : ℕ) (r : Result (Unit {0}) E) (to to' : Option (List ℕ)) → Type 0
+ReadingsAnswered list n r to to' =
+    (xs : List ℕ) → HoldsReadings list n xs → OnOk r (Appends to to' (each (λ x. answer_to_reading (eight_of x)) xs))
+
+-- whatever input the room has taken, the output has been given the head of the whole of it, and the readings that follow stand in the list, where
+-- nothing failed
+abbrev pub InputHeadAnswered : {E : Type 0} (room : List ℕ) (n : ℕ) (list : List ℕ) (r : Result ℕ E) (to to' : Option (List ℕ)) → Type 0
+InputHeadAnswered room n list r to to' =
+    (s : List ℕ) → TakenInto room n s →
+    IfOk r (λ k. (k ≤ 500) × HoldsReadings list k (readings_after (read_new s)) × Appends to to' (head_text (read_new s)))
+
+-- whatever input the room has taken, the output has been given the answers to the whole of it, where nothing failed
+abbrev pub InputAnswered : {E : Type 0} (room : List ℕ) (n : ℕ) (r : Result (Unit {0}) E) (to to' : Option (List ℕ)) → Type 0
+InputAnswered room n r to to' = (s : List ℕ) → TakenInto room n s → OnOk r (Appends to to' (answers_text s))

@@ -1,79 +1,81 @@
-// The answers to a sheet of the new form: its listing, then each reading with the search's answer; the answering program's own code. No contract can
-// say what is written; that it is the front of the buffer, and what stands there, is said.
+// The answers to a sheet of the new form, each made in a text: its listing, then each reading with the search's answer; the answering program's
+// own code.
 #![tactic(auto)]
 
-ghost use Rattle.std.specs.Prelude.{◌+◌, ◌*◌, ◌≤◌, ◌<◌, ◌≡◌, ◌∷◌, length, take, drop};
-ghost use Rattle.fields.specs.Fields.{Put};
+ghost use Rattle.std.specs.Prelude.{◌+◌, ◌*◌, ◌≤◌, ◌<◌, ◌≡◌, ◌∷◌, ◌++◌, length, take, drop, OnOk};
+ghost use Rattle.std.specs.Io.KnownBytes.{Appends, Consumes};
 ghost use Rattle.told.specs.Answers.{places};
 ghost use Rattle.newsheet.specs.New.{eight_numbers};
-ghost use Rattle.answered.specs.Answers.{field_shown, mark_shown, rest_text, reading_line, answer_to_reading};
-ghost use Rattle.answered.specs.Paper.{answers_held, HeadPut, InputHeaded, ReadingAnswered};
+ghost use Rattle.answered.specs.Answers.{field_shown, mark_shown, rest_text, reading_line, answer_to_reading, answers_text};
+ghost use Rattle.answered.specs.Paper.{answers_held, HeadWritten, InputHeaded, ReadingAnswered, ReadingsAnswered, InputHeadAnswered, InputAnswered};
 
-use newsheet::{Eight, NewCounts};
+use fields::Text;
+use newsheet::Eight;
+use reading::Reading;
 use std::io;
 use std::io::{Read, Write};
 
-// How many bytes come before the readings, and how many readings follow.
-#[derive(Clone, Copy)]
-struct Head {
-    bytes: usize,
-    readings: usize,
-}
-
 // A space, and a number that was read or `?`.
-fn put_field(n: u32, out: &mut [u8], at: usize) -> usize
-    requires { at + 11 ≤ length out.old }
-    ensures { Put 11 out.old at (32 ∷ field_shown n) out.new result }
+// (0 is unread, as `reading_line` is said of the eight numbers of the lent list.)
+fn write_field<const N: usize>(n: u32, text: &mut Text<N>)
+    requires { length text.old + 11 ≤ N }
+    ensures text { text.new ≡ text.old ++ (32 ∷ field_shown n) }
+    ensures few { length text.new ≤ length text.old + 11 }
 {
-    if n == 0 {
-        return fields::put_bytes(b" ?", out, at);
+    match n {
+        0 => text.bytes(b" ?"),
+        _ => text.field(n),
     }
-    fields::put_next(n, out, at)
 }
 
 // A space, and a mark that was read or `?`.
-fn put_mark(n: u32, out: &mut [u8], at: usize) -> usize
-    requires { at + 2 ≤ length out.old }
-    ensures { Put 2 out.old at (32 ∷ mark_shown n) out.new result }
+fn write_mark<const N: usize>(n: u32, text: &mut Text<N>)
+    requires { length text.old + 2 ≤ N }
+    ensures text { text.new ≡ text.old ++ (32 ∷ mark_shown n) }
+    ensures few { length text.new ≤ length text.old + 2 }
 {
-    if n == 0 {
-        return fields::put_bytes(b" ?", out, at);
+    match n {
+        0 => text.bytes(b" ?"),
+        _ => text.mark(n == 2, b'L'),
     }
-    fields::put_mark(n == 2, 76, out, at)
 }
 
-// A space, and what a `READING` line has from the day of the month on.
-fn put_rest(e: Eight, out: &mut [u8], at: usize) -> usize
-    requires { at + 55 ≤ length out.old }
-    ensures { Put 55 out.old at (32 ∷ rest_text (eight_numbers e)) out.new result }
+// A space, and what a `READING` line has from the day of the month on; apart, since ten writes in a row did not prove by themselves.
+#[tactic(auto, unfolding(fields::specs::Fields::followed))]
+fn write_rest<const N: usize>(e: Eight, text: &mut Text<N>)
+    requires { length text.old + 55 ≤ N }
+    ensures text { text.new ≡ text.old ++ (32 ∷ rest_text (eight_numbers e)) }
+    ensures few { length text.new ≤ length text.old + 55 }
 {
-    let to1 = put_field(e.day_of_month, out, at);
-    let to2 = put_field(e.day_name, out, to1);
-    let to3 = put_field(e.first_name, out, to2);
-    let to4 = fields::put_next(e.first, out, to3);
-    fields::put_next(e.last, out, to4)
+    write_field(e.day_of_month, text);
+    write_field(e.day_name, text);
+    write_field(e.first_name, text);
+    text.field(e.first);
+    text.field(e.last);
 }
 
 // A `READING` line.
-fn put_reading(e: Eight, out: &mut [u8], at: usize) -> usize
-    requires { at + 87 ≤ length out.old }
-    ensures { Put 87 out.old at (reading_line (eight_numbers e)) out.new result }
+#[tactic(auto, unfolding(crate::specs::Answers::reading_line, fields::specs::Fields::followed))]
+fn write_reading<const N: usize>(e: Eight, text: &mut Text<N>)
+    requires { length text.old + 87 ≤ N }
+    ensures text { text.new ≡ text.old ++ reading_line (eight_numbers e) }
+    ensures few { length text.new ≤ length text.old + 87 }
 {
-    let to1 = fields::put_bytes(b"READING", out, at);
-    let to2 = put_field(e.year_name, out, to1);
-    let to3 = put_field(e.month_number, out, to2);
-    let to4 = put_mark(e.leap_mark, out, to3);
-    let to5 = put_rest(e, out, to4);
-    fields::put_byte(10, out, to5)
+    text.bytes(b"READING");
+    write_field(e.year_name, text);
+    write_field(e.month_number, text);
+    write_mark(e.leap_mark, text);
+    write_rest(e, text);
+    text.byte(b'\n');
 }
 
-// A reading and the search's answer.
-fn put_answer(e: Eight, days: &mut [u32], out: &mut [u8]) -> usize
-    requires { (places ≤ length days.old) × (3275666 ≤ length out.old) }
-    ensures { Put 3275666 out.old 0 (answer_to_reading (eight_numbers e)) out.new result }
+// A reading and the search's answer: a `READING` line of 87 bytes, a `FOUND` line of 17 and 27,759 `DAY` lines of 118 at most.
+fn write_answer<const N: usize>(e: Eight, days: &mut [u32], text: &mut Text<N>)
+    requires { (places ≤ length days.old) × (length text.old + 3275666 ≤ N) }
+    ensures { text.new ≡ text.old ++ answer_to_reading (eight_numbers e) }
 {
-    let to = put_reading(e, out, 0);
-    answers::answer_search(newsheet::reading_in(e), e.first, e.last, days, out, to)
+    write_reading(e, text);
+    answers::answer_search(Reading::from(e), e.first, e.last, days, text);
 }
 
 // The eight numbers of reading j of a list.
@@ -94,118 +96,106 @@ fn eight_at(list: &[u32], j: usize) -> Eight
     }
 }
 
-// Reading j of n, answered.
-fn answer_reading<W: Write>(
+// Reading j of n, answered after a text.
+fn answer_reading<const N: usize>(
     list: &[u32],
     n: usize,
     j: usize,
     days: &mut [u32],
-    out: &mut [u8],
-    to: &mut W,
-) -> io::Result<()>
-    requires { (j < n) × (n ≤ 500) × (8 * n ≤ length list.now) × (places ≤ length days.old) × (3275666 ≤ length out.old) }
-    ensures { ReadingAnswered list.now n j out.old out.new }
+    text: &mut Text<N>,
+)
+    requires { (j < n) × (n ≤ 500) × (8 * n ≤ length list.now) × (places ≤ length days.old) × (length text.old + 3275666 ≤ N) }
+    ensures { ReadingAnswered list.now n j text.old text.new }
 {
-    let m = put_answer(eight_at(list, j), days, out);
-    to.write_all(&out[0..m])
+    write_answer(eight_at(list, j), days, text);
 }
 
-// The n readings of a list, one by one.
-fn answer_readings<W: Write>(
-    list: &[u32],
-    n: usize,
-    days: &mut [u32],
-    out: &mut [u8],
-    to: &mut W,
-) -> io::Result<()>
-    requires { (n ≤ 500) × (8 * n ≤ length list.now) × (places ≤ length days.old) × (3275666 ≤ length out.old) }
+// The n readings of a list, one by one: the days that a search finds and the answer to a reading have room of their own.
+// (The list and how many readings: `HoldsReadings` is of such.)
+fn answer_readings<W: Write>(list: &[u32], n: usize, to: &mut W) -> io::Result<()>
+    requires { (n ≤ 500) × (8 * n ≤ length list.now) }
+    ensures { ReadingsAnswered list.now n result (W.contents to.old) (W.contents to.new) }
 {
-    let mut j = 0;
-    while j < n {
-        answer_reading(list, n, j, days, out, to)?;
-        j += 1;
+    let mut days = [0u32; 111036];
+    let mut text = Text::<3275666>::new();
+    for j in 0..n {
+        text.clear();
+        answer_reading(list, n, j, &mut days, &mut text);
+        to.write_all(text.as_slice())?;
     }
     Ok(())
 }
 
-// What comes before the readings, at the front of a buffer that has room for the longest listing; and the readings that follow, put into a list
-// with room for 500.
-fn put_head(bytes: &[u8], list: &mut [u32], out: &mut [u8]) -> Head
-    requires { (4000 ≤ length list.old) × (789000 ≤ length out.old) }
-    ensures { HeadPut bytes.now list.new out.old out.new result }
+// What comes before the readings, after a text; and the readings that follow, put into a list with room for 500: how many they are.
+fn write_head<const N: usize>(bytes: &[u8], list: &mut [u32], text: &mut Text<N>) -> usize
+    requires { (4000 ≤ length list.old) × (length text.old + 789000 ≤ N) }
+    ensures { HeadWritten bytes.now list.new text.old text.new result }
 {
     let mut years = [0u16; 1000];
     let mut months = [0u32; 1000];
     let mut days = [0u32; 1000];
     match newsheet::read_new(bytes, &mut years, &mut months, &mut days, list) {
-        NewCounts::Refused(why) => Head {
-            bytes: lines::put_refused(why, out, 0),
-            readings: 0,
-        },
-        NewCounts::Is(c) => {
+        Err(why) => {
+            lines::write_refused(why, text);
+            0
+        }
+        Ok(c) => {
             let three = c.three;
-            let y = three.years;
-            let m = three.months;
-            let d = three.days;
-            let n = c.readings;
-            Head {
-                bytes: listed::put_lists(&years[..y], &months[..m], &days[..d], out),
-                readings: n,
-            }
+            listed::write_lists(
+                &years[..three.years],
+                &months[..three.months],
+                &days[..three.days],
+                text,
+            );
+            c.readings
         }
     }
 }
 
 // The head for the input of which n bytes were taken into a room: the front says what the whole does (FrontIsEnough).
-fn head_taken(bytes: &[u8], n: usize, list: &mut [u32], out: &mut [u8]) -> Head
-    requires { (answers_held ≡ length bytes.now) × (n ≤ length bytes.now) × (4000 ≤ length list.old) × (789000 ≤ length out.old) }
-    ensures { InputHeaded bytes.now n list.new out.old out.new result }
+// (The room and how much of it: `InputHeaded` and `InputAnswered` are of such.)
+fn head_taken<const N: usize>(bytes: &[u8], n: usize, list: &mut [u32], text: &mut Text<N>) -> usize
+    requires { (answers_held ≡ length bytes.now) × (n ≤ length bytes.now) × (4000 ≤ length list.old) × (length text.old + 789000 ≤ N) }
+    ensures { InputHeaded bytes.now n list.new text.old text.new result }
 {
-    put_head(&bytes[0..n], list, out)
+    write_head(&bytes[..n], list, text)
+}
+
+// What comes before the readings, to an output; and the readings that follow, put into a list: how many they are.
+fn answer_head<W: Write>(bytes: &[u8], n: usize, list: &mut [u32], to: &mut W) -> io::Result<usize>
+    requires { (answers_held ≡ length bytes.now) × (n ≤ length bytes.now) × (4000 ≤ length list.old) }
+    ensures { InputHeadAnswered bytes.now n list.new result (W.contents to.old) (W.contents to.new) }
+{
+    let mut text = Text::<789000>::new();
+    let readings = head_taken(bytes, n, list, &mut text);
+    to.write_all(text.as_slice())?;
+    Ok(readings)
 }
 
 // The input answered: first what comes before the readings, then reading by reading.
-fn answer_taken<W: Write>(
-    bytes: &[u8],
-    n: usize,
-    list: &mut [u32],
-    days: &mut [u32],
-    out: &mut [u8],
-    to: &mut W,
-) -> io::Result<()>
-    requires { (answers_held ≡ length bytes.now) × (n ≤ length bytes.now) × (4000 ≤ length list.old)
-        × (places ≤ length days.old) × (3275666 ≤ length out.old) }
+fn answer_taken<W: Write>(bytes: &[u8], n: usize, to: &mut W) -> io::Result<()>
+    requires { (answers_held ≡ length bytes.now) × (n ≤ length bytes.now) }
+    ensures { InputAnswered bytes.now n result (W.contents to.old) (W.contents to.new) }
 {
-    let h = head_taken(bytes, n, list, out);
-    let m = h.bytes;
-    let k = h.readings;
-    to.write_all(&out[0..m])?;
-    answer_readings(list, k, days, out, to)
+    let mut list = [0u32; 4000];
+    let readings = answer_head(bytes, n, &mut list, to)?;
+    answer_readings(&list, readings, to)
 }
 
 // The longest sheet has 17,008 bytes; one byte more shows that an input is longer.
+// (An array: no heap, docs/DECISIONS.md, 269.)
 fn sheet_room() -> [u8; 17009]
     ensures { answers_held ≡ length result }
 {
     [0u8; 17009]
 }
 
-// Room for a `READING` line of 87 bytes and the longest answer of a search, a `FOUND` line of 17 and 27,759 `DAY` lines of 118.
-fn room() -> [u8; 3275666] {
-    [0u8; 3275666]
-}
-
-// The places that the desk's search has.
-fn day_room() -> [u32; 111036] {
-    [0u32; 111036]
-}
-
 // A sheet's answers.
-pub fn answer_from<R: Read, W: Write>(from: &mut R, to: &mut W) -> io::Result<()> {
+pub fn answer_from<R: Read, W: Write>(from: &mut R, to: &mut W) -> io::Result<()>
+    ensures { (s : _) × Consumes (R.remaining from.old) (R.remaining from.new) s
+        × OnOk result (Appends (W.contents to.old) (W.contents to.new) (answers_text s)) }
+{
     let mut bytes = sheet_room();
-    let mut out = room();
-    let mut days = day_room();
-    let mut list = [0u32; 4000];
     let n = streams::read_full(from, &mut bytes);
-    answer_taken(&bytes, n, &mut list, &mut days, &mut out, to)
+    answer_taken(&bytes, n, to)
 }

@@ -7,22 +7,21 @@ ghost use Rattle.capped.specs.Capped.{capped};
 ghost use Rattle.forms.specs.Forms.{fields_in, first_like};
 ghost use Rattle.asked.specs.Asked.{hashed, slip_in, places_in, table_of, forms, query_at, read_by};
 
-use forms::Mark;
 use reading::Field;
 
 // What was read on a slip.
-#[derive(Clone, Copy)]
+#[derive(Debug, Clone, Copy, PartialEq)]
 pub struct Slip {
     pub year_name: Field,
     pub month_number: Field,
-    pub leap_mark: Mark,
+    pub leap_mark: Option<bool>,
     pub day_of_month: Field,
     pub day_name: Field,
     pub first_name: Field,
 }
 
 // What a line asks, in the paper's words. A note holds nothing: what is said to it is the line.
-#[derive(Clone, Copy)]
+#[derive(Debug, Clone, Copy, PartialEq)]
 pub enum Query {
     Unreadable,
     Note,
@@ -44,6 +43,8 @@ pub enum Query {
 }
 
 // The slip in places 1 to 6 of a line.
+// (The parts are taken one by one here and in `read_places`: most lines have two, and the rest is then not read,
+// docs/DECISIONS.md, 103.)
 fn read_slip(line: &[u8]) -> Slip
     ensures { result ≡ slip_in capped (fields_in line.now) }
 {
@@ -64,7 +65,7 @@ fn read_slip(line: &[u8]) -> Slip
 }
 
 // What stands in the places of a line, read as the part that forms have there: a number, a mark, a move.
-#[derive(Clone, Copy)]
+#[derive(Debug, Clone, Copy, PartialEq)]
 struct Places {
     pub n1: u32,
     pub n2: u32,
@@ -108,7 +109,9 @@ fn read_places(line: &[u8]) -> Places
     }
 }
 
-// The table of forms: which of them a line is like, counted from 0.
+// The table of forms: which of them a line is like, counted from 0. (A call a row, and no loop over a constant of rows:
+// measured with the older kit, that is laid onto the stack at each use, some 110 instructions a line, and a row whose form is known costs a
+// look at one letter: docs/DECISIONS.md, 102 and 103.)
 fn form_number(line: &[u8]) -> usize
     ensures { result ≡ first_like forms (fields_in line.now) }
 {
@@ -129,7 +132,9 @@ fn form_number(line: &[u8]) -> usize
     forms::past(k14, 14, b"FIGURES n n", line)
 }
 
-// The query of a line that is like a form, counted from 0.
+// The query of a line that is like a form, counted from 0: its row in the table of the specification. (An enum of the
+// fifteen forms would be `Query` once more.)
+#[tactic(auto, using(crate::proofs::Rows::arm), unfolding(crate::specs::Asked::table, crate::specs::Asked::query_at))]
 fn query_of(k: usize, line: &[u8]) -> Query
     ensures { result ≡ query_at (table_of capped (fields_in line.now)) k }
 {

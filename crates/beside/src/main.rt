@@ -1,6 +1,6 @@
-// What the desk cannot ask, asked of the calls: what they leave in lent lists and buffers, numbers that the desk cuts down before it
-// asks, and figures of 004 that no one answer gives. A question on a line, its answer below it. What it must write is made by
-// tools/expected.py.
+// What the desk cannot ask, asked of the calls: what they leave in lent lists and buffers, numbers that the desk cuts
+// down before it asks, and figures of 004 that no one answer gives. A question on a line, its answer below it. What it
+// must write is made by tools/expected.py.
 #![tactic(auto)]
 
 mod figures;
@@ -8,8 +8,6 @@ mod printed;
 mod searches;
 mod sheets;
 
-use dates::Dated;
-use planets::ConjunctionTold;
 use std::io;
 use std::io::Stdout;
 use streams::Output;
@@ -25,49 +23,51 @@ fn moved(out: &mut Out, year: u32, number: u32, leap: bool, day_of_month: u32, d
     show::signed(out, days);
     show::text(out, b"\n");
     match moves::move_date(year, number, leap, day_of_month, days) {
-        Dated::Is(d) => show::dated(out, d),
-        Dated::Refused(why) => show::refused(out, why),
+        Ok(d) => show::dated(out, d),
+        Err(why) => show::refused(out, why),
     }
 }
 
 fn conjunction(out: &mut Out, p: u32, k: u64) {
-    show::field(out, b"CONJUNCTION", p as u64);
-    show::line(out, b"", k);
+    writeln!(out, "CONJUNCTION {p} {k}");
     match planets::kth_conjunction(p, k) {
-        ConjunctionTold::Is(c) => {
+        Ok(c) => {
             show::text(out, b"CONJUNCTION");
             show::conjunction(out, c);
         }
-        ConjunctionTold::Refused(why) => show::refused(out, why),
+        Err(why) => show::refused(out, why),
     }
 }
 
-// A date's own reasons, 16 in the two civil years that are not whole among them, come before a move's end. A planet that there is not
-// is told before a count outside; with 1,341,063,005,370 Saturn's product has more than 64 bits for the first time.
+// A date's own reasons, 16 in the two civil years that are not whole among them, come before a move's end. A planet
+// that there is not is told before a count outside; with 1,341,063,005,370 Saturn's product has more than 64 bits for
+// the first time.
 fn large_numbers(out: &mut Out) {
-    show::text(
+    writeln!(
         out,
-        b"# The largest and least numbers of 64 bits, which the desk cuts down before it asks\n",
+        "# The largest and least numbers of 64 bits, which the desk cuts down before it asks"
     );
-    moved(out, 1, 13, false, 1, 9223372036854775807);
-    moved(out, 0, 10, true, 1, -9223372036854775807 - 1);
-    moved(out, 41040, 11, false, 1, 9223372036854775807);
-    moved(out, 11, 8, true, 1, -9223372036854775807 - 1);
-    moved(out, 0, 11, false, 1, 9223372036854775807);
-    moved(out, 41040, 10, true, 30, -9223372036854775807 - 1);
-    conjunction(out, 0, 18446744073709551615);
-    conjunction(out, 6, 18446744073709551615);
-    conjunction(out, 261, 18446744073709551615);
-    conjunction(out, 4294967295, 18446744073709551615);
-    conjunction(out, 1, 18446744073709551615);
-    conjunction(out, 2, 18446744073709551615);
-    conjunction(out, 3, 18446744073709551615);
-    conjunction(out, 4, 18446744073709551615);
-    conjunction(out, 5, 18446744073709551615);
-    conjunction(out, 1, 4294967296);
-    conjunction(out, 3, 1341063005369);
-    conjunction(out, 3, 1341063005370);
-    conjunction(out, 5, 9223372036854775808);
+    for (year, number, leap, day_of_month, days) in [
+        (1, 13, false, 1, i64::MAX),
+        (0, 10, true, 1, i64::MIN),
+        (41040, 11, false, 1, i64::MAX),
+        (11, 8, true, 1, i64::MIN),
+        (0, 11, false, 1, i64::MAX),
+        (41040, 10, true, 30, i64::MIN),
+    ] {
+        moved(out, year, number, leap, day_of_month, days);
+    }
+    for p in [0, 6, 261, u32::MAX, 1, 2, 3, 4, 5] {
+        conjunction(out, p, u64::MAX);
+    }
+    for (p, k) in [
+        (1, 4294967296),
+        (3, 1341063005369),
+        (3, 1341063005370),
+        (5, 9223372036854775808),
+    ] {
+        conjunction(out, p, k);
+    }
 }
 
 fn main(rt: HostRuntime) -> io::Result<()> {

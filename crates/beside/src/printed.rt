@@ -1,68 +1,45 @@
 // The calls that print a line, into a part of thirty sevens.
 use crate::{Out, sheets};
-use sheet::HowMany;
+use rule::Reason;
 
-#[derive(Clone, Copy)]
-enum Line {
-    Year,
-    Listed,
-    Month,
-    Day,
-}
-
-fn word(out: &mut Out, l: Line) {
-    match l {
-        Line::Year => show::text(out, b"PRINT YEAR"),
-        Line::Listed => show::text(out, b"PRINT LINE"),
-        Line::Month => show::text(out, b"PRINT MONTH"),
-        Line::Day => show::text(out, b"PRINT DAY"),
-    }
-}
-
-fn put(l: Line, n: u32, out: &mut [u8]) -> HowMany {
-    match l {
-        Line::Year => lines::print_year(n, out),
-        Line::Listed => lines::print_month_line(n, out),
-        Line::Month => lines::print_month(n, out),
-        Line::Day => lines::print_day(n, out),
-    }
-}
-
-// All thirty, of which a part was lent.
-fn told(out: &mut Out, answer: HowMany, space: &[u8; 30]) {
-    sheets::put(out, answer, space);
-}
-
-fn print(out: &mut Out, l: Line, n: u32, room: usize) {
+// A call that prints, and all thirty, of which a part was lent.
+fn print<F: FnOnce(u32, &mut [u8]) -> Result<usize, Reason>>(
+    out: &mut Out,
+    word: &str,
+    call: F,
+    n: u32,
+    room: usize,
+)
+    requires { F.IsAlwaysCallable call }
+{
     let mut space = [7u8; 30];
-    word(out, l);
-    show::next(out, n as u64);
-    show::line(out, b" INTO", room as u64);
+    writeln!(out, "PRINT {word} {n} INTO {room}");
     if room <= 30 {
-        told(out, put(l, n, &mut space[0..room]), &space);
+        let answer = call(n, &mut space[0..room]);
+        sheets::put(out, answer, &space);
     }
 }
 
 pub fn all(out: &mut Out) {
-    show::text(
+    writeln!(
         out,
-        b"# Printed lines into a part of thirty sevens: what does not exist, then a buffer too short, just enough, and more\n",
+        "# Printed lines into a part of thirty sevens: what does not exist, then a buffer too short, just enough, and more"
     );
-    print(out, Line::Year, 41041, 0);
-    print(out, Line::Year, 70000, 30);
-    print(out, Line::Year, 0, 30);
-    print(out, Line::Year, 11, 30);
-    print(out, Line::Listed, 507600, 0);
-    print(out, Line::Listed, 507599, 0);
-    print(out, Line::Listed, 134, 15);
-    print(out, Line::Listed, 134, 16);
-    print(out, Line::Listed, 134, 30);
-    print(out, Line::Month, 507600, 0);
-    print(out, Line::Month, 134, 21);
-    print(out, Line::Month, 134, 22);
-    print(out, Line::Month, 4294967295, 30);
-    print(out, Line::Day, 14989860, 0);
-    print(out, Line::Day, 14989859, 29);
-    print(out, Line::Day, 14989859, 30);
-    print(out, Line::Day, 0, 30);
+    print(out, "YEAR", lines::print_year, 41041, 0);
+    print(out, "YEAR", lines::print_year, 70000, 30);
+    print(out, "YEAR", lines::print_year, 0, 30);
+    print(out, "YEAR", lines::print_year, 11, 30);
+    print(out, "LINE", lines::print_month_line, 507600, 0);
+    print(out, "LINE", lines::print_month_line, 507599, 0);
+    print(out, "LINE", lines::print_month_line, 134, 15);
+    print(out, "LINE", lines::print_month_line, 134, 16);
+    print(out, "LINE", lines::print_month_line, 134, 30);
+    print(out, "MONTH", lines::print_month, 507600, 0);
+    print(out, "MONTH", lines::print_month, 134, 21);
+    print(out, "MONTH", lines::print_month, 134, 22);
+    print(out, "MONTH", lines::print_month, 4294967295, 30);
+    print(out, "DAY", lines::print_day, 14989860, 0);
+    print(out, "DAY", lines::print_day, 14989859, 29);
+    print(out, "DAY", lines::print_day, 14989859, 30);
+    print(out, "DAY", lines::print_day, 0, 30);
 }

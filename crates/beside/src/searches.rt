@@ -1,55 +1,36 @@
 // Searches into a lent list of four sevens, which keeps what is not filled.
 use crate::Out;
-use reading::{Field, Found, Reading};
+use reading::Field::Known;
+use reading::{Field, Reading, SearchError};
 
 // A field that is not read.
-const U: u32 = 1000;
+const U: Field = Field::Unread;
 
-fn field(k: u32) -> Field {
-    if k == U {
-        Field::Unread
-    } else {
-        Field::Known(k)
-    }
-}
-
-fn shown(out: &mut Out, k: u32) {
-    if k == U {
-        show::text(out, b" ?");
-    } else {
-        show::next(out, k as u64);
+fn shown(out: &mut Out, field: Field) {
+    match field {
+        Field::Known(k) => show::next(out, k as u64),
+        Field::Unread => show::text(out, b" ?"),
     }
 }
 
 // A reading's mark; one that is neither, which the desk cannot write, is its number.
-fn shown_mark(out: &mut Out, k: u32) {
-    match k {
-        1 => show::text(out, b" -"),
-        2 => show::text(out, b" L"),
-        _ => shown(out, k),
-    }
-}
-
-fn reading(y: u32, n: u32, l: u32, m: u32, d: u32, f: u32) -> Reading {
-    Reading {
-        year_name: field(y),
-        month_number: field(n),
-        leap_mark: field(l),
-        day_of_month: field(m),
-        day_name: field(d),
-        first_name: field(f),
+fn shown_mark(out: &mut Out, mark: Field) {
+    match mark {
+        Field::Known(1) => show::mark(out, false),
+        Field::Known(2) => show::mark(out, true),
+        _ => shown(out, mark),
     }
 }
 
 // What a call has found, and then the whole list.
-fn told(out: &mut Out, found: Found, list: &[u32]) {
+fn told(out: &mut Out, found: Result<u32, SearchError>, list: &[u32]) {
     match found {
-        Found::Is(n) => show::line(out, b"FOUND", n as u64),
-        Found::TooShort(total) => {
+        Ok(n) => show::line(out, b"FOUND", n as u64),
+        Err(SearchError::TooShort { total }) => {
             show::refused(out, rule::Reason::LentTooShort);
             show::line(out, b"TOTAL", total as u64);
         }
-        Found::Refused(why) => show::refused(out, why),
+        Err(SearchError::Refused(why)) => show::refused(out, why),
     }
     show::text(out, b"LIST");
     show::numbers(out, list);
@@ -57,7 +38,16 @@ fn told(out: &mut Out, found: Found, list: &[u32]) {
 }
 
 // A reading's six fields in the paper's order, and a window.
-fn search(out: &mut Out, y: u32, n: u32, l: u32, m: u32, d: u32, f: u32, first: u32, last: u32) {
+fn search(out: &mut Out, fields: [Field; 6], first: u32, last: u32) {
+    let [y, n, l, m, d, f] = fields;
+    let reading = Reading {
+        year_name: y,
+        month_number: n,
+        leap_mark: l,
+        day_of_month: m,
+        day_name: d,
+        first_name: f,
+    };
     let mut list = [7u32; 4];
     show::text(out, b"SEARCH");
     shown(out, y);
@@ -66,71 +56,96 @@ fn search(out: &mut Out, y: u32, n: u32, l: u32, m: u32, d: u32, f: u32, first: 
     shown(out, m);
     shown(out, d);
     shown(out, f);
-    show::next(out, first as u64);
-    show::next(out, last as u64);
-    show::text(out, b" INTO 4\n");
-    told(
-        out,
-        reading::search(reading(y, n, l, m, d, f), first, last, &mut list),
-        &list,
-    );
+    writeln!(out, " {first} {last} INTO 4");
+    told(out, reading::search(reading, first, last, &mut list), &list);
 }
 
 fn windows(out: &mut Out) {
-    show::text(out, b"# Searches into a list of four sevens: windows\n");
-    search(out, U, U, U, U, U, U, 14989860, 14989860);
-    search(out, U, U, U, U, U, U, 14989859, 14989860);
-    search(out, U, U, U, U, U, U, 14989859, 14989859);
-    search(out, U, U, U, U, U, U, 5, 4);
-    search(out, U, U, U, U, U, U, 5, 5);
-    search(out, U, U, U, U, U, U, 0, 27758);
-    search(out, U, U, U, U, U, U, 0, 27759);
-    search(out, U, U, U, U, U, U, 4294967295, 0);
+    writeln!(out, "# Searches into a list of four sevens: windows");
+    for (first, last) in [
+        (14989860, 14989860),
+        (14989859, 14989860),
+        (14989859, 14989859),
+        (5, 4),
+        (5, 5),
+        (0, 27758),
+        (0, 27759),
+        (4294967295, 0),
+    ] {
+        search(out, [U; 6], first, last);
+    }
 }
 
 fn outside(out: &mut Out) {
-    show::text(
+    writeln!(
         out,
-        b"# Each field just outside its range, the marks 0 and 3 among them\n",
+        "# Each field just outside its range, the marks 0 and 3 among them"
     );
-    search(out, 0, U, U, U, U, U, 0, 3);
-    search(out, U, 0, U, U, U, U, 0, 3);
-    search(out, U, U, 0, U, U, U, 0, 3);
-    search(out, U, U, U, 0, U, U, 0, 3);
-    search(out, U, U, U, U, 0, U, 0, 3);
-    search(out, U, U, U, U, U, 0, 0, 3);
-    search(out, 61, U, U, U, U, U, 0, 3);
-    search(out, U, 13, U, U, U, U, 0, 3);
-    search(out, U, U, 3, U, U, U, 0, 3);
-    search(out, U, U, U, 31, U, U, 0, 3);
-    search(out, U, U, U, U, 61, U, 0, 3);
-    search(out, U, U, U, U, U, 273, 0, 3);
-    search(out, 60, 12, 2, 30, 60, 60, 0, 3);
+    for fields in [
+        [Known(0), U, U, U, U, U],
+        [U, Known(0), U, U, U, U],
+        [U, U, Known(0), U, U, U],
+        [U, U, U, Known(0), U, U],
+        [U, U, U, U, Known(0), U],
+        [U, U, U, U, U, Known(0)],
+        [Known(61), U, U, U, U, U],
+        [U, Known(13), U, U, U, U],
+        [U, U, Known(3), U, U, U],
+        [U, U, U, Known(31), U, U],
+        [U, U, U, U, Known(61), U],
+        [U, U, U, U, U, Known(273)],
+        [
+            Known(60),
+            Known(12),
+            Known(2),
+            Known(30),
+            Known(60),
+            Known(60),
+        ],
+    ] {
+        search(out, fields, 0, 3);
+    }
 }
 
 fn order(out: &mut Out) {
-    show::text(
+    writeln!(
         out,
-        b"# The order 6, 13, 14, 12; and 12 with its total, at the edge\n",
+        "# The order 6, 13, 14, 12; and 12 with its total, at the edge"
     );
-    search(out, 61, U, U, U, U, U, 14989860, 0);
-    search(out, 61, U, U, U, U, U, 5, 4);
-    search(out, 61, U, U, U, U, U, 0, 9);
-    search(out, U, U, U, U, U, U, 0, 4);
-    search(out, U, U, U, U, U, U, 0, 3);
-    search(out, U, U, U, 1, U, U, 0, 27758);
+    for (fields, first, last) in [
+        ([Known(61), U, U, U, U, U], 14989860, 0),
+        ([Known(61), U, U, U, U, U], 5, 4),
+        ([Known(61), U, U, U, U, U], 0, 9),
+        ([U, U, U, U, U, U], 0, 4),
+        ([U, U, U, U, U, U], 0, 3),
+        ([U, U, U, Known(1), U, U], 0, 27758),
+    ] {
+        search(out, fields, first, last);
+    }
 }
 
 fn found(out: &mut Out) {
-    show::text(
+    writeln!(
         out,
-        b"# The first of a leap month, the last day, and days of the second of two big months\n",
+        "# The first of a leap month, the last day, and days of the second of two big months"
     );
-    search(out, 27, 9, 2, 1, U, 58, 0, 27758);
-    search(out, U, 10, 2, 30, 60, U, 14962101, 14989859);
-    search(out, 27, 5, 1, 1, U, U, 3600, 3900);
-    search(out, 27, 5, 1, 15, U, U, 3600, 3900);
-    search(out, 27, 5, 1, 30, U, U, 3600, 3900);
+    for (fields, first, last) in [
+        (
+            [Known(27), Known(9), Known(2), Known(1), U, Known(58)],
+            0,
+            27758,
+        ),
+        (
+            [U, Known(10), Known(2), Known(30), Known(60), U],
+            14962101,
+            14989859,
+        ),
+        ([Known(27), Known(5), Known(1), Known(1), U, U], 3600, 3900),
+        ([Known(27), Known(5), Known(1), Known(15), U, U], 3600, 3900),
+        ([Known(27), Known(5), Known(1), Known(30), U, U], 3600, 3900),
+    ] {
+        search(out, fields, first, last);
+    }
 }
 
 pub fn all(out: &mut Out) {

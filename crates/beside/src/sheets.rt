@@ -1,15 +1,12 @@
 // Sheets read into lent lists and written into a lent buffer of sevens, which keep what is not filled.
 use crate::Out;
-use sheet::{HowMany, SheetCounts};
+use rule::Reason;
+use sheet::Counted;
 
-fn counts(out: &mut Out, told: SheetCounts) {
+fn counts(out: &mut Out, told: Result<Counted, Reason>) {
     match told {
-        SheetCounts::Is(c) => {
-            show::field(out, b"COUNTS", c.years as u64);
-            show::next(out, c.months as u64);
-            show::line(out, b"", c.days as u64);
-        }
-        SheetCounts::Refused(why) => show::refused(out, why),
+        Ok(c) => writeln!(out, "COUNTS {} {} {}", c.years, c.months, c.days),
+        Err(why) => show::refused(out, why),
     }
 }
 
@@ -30,10 +27,10 @@ fn read(out: &mut Out, bytes: &[u8]) {
 }
 
 // How many bytes a call has put into a buffer, and then the whole buffer.
-pub fn put(out: &mut Out, told: HowMany, buffer: &[u8]) {
+pub fn put(out: &mut Out, told: Result<usize, Reason>, buffer: &[u8]) {
     match told {
-        HowMany::Is(n) => show::line(out, b"BYTES", n as u64),
-        HowMany::Refused(why) => show::refused(out, why),
+        Ok(n) => show::line(out, b"BYTES", n as u64),
+        Err(why) => show::refused(out, why),
     }
     show::text(out, b"BUFFER");
     show::bytes(out, buffer);
@@ -52,57 +49,78 @@ fn write(out: &mut Out, years: &[u16], months: &[u32], days: &[u32]) {
     );
 }
 
+fn read_each(out: &mut Out, sheets: &[&[u8]]) {
+    for sheet in sheets {
+        read(out, sheet);
+    }
+}
+
 fn cut_and_known(out: &mut Out) {
-    show::text(
+    writeln!(
         out,
-        b"# Sheets into lists of two sevens: cut short, and the paper's two of case 12\n",
+        "# Sheets into lists of two sevens: cut short, and the paper's two of case 12"
     );
-    read(out, b"");
-    read(out, b"\x00");
-    read(out, b"\x00\x00\x00\x00\x00");
-    read(out, b"\x00\x00\x00\x00\x00\x00");
-    read(out, b"\x01\x00\x0b\x00\x00\x00\x00\x00");
-    read(out, b"\x01\x00\x0b");
-    read(out, b"\x00\x00\x01\x00\x86\x00\x00");
-    read(out, b"\x00\x00\x00\x00\x01\x00\x00\x00\x00");
+    read_each(
+        out,
+        &[
+            &b""[..],
+            &b"\x00"[..],
+            &b"\x00\x00\x00\x00\x00"[..],
+            &b"\x00\x00\x00\x00\x00\x00"[..],
+            &b"\x01\x00\x0b\x00\x00\x00\x00\x00"[..],
+            &b"\x01\x00\x0b"[..],
+            &b"\x00\x00\x01\x00\x86\x00\x00"[..],
+            &b"\x00\x00\x00\x00\x01\x00\x00\x00\x00"[..],
+        ],
+    );
 }
 
 // A year of a sheet is a civil year: 0 and 41,040 are the first and the last.
 fn edges(out: &mut Out) {
-    show::text(
+    writeln!(
         out,
-        b"# A count and an item of each kind, just outside and just inside\n",
+        "# A count and an item of each kind, just outside and just inside"
     );
-    read(out, b"\xe8\x03");
-    read(out, b"\xe9\x03");
-    read(out, b"\x01\x00\x00\x00\x00\x00\x00\x00");
-    read(out, b"\x01\x00\x50\xa0\x00\x00\x00\x00");
-    read(out, b"\x01\x00\x51\xa0\x00\x00\x00\x00");
-    read(out, b"\x02\x00\x00\x00\x50\xa0\x00\x00\x00\x00");
-    read(out, b"\x02\x00\x00\x00\x51\xa0\x00\x00\x00\x00");
-    read(out, b"\x00\x00\x01\x00\xcf\xbe\x07\x00\x00\x00");
-    read(out, b"\x00\x00\x01\x00\xd0\xbe\x07\x00\x00\x00");
-    read(out, b"\x00\x00\x00\x00\x01\x00\x23\xba\xe4\x00");
-    read(out, b"\x00\x00\x00\x00\x01\x00\x24\xba\xe4\x00");
+    read_each(
+        out,
+        &[
+            &b"\xe8\x03"[..],
+            &b"\xe9\x03"[..],
+            &b"\x01\x00\x00\x00\x00\x00\x00\x00"[..],
+            &b"\x01\x00\x50\xa0\x00\x00\x00\x00"[..],
+            &b"\x01\x00\x51\xa0\x00\x00\x00\x00"[..],
+            &b"\x02\x00\x00\x00\x50\xa0\x00\x00\x00\x00"[..],
+            &b"\x02\x00\x00\x00\x51\xa0\x00\x00\x00\x00"[..],
+            &b"\x00\x00\x01\x00\xcf\xbe\x07\x00\x00\x00"[..],
+            &b"\x00\x00\x01\x00\xd0\xbe\x07\x00\x00\x00"[..],
+            &b"\x00\x00\x00\x00\x01\x00\x23\xba\xe4\x00"[..],
+            &b"\x00\x00\x00\x00\x01\x00\x24\xba\xe4\x00"[..],
+        ],
+    );
 }
 
 pub fn read_ones(out: &mut Out) {
     cut_and_known(out);
     edges(out);
-    show::text(
+    writeln!(
         out,
-        b"# Bytes left over, lists too short, and the order: byte order, then 11, then 12\n",
+        "# Bytes left over, lists too short, and the order: byte order, then 11, then 12"
     );
-    read(out, b"\x00\x00\x00\x00\x00\x00\x00");
-    read(out, b"\x02\x00\x0b\x00\x0c\x00\x00\x00\x00\x00");
-    read(out, b"\x03\x00\x0b\x00\x0c\x00\x0d\x00\x00\x00\x00\x00");
-    read(out, b"\x03\x00\x0b\x00\x0c\x00\x0d\x00\x00\x00\x00\x00\x00");
-    read(out, b"\x03\x00\x0b\x00\x51\xa0\x0d\x00\x00\x00\x00\x00\x00");
-    read(out, b"\x00\x00\x00\x00\xe9\x03\x00");
+    read_each(
+        out,
+        &[
+            &b"\x00\x00\x00\x00\x00\x00\x00"[..],
+            &b"\x02\x00\x0b\x00\x0c\x00\x00\x00\x00\x00"[..],
+            &b"\x03\x00\x0b\x00\x0c\x00\x0d\x00\x00\x00\x00\x00"[..],
+            &b"\x03\x00\x0b\x00\x0c\x00\x0d\x00\x00\x00\x00\x00\x00"[..],
+            &b"\x03\x00\x0b\x00\x51\xa0\x0d\x00\x00\x00\x00\x00\x00"[..],
+            &b"\x00\x00\x00\x00\xe9\x03\x00"[..],
+        ],
+    );
 }
 
 pub fn written_ones(out: &mut Out) {
-    show::text(out, b"# Lists written into a buffer of twenty sevens\n");
+    writeln!(out, "# Lists written into a buffer of twenty sevens");
     write(out, &[11u16], &[134u32], &[3957u32]);
     write(out, &[0u16], &[0u32; 0], &[0u32; 0]);
     write(out, &[0u16, 41040], &[0u32; 0], &[0u32; 0]);
@@ -140,9 +158,9 @@ fn read_back(out: &mut Out, bytes: &[u8]) {
 
 fn full(out: &mut Out) {
     let mut buffer = [7u8; 10006];
-    show::text(
+    writeln!(
         out,
-        b"# A full sheet, read back, and a year too many\nWRITE 1000 OF EACH\n",
+        "# A full sheet, read back, and a year too many\nWRITE 1000 OF EACH"
     );
     match sheet::write_sheet(
         &[41040u16; 1000],
@@ -150,8 +168,8 @@ fn full(out: &mut Out) {
         &[14989859u32; 1000],
         &mut buffer,
     ) {
-        HowMany::Is(n) => show::line(out, b"BYTES", n as u64),
-        HowMany::Refused(why) => show::refused(out, why),
+        Ok(n) => show::line(out, b"BYTES", n as u64),
+        Err(why) => show::refused(out, why),
     }
     read_back(out, &buffer);
 }

@@ -1,5 +1,10 @@
 -- What a public call says of capped numbers, for the numbers themselves: each call's own, in the words of its contract.
 -- Assumes nothing.
+use Rattle.emending.specs.declared.Emended.{Emended}
+use Rattle.emending.specs.declared.Emended.TheVariants.{Are}
+use Rattle.reading.specs.declared.SearchError.{SearchError}
+use Rattle.std.specs.Prelude.{Result}
+use Rattle.rule.specs.declared.Reason.{Reason}
 use Prim.Native.Nat.{ℕ, ◌*◌}
 use native.Mathlib.Omega.{arith}
 use mathlib.Core.Path.{◌≡◌, ap, ap₂, sym, ◌∙◌}
@@ -8,16 +13,12 @@ use mathlib.Core.List.{List}
 use lib.Dec.{leb}
 use lib.IntN.{ℤ}
 use lib.ListN.{length}
-use Rattle.rule.specs.Reasons.{Answer, is, refused, guard-with, into_room, afterwards}
+use Rattle.rule.specs.Reasons.{said, Answer, is, refused, guard-with, into_room, afterwards}
 use Rattle.dates.specs.Dates.{day_of_date}
 use Rattle.moves.specs.Moves.{moved}
 use Rattle.reading.specs.declared.Reading.{Reading}
-use Rattle.reading.specs.declared.Found.{Found}
 use Rattle.reading.specs.Search.{total, where_good, said_found, Searched}
-use Rattle.emending.specs.declared.Emended.{Emended}
-use Rattle.emending.specs.Emended.{Outcome, emended, emend_total, where_none_fits, emend_at, said_emended, EmendsReading}
-use Rattle.sheet.specs.declared.HowMany.{HowMany}
-use Rattle.sheet.specs.Promises.{said_how_many}
+use Rattle.emending.specs.Emended.{emend_total, where_none_fits, emend_at, EmendsReading}
 use Rattle.penned.specs.Lines.{year_block, month_lined, month_item, day_item}
 use Rattle.penned.specs.Promises.{year_block_at, month_line_at, month_item_at, day_item_at, Printed}
 use Rattle.capped.specs.Capped.{capped, capped_reading}
@@ -62,12 +63,12 @@ emend-refused :
 unfolding emend_at
 emend-refused r first last k h room =
     let n = emend_total r first last in
-    h Outcome (where_none_fits (total r first last) (guard-with (leb (4 * n) room) 12 n (is (emended n))))
+    h Emended (where_none_fits (total r first last) (guard-with (leb (4 * n) room) 12 n (is (Are n))))
 
 -- a search and an emendation: nothing was cut down, or both are refused with the same reason and the list is as it was
 module _ (r : Reading) (first last : ℕ) (old new : List ℕ) where
   search-alike :
-      (f : Found) → AlikeSearch r first last → Searched (capped_reading r) (capped first) (capped last) old f new → Searched r first last old f new
+      (f : Result ℕ SearchError) → AlikeSearch r first last → Searched (capped_reading r) (capped first) (capped last) old f new → Searched r first last old f new
   search-alike f (whole e p q) s = rw (e, p, q) at s
   search-alike f (both k g h) s =
       let x = search-refused (capped_reading r) (capped first) (capped last) k g (length old) in
@@ -75,7 +76,7 @@ module _ (r : Reading) (first last : ℕ) (old new : List ℕ) where
       record { answered = s.answered ∙ x ∙ sym y; lent = list-alike _ _ k _ _ old x y s.lent }
 
   emend-alike :
-      (f : Emended) → AlikeSearch r first last → EmendsReading (capped_reading r) (capped first) (capped last) old f new →
+      (f : Result Emended SearchError) → AlikeSearch r first last → EmendsReading (capped_reading r) (capped first) (capped last) old f new →
       EmendsReading r first last old f new
   emend-alike f (whole e p q) s = rw (e, p, q) at s
   emend-alike f (both k g h) s =
@@ -84,7 +85,7 @@ module _ (r : Reading) (first last : ℕ) (old new : List ℕ) where
       record { answered = s.answered ∙ x ∙ sym y; lent = list-alike _ _ k _ _ old x y s.lent }
 
 pub search-asked :
-    (c : CReading) (first last : ℕ) {r : Reading} {a b : ℕ} {old new : List ℕ} {f : Found} {x : CFound} →
+    (c : CReading) (first last : ℕ) {r : Reading} {a b : ℕ} {old new : List ℕ} {f : Result ℕ SearchError} {x : CFound} →
     r ≡ capped_reading (reading_of c) → a ≡ capped first → b ≡ capped last → Searched r a b old f new →
     x ≡ flat_found (said_found f) → CSearch c first last old x new
 search-asked c first last {old = old} {new} {f} e p q s t =
@@ -93,9 +94,9 @@ search-asked c first last {old = old} {new} {f} e p q s t =
     record { answer = t ∙ ap flat_found g.answered; lent = g.lent }
 
 pub emend-asked :
-    (c : CReading) (first last : ℕ) {r : Reading} {a b : ℕ} {old new : List ℕ} {f : Emended} {x : CEmended} →
+    (c : CReading) (first last : ℕ) {r : Reading} {a b : ℕ} {old new : List ℕ} {f : Result Emended SearchError} {x : CEmended} →
     r ≡ capped_reading (reading_of c) → a ≡ capped first → b ≡ capped last → EmendsReading r a b old f new →
-    x ≡ flat_emended (said_emended f) → CEmendsReading c first last old x new
+    x ≡ flat_emended (said_found f) → CEmendsReading c first last old x new
 emend-asked c first last {old = old} {new} {f} e p q s t =
     let r = reading_of c in
     let g = emend-alike r first last old new f (capped-search r first last) (rw (e, p, q) at s) in
@@ -104,8 +105,8 @@ emend-asked c first last {old = old} {new} {f} e p q s t =
 -- bytes printed of a number, said flat
 pub printed-asked :
     (f : ℕ → ℕ → Answer (List ℕ)) → ((n x : ℕ) → f (capped x) n ≡ f x n) →
-    {a x : ℕ} {o o' : List ℕ} {h : HowMany} {r : CLength} →
-    a ≡ capped x → Printed (f a (length o)) o h o' → r ≡ flat_length (said_how_many h) → CPrinted (f x (length o)) o r o'
+    {a x : ℕ} {o o' : List ℕ} {h : Result ℕ Reason} {r : CLength} →
+    a ≡ capped x → Printed (f a (length o)) o h o' → r ≡ flat_length (said h) → CPrinted (f x (length o)) o r o'
 printed-asked f alike {x = x} {o} e p t =
     let q = rw (e, alike (length o) x) at p in
     record { answer = t ∙ ap flat_length q.answer; buffer = q.buffer }

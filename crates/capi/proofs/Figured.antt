@@ -1,12 +1,13 @@
 -- What the yearbook's figures say of capped years, for the years themselves. Assumes nothing.
+use Rattle.std.specs.Prelude.{Result}
+use Rattle.rule.specs.declared.Reason.{Reason}
 use Prim.Native.Nat.{ℕ}
 use mathlib.Core.Path.{◌≡◌, refl, ap, ap₂, ◌∙◌}
 use mathlib.Core.List.{List}
-use Rattle.rule.specs.Reasons.{Answer, is, refused, refused-with}
+use Rattle.rule.specs.Reasons.{said, Answer, is, refused, refused-with}
 use Rattle.yearbook.specs.declared.Figures.{Figures}
-use Rattle.yearbook.specs.declared.Figured.{Figured}
 use Rattle.yearbook.specs.Figures.{leap_figures, name_figures}
-use Rattle.yearbook.specs.Promise.{figures_at, said_figured, wholly_after, CountsFigures}
+use Rattle.yearbook.specs.Promise.{figures_at, wholly_after, CountsFigures}
 use Rattle.capped.specs.Capped.{capped}
 use Rattle.capped.proofs.Paper.{given-whole, capped-alike}
 use Rattle.offered.specs.declared.CFigures.{CFigures}
@@ -26,8 +27,8 @@ same-list f first last old =
     go (refused-with k n) e = rw (e) refl
 
 pub figures-asked :
-    (first last : ℕ) {a b : ℕ} {leaps names leaps' names' : List ℕ} {f : Figured} {r : CFigures} →
-    a ≡ capped first → b ≡ capped last → CountsFigures a b leaps names f leaps' names' → r ≡ flat_figures (said_figured f) →
+    (first last : ℕ) {a b : ℕ} {leaps names leaps' names' : List ℕ} {f : Result Figures Reason} {r : CFigures} →
+    a ≡ capped first → b ≡ capped last → CountsFigures a b leaps names f leaps' names' → r ≡ flat_figures (said f) →
     CCountsFigures first last leaps names r leaps' names'
 figures-asked first last {leaps = leaps} {names} {leaps'} {names'} {f} p q s t =
     let c : CountsFigures (capped first) (capped last) leaps names f leaps' names' = rw (p, q) at s in

@@ -38,6 +38,7 @@ ghost use Rattle.offered.specs.Promises.{
 ghost use Rattle.offered.specs.Yearbook.{CCountsFigures};
 
 use clerk::Clerk;
+use flat::LaidFlat;
 use offered::{
     CClerk, CConjunction, CDate, CDay, CEmended, CFigures, CFilled, CFound, CLength, CMonth,
     CNewCounts, CNext, CPair, CQuarter, CReading, CSheetCounts, CSolstice, CTerm, CYear,
@@ -49,7 +50,7 @@ use reading::{Field, Reading};
 pub extern "C" fn oes_date_of_day(day: u64) -> CDate
     ensures { CDateOfDay day result }
 {
-    flat::flat_date(dates::date_of_day(capped::cap(day)))
+    flat::flat(dates::date_of_day(capped::cap(day)))
 }
 
 // Date to day.
@@ -57,7 +58,7 @@ pub extern "C" fn oes_date_of_day(day: u64) -> CDate
 pub extern "C" fn oes_day_of_date(year: u64, number: u64, leap: bool, day_of_month: u64) -> CDay
     ensures { CDayOfDate year number leap day_of_month result }
 {
-    flat::flat_day(dates::day_of_date(
+    flat::flat(dates::day_of_date(
         capped::cap(year),
         capped::cap(number),
         leap,
@@ -76,7 +77,7 @@ pub extern "C" fn oes_move_date(
 ) -> CDate
     ensures { CMoveDate year number leap day_of_month days result }
 {
-    flat::flat_date(moves::move_date(
+    flat::flat(moves::move_date(
         capped::cap(year),
         capped::cap(number),
         leap,
@@ -90,7 +91,7 @@ pub extern "C" fn oes_move_date(
 pub extern "C" fn oes_solstice_year(year: u64) -> CSolstice
     ensures { CSolsticeYear year result }
 {
-    flat::flat_solstice(facts::solstice_year(capped::cap(year)))
+    flat::flat(facts::solstice_year(capped::cap(year)))
 }
 
 // A civil year's own facts.
@@ -98,7 +99,7 @@ pub extern "C" fn oes_solstice_year(year: u64) -> CSolstice
 pub extern "C" fn oes_year_facts(year: u64) -> CYear
     ensures { CYearFacts year result }
 {
-    flat::flat_year(facts::year_facts(capped::cap(year)))
+    flat::flat(facts::year_facts(capped::cap(year)))
 }
 
 // A month by its count.
@@ -106,7 +107,7 @@ pub extern "C" fn oes_year_facts(year: u64) -> CYear
 pub extern "C" fn oes_month_facts(month: u64) -> CMonth
     ensures { CMonthFacts month result }
 {
-    flat::flat_month(facts::month_facts(capped::cap(month)))
+    flat::flat(facts::month_facts(capped::cap(month)))
 }
 
 // The clerk's own way: a start at a bu's head, a step, a start and so many steps, and what it shows.
@@ -114,28 +115,28 @@ pub extern "C" fn oes_month_facts(month: u64) -> CMonth
 pub extern "C" fn oes_clerk_start(bu: u64) -> CClerk
     ensures { CClerkStart bu result }
 {
-    flat::flat_clerk(clerk::start(capped::cap(bu)))
+    flat::flat(clerk::start(capped::cap(bu)))
 }
 
 #[unsafe(no_mangle)]
 pub extern "C" fn oes_clerk_step(clerk: Clerk) -> CClerk
     ensures { CClerkStep clerk result }
 {
-    flat::flat_clerk(clerk::step(clerk))
+    flat::flat(clerk::step(clerk))
 }
 
 #[unsafe(no_mangle)]
 pub extern "C" fn oes_clerk_walk(bu: u64, steps: u64) -> CClerk
     ensures { CClerkWalk bu steps result }
 {
-    flat::flat_clerk(clerk::walk(capped::cap(bu), capped::cap(steps)))
+    flat::flat(clerk::walk(capped::cap(bu), capped::cap(steps)))
 }
 
 #[unsafe(no_mangle)]
 pub extern "C" fn oes_clerk_show(clerk: Clerk) -> CMonth
     ensures { CClerkShow clerk result }
 {
-    flat::given_month(clerk::show(clerk))
+    CMonth::given(clerk::show(clerk))
 }
 
 // A quarter of a month.
@@ -143,7 +144,7 @@ pub extern "C" fn oes_clerk_show(clerk: Clerk) -> CMonth
 pub extern "C" fn oes_quarter(month: u64, quarter: u64) -> CQuarter
     ensures { CQuarterOf month quarter result }
 {
-    flat::flat_quarter(facts::quarter(capped::cap(month), capped::cap(quarter)))
+    flat::flat(facts::quarter(capped::cap(month), capped::cap(quarter)))
 }
 
 // A term of a solstice year.
@@ -151,7 +152,7 @@ pub extern "C" fn oes_quarter(month: u64, quarter: u64) -> CQuarter
 pub extern "C" fn oes_term(year: u64, term: u64) -> CTerm
     ensures { CTermOf year term result }
 {
-    flat::flat_term(facts::term(capped::cap(year), capped::cap(term)))
+    flat::flat(facts::term(capped::cap(year), capped::cap(term)))
 }
 
 // The k-th conjunction of a planet; k goes as it is.
@@ -159,7 +160,7 @@ pub extern "C" fn oes_term(year: u64, term: u64) -> CTerm
 pub extern "C" fn oes_conjunction(planet: u64, k: u64) -> CConjunction
     ensures { CKthConjunction planet k result }
 {
-    flat::flat_conjunction(planets::kth_conjunction(capped::cap(planet), k))
+    flat::flat(planets::kth_conjunction(capped::cap(planet), k))
 }
 
 // The first conjunction of a planet on or after a day.
@@ -167,7 +168,7 @@ pub extern "C" fn oes_conjunction(planet: u64, k: u64) -> CConjunction
 pub extern "C" fn oes_next_conjunction(planet: u64, day: u64) -> CNext
     ensures { CNextConjunction planet day result }
 {
-    flat::flat_next(planets::next_conjunction(capped::cap(planet), capped::cap(day)))
+    flat::flat(planets::next_conjunction(capped::cap(planet), capped::cap(day)))
 }
 
 // A planet's pair, reduced from its two long counts.
@@ -175,10 +176,11 @@ pub extern "C" fn oes_next_conjunction(planet: u64, day: u64) -> CNext
 pub extern "C" fn oes_reduced_pair(planet: u64) -> CPair
     ensures { CReducedPair planet result }
 {
-    flat::flat_pair(planets::reduced_pair(capped::cap(planet)))
+    flat::flat(planets::reduced_pair(capped::cap(planet)))
 }
 
 // One thing that may be read: its value, or unread.
+// (No `From`, nor below: neither type is of this crate.)
 fn field_of(value: u64, known: bool) -> Field
     ensures { result ≡ capped_field (field_of value known) }
 {
@@ -236,7 +238,7 @@ pub extern "C" fn oes_figures(
 ) -> CFigures
     ensures { CCountsFigures first last leaps.old names.old result leaps.new names.new }
 {
-    flat::flat_figures(yearbook::figures_of(capped::cap(first), capped::cap(last), leaps, names))
+    flat::flat(yearbook::figures_of(capped::cap(first), capped::cap(last), leaps, names))
 }
 
 // A drawer of days: the date of each, at the front of the lent records, filled as `drawer::fill_dates` fills them.
@@ -244,12 +246,12 @@ pub extern "C" fn oes_figures(
 pub extern "C" fn oes_dates(days: &[u32], out: &mut [CDate]) -> CFilled
     ensures { CFillDates days.now out.old result out.new }
 {
-    let answer = flat::flat_drawer_at(days, out.len());
-    let n = flat::flat_to_fill(answer);
+    let answer = drawer::drawer_at(days, out.len());
+    let Ok(_) = answer else {
+        return flat::flat_filled(answer);
+    };
     let mut shared = drawer::no_month();
-    let mut i: usize = 0;
-    while i < n {
-        let day = days[i];
+    for (i, &day) in days.iter().enumerate() {
         if drawer::lies_in(shared, day) {
             let at = shared.at;
             out[i] = out[at];
@@ -258,11 +260,10 @@ pub extern "C" fn oes_dates(days: &[u32], out: &mut [CDate]) -> CFilled
         } else {
             let date = dates::date_at(day);
             shared = drawer::shared_at(date, day, i);
-            out[i] = flat::given_date(date);
+            out[i] = CDate::given(date);
         }
-        i += 1;
     }
-    answer
+    flat::flat_filled(answer)
 }
 
 // A sheet read.
@@ -276,7 +277,7 @@ pub extern "C" fn oes_read_sheet(
     ensures { CReadSheet bytes.now years.old months.old days.old result
         years.new months.new days.new }
 {
-    flat::flat_counts(sheet::read_sheet(bytes, years, months, days))
+    flat::flat(sheet::read_sheet(bytes, years, months, days))
 }
 
 // A sheet written.
@@ -290,7 +291,7 @@ pub extern "C" fn oes_write_sheet(
     ensures { CWriteSheet years.now months.now days.now out.old result
         out.new }
 {
-    flat::flat_length(sheet::write_sheet(years, months, days, out))
+    flat::flat(sheet::write_sheet(years, months, days, out))
 }
 
 // A sheet of the new form read.
@@ -305,7 +306,7 @@ pub extern "C" fn oes_read_new(
     ensures { CReadNew bytes.now years.old months.old days.old readings.old result
         years.new months.new days.new readings.new }
 {
-    flat::flat_four(newsheet::read_new(bytes, years, months, days, readings))
+    flat::flat(newsheet::read_new(bytes, years, months, days, readings))
 }
 
 // A sheet converted to the new form, and to the old one.
@@ -313,14 +314,14 @@ pub extern "C" fn oes_read_new(
 pub extern "C" fn oes_to_new(bytes: &[u8], out: &mut [u8]) -> CLength
     ensures { CToNew bytes.now out.old result out.new }
 {
-    flat::flat_length(newsheet::to_new(bytes, out))
+    flat::flat(newsheet::to_new(bytes, out))
 }
 
 #[unsafe(no_mangle)]
 pub extern "C" fn oes_to_old(bytes: &[u8], out: &mut [u8]) -> CLength
     ensures { CToOld bytes.now out.old result out.new }
 {
-    flat::flat_length(newsheet::to_old(bytes, out))
+    flat::flat(newsheet::to_old(bytes, out))
 }
 
 // A civil year's block, a month's line, a `MONTH` line, a `DAY` line.
@@ -328,28 +329,28 @@ pub extern "C" fn oes_to_old(bytes: &[u8], out: &mut [u8]) -> CLength
 pub extern "C" fn oes_print_year(year: u64, out: &mut [u8]) -> CLength
     ensures { CPrintYear year out.old result out.new }
 {
-    flat::flat_length(lines::print_year(capped::cap(year), out))
+    flat::flat(lines::print_year(capped::cap(year), out))
 }
 
 #[unsafe(no_mangle)]
 pub extern "C" fn oes_print_month_line(month: u64, out: &mut [u8]) -> CLength
     ensures { CPrintMonthLine month out.old result out.new }
 {
-    flat::flat_length(lines::print_month_line(capped::cap(month), out))
+    flat::flat(lines::print_month_line(capped::cap(month), out))
 }
 
 #[unsafe(no_mangle)]
 pub extern "C" fn oes_print_month(month: u64, out: &mut [u8]) -> CLength
     ensures { CPrintMonth month out.old result out.new }
 {
-    flat::flat_length(lines::print_month(capped::cap(month), out))
+    flat::flat(lines::print_month(capped::cap(month), out))
 }
 
 #[unsafe(no_mangle)]
 pub extern "C" fn oes_print_day(day: u64, out: &mut [u8]) -> CLength
     ensures { CPrintDay day out.old result out.new }
 {
-    flat::flat_length(lines::print_day(capped::cap(day), out))
+    flat::flat(lines::print_day(capped::cap(day), out))
 }
 
 // The verdicts on a text's lines.
@@ -357,5 +358,5 @@ pub extern "C" fn oes_print_day(day: u64, out: &mut [u8]) -> CLength
 pub extern "C" fn oes_judge_text(text: &[u8], out: &mut [u8]) -> CLength
     ensures { CJudgeText text.now out.old result out.new }
 {
-    flat::flat_length(concordance::judge_text(text, out))
+    flat::flat(concordance::judge_text(text, out))
 }

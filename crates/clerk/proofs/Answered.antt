@@ -7,13 +7,10 @@ use mathlib.Core.Logic.{◌↔◌}
 use mathlib.Core.Bool.{true}
 use lib.Dec.{ltb}
 use borrow.Author.Tests.{ltb-true, lt-ltb}
-use Rattle.rule.specs.Reasons.{is, refused, reason_number, and_then}
-use Rattle.rule.specs.declared.Reason.{Reason}
+use Rattle.rule.specs.Reasons.{Answer, is, refused, and_then}
 use Rattle.rule.proofs.Answers.{both_true}
 use Rattle.clerk.specs.declared.Clerk.{Clerk}
-use Rattle.clerk.specs.declared.ClerkTold.{ClerkTold}
-use Rattle.clerk.specs.declared.ClerkTold.TheVariants.{Is, Refused}
-use Rattle.clerk.specs.Clerk.{before_last, step_at, walked, said_clerk}
+use Rattle.clerk.specs.Clerk.{before_last, step_at, walked}
 
 -- a clerk stands before the last month by its count and by its first day
 pub before_last_lem : (c : Clerk) → (before_last c ≡ true) ↔ ((c.month_count < 507599) × (c.first_day < 14989830))
@@ -29,16 +26,10 @@ walked-refused b i zero k e = ap (walked b) {x = i + 0} {y = i} (omega arith) �
 walked-refused b i (suc j) k e =
     ap (walked b) {x = i + suc j} {y = suc (i + j)} (omega arith) ∙ ap (λ a. and_then a step_at) (walked-refused b i j k e)
 
--- a step more
-pub walked_next : (b i : ℕ) (at r : ClerkTold) (c : Clerk) → said_clerk at ≡ walked b i → at ≡ Is c → said_clerk r ≡ step_at c →
-    said_clerk r ≡ walked b (i + 1)
+-- a walk whose next step goes on, and one whose next step is refused
+pub walked_next : (b i : ℕ) (at : Clerk) (a : Answer Clerk) → is at ≡ walked b i → a ≡ step_at at → a ≡ walked b (i + 1)
 unfolding walked
-walked_next b i at r c e f g =
-    g ∙ ap (λ a. and_then a step_at) {x = is c} {y = walked b i} (sym (ap said_clerk f) ∙ e) ∙ ap (walked b) (sym (add-one i))
+walked_next b i at a e f = f ∙ ap (λ w. and_then w step_at) {x = is at} {y = walked b i} e ∙ ap (walked b) (sym (add-one i))
 
--- a walk that ends at a refusal
-pub walked-ends : (b i steps : ℕ) (at : ClerkTold) (why : Reason) → said_clerk at ≡ walked b i → at ≡ Refused why → i ≤ steps →
-    said_clerk at ≡ walked b steps
-walked-ends b i steps at why e f l =
-    let g : walked b i ≡ refused (reason_number why) = sym e ∙ ap said_clerk f in
-    ap said_clerk f ∙ sym (walked-refused b i (steps - i) (reason_number why) g) ∙ ap (walked b) {x = i + (steps - i)} {y = steps} (omega arith)
+pub walked-ends : (b i steps k : ℕ) → refused k ≡ walked b i → i ≤ steps → refused k ≡ walked b steps
+walked-ends b i steps k e l = sym (walked-refused b i (steps - i) k (sym e)) ∙ ap (walked b) {x = i + (steps - i)} {y = steps} (omega arith)

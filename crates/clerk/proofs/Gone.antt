@@ -1,4 +1,5 @@
 -- Where so many steps from a bu's head lead: to the month of that count, and no further than the last. Assumes nothing.
+use Rattle.std.specs.Prelude.{Ok}
 use Prim.Native.Nat.{ℕ, zero, suc, ◌+◌, ◌-◌, ◌*◌, ◌≤◌, ◌<◌}
 use native.Mathlib.Omega.{arith}
 use mathlib.Core.Path.{◌≡◌, refl, ap, sym, ◌∙◌}
@@ -12,7 +13,6 @@ use Rattle.rule.proofs.Months.{start-rises}
 use Rattle.rule.proofs.Computing.{rule-computed}
 use Rattle.facts.specs.Facts.{month_facts}
 use Rattle.clerk.specs.declared.Clerk.{Clerk}
-use Rattle.clerk.specs.declared.ClerkTold.TheVariants.{Is}
 use Rattle.clerk.specs.Clerk.{before_last, stepped, step_at, head, start_at, walked, shown, StartsAt, StepsOn}
 use Rattle.clerk.specs.Paper.{BuInRange, Gone, at-the-head, one_more, count_of}
 use Rattle.clerk.proofs.Answered.{before_last_lem, walked-refused}
@@ -22,11 +22,11 @@ use Rattle.clerk.proofs.Steps.{clerk_at, step-at, head_at}
 given : {A : Type 0} (t : Bool) (k : ℕ) (x a : A) → is a ≡ guard t k (is x) → (t ≡ true) × (a ≡ x)
 given t k x a p = let h = (holds-all t k (is x) a).0 (sym p) in (h.0, sym ((same-given x a).0 h.1))
 
-pub start-given : (b : ℕ) (c : Clerk) → StartsAt b (Is c) → BuInRange b × (c ≡ head b)
+pub start-given : (b : ℕ) (c : Clerk) → StartsAt b (Ok c) → BuInRange b × (c ≡ head b)
 unfolding start_at
 start-given b c p = let g = given (within 1 540 b) 21 (head b) c p in ((within-true 1 540 b).0 g.0, g.1)
 
-pub step_given : (c d : Clerk) → StepsOn c (Is d) → (c.month_count < 507599) × (d ≡ stepped c)
+pub step_given : (c d : Clerk) → StepsOn c (Ok d) → (c.month_count < 507599) × (d ≡ stepped c)
 unfolding step_at
 step_given c d p = let g = given (before_last c) 7 (stepped c) d p in (((before_last_lem c).0 g.0).0, g.1)
 

@@ -1,4 +1,5 @@
 -- The statements of specs/Paper.antt, proved. Assumes nothing.
+use Rattle.std.specs.Prelude.{Result, Ok, Err}
 use Prim.Native.Nat.{ℕ, ◌+◌, ◌-◌, ◌*◌, ◌≤◌, ◌<◌}
 use native.Mathlib.Omega.{arith}
 use mathlib.Core.Path.{◌≡◌, refl, ap, sym, subst, ◌∙◌}
@@ -12,14 +13,12 @@ use Rattle.rule.specs.Rule.{month_length, term_day, term_parts, mid_term_day, so
 use Rattle.rule.specs.Reasons.{Answer, is, refused, reason_number, guard, within, reason_of}
 use Rattle.rule.specs.declared.Reason.{Reason}
 use Rattle.rule.specs.declared.Reason.TheVariants.{NoSuchMonth, NoSuchBu}
-use Rattle.rule.proofs.Answers.{reason-back, within-true, at_most, read_back, once, one-refused, one_only, two-first, two-second, two-only}
+use Rattle.rule.proofs.Answers.{said-once, within-true, at_most, one-refused, one_only, two-first, two-second, two-only}
 use Rattle.rule.proofs.Computing.{rule-computed}
 use Rattle.facts.specs.declared.MonthFacts.{MonthFacts}
 use Rattle.facts.proofs.Given.{month-given}
 use Rattle.clerk.specs.declared.Clerk.{Clerk}
-use Rattle.clerk.specs.declared.ClerkTold.{ClerkTold}
-use Rattle.clerk.specs.declared.ClerkTold.TheVariants.{Is, Refused}
-use Rattle.clerk.specs.Clerk.{before_last, stepped, step_at, head, start_at, walked, shown, said_clerk, StartsAt, StepsOn, WalksOn, Shows}
+use Rattle.clerk.specs.Clerk.{before_last, stepped, step_at, head, start_at, walked, shown, StartsAt, StepsOn, WalksOn, Shows}
 use Rattle.clerk.specs.Paper.{BuInRange, BuHead, OneOn, count_of}
 use Rattle.clerk.specs.Paper
 use Rattle.clerk.proofs.Answered.{before_last_lem}
@@ -140,21 +139,16 @@ second-of-two-big-walked b k n c g e p =
     ap (λ (d : Clerk). d.month_length) (gone_at b k c g).2 ∙ (fields_at (count_of b k)).1 ∙ ap month_length e ∙ eqb-true (month_length (n + 1)) 30 w.1
 
 pub unique-clerk : Paper.UniqueClerk
-unfolding read_back
 unique-clerk =
     record {
-      start = λ b r s p q. once said_clerk Is (λ k. Refused (reason_of k)) again r s (start_at b) p q;
-      step = λ c r s p q. once said_clerk Is (λ k. Refused (reason_of k)) again r s (step_at c) p q;
-      walk = λ b j r s p q. once said_clerk Is (λ k. Refused (reason_of k)) again r s (walked b j) p q;
+      start = λ b r s p q. said-once r s (p ∙ sym q);
+      step = λ c r s p q. said-once r s (p ∙ sym q);
+      walk = λ b j r s p q. said-once r s (p ∙ sym q);
       show = λ c f g p q. p ∙ sym q;
     }
-  where
-    again : (e : ClerkTold) → read_back said_clerk Is (λ k. Refused (reason_of k)) (said_clerk e) ≡ e
-    again (Is c) = refl
-    again (Refused why) = ap Refused (reason-back why)
 
 -- the clerk of a walk
-walked_to : (b k : ℕ) (c : Clerk) → WalksOn b k (Is c) → c ≡ clerk_at (count_of b k)
+walked_to : (b k : ℕ) (c : Clerk) → WalksOn b k (Ok c) → c ≡ clerk_at (count_of b k)
 walked_to b k c p = (gone_at b k c (walk-gone b k c p)).2
 
 -- what stands at the months named below
@@ -175,7 +169,7 @@ month-2 : clerk_at 2
 unfolding clerk_at term_at rule-computed
 month-2 = refl
 
-at-2 : (c : Clerk) → WalksOn 1 2 (Is c) → (c.first_day ≡ 59) × (c.small_remainder ≡ 58) × (c.mid_term_day ≡ 91) × (c.mid_term_parts ≡ 10) × (c.number ≡ 1)
+at-2 : (c : Clerk) → WalksOn 1 2 (Ok c) → (c.first_day ≡ 59) × (c.small_remainder ≡ 58) × (c.mid_term_day ≡ 91) × (c.mid_term_parts ≡ 10) × (c.number ≡ 1)
 at-2 c p = let e = walked_to 1 2 c p ∙ month-2 in (
   ap (λ (d : Clerk). d.first_day) e,
   ap (λ (d : Clerk). d.small_remainder) e,
@@ -184,34 +178,34 @@ at-2 c p = let e = walked_to 1 2 c p ∙ month-2 in (
   ap (λ (d : Clerk). d.number) e,
 )
 
-at-3 : (c : Clerk) → WalksOn 1 3 (Is c) → c.first_name ≡ 29
+at-3 : (c : Clerk) → WalksOn 1 3 (Ok c) → c.first_name ≡ 29
 unfolding clerk_at term_at rule-computed
 at-3 c p = ap (λ (d : Clerk). d.first_name) (walked_to 1 3 c p)
 
-at_5 : (c : Clerk) → WalksOn 1 5 (Is c) → (c.eclipse_remainder ≡ 3) × (c.eclipse ≡ true)
+at_5 : (c : Clerk) → WalksOn 1 5 (Ok c) → (c.eclipse_remainder ≡ 3) × (c.eclipse ≡ true)
 unfolding clerk_at term_at rule-computed
 at_5 c p = let e = walked_to 1 5 c p in (ap (λ (d : Clerk). d.eclipse_remainder) e, ap (λ (d : Clerk). d.eclipse) e)
 
-at-32 : (c : Clerk) → WalksOn 1 32 (Is c) → (c.leap ≡ true) × (c.number ≡ 6)
+at-32 : (c : Clerk) → WalksOn 1 32 (Ok c) → (c.leap ≡ true) × (c.number ≡ 6)
 unfolding clerk_at term_at rule-computed
 at-32 c p = let e = walked_to 1 32 c p in (ap (λ (d : Clerk). d.leap) e, ap (λ (d : Clerk). d.number) e)
 
-at-129 : (c : Clerk) → WalksOn 1 129 (Is c) → c.month_length ≡ 30
+at-129 : (c : Clerk) → WalksOn 1 129 (Ok c) → c.month_length ≡ 30
 unfolding clerk_at term_at rule-computed
 at-129 c p = ap (λ (d : Clerk). d.month_length) (walked_to 1 129 c p)
 
-head-2 : (c : Clerk) → StartsAt 2 (Is c) → (c.month_count ≡ 940) × (c.first_day ≡ 27759) × (c.eclipse_remainder ≡ 43)
+head-2 : (c : Clerk) → StartsAt 2 (Ok c) → (c.month_count ≡ 940) × (c.first_day ≡ 27759) × (c.eclipse_remainder ≡ 43)
 unfolding head
 head-2 c p =
     let e = (start-given 2 c p).1 in
     (ap (λ (d : Clerk). d.month_count) e, ap (λ (d : Clerk). d.first_day) e, ap (λ (d : Clerk). d.eclipse_remainder) e)
 
-head-1 : (c : Clerk) → StartsAt 1 (Is c) → (c.month_count ≡ 0) × (c.first_day ≡ 0)
+head-1 : (c : Clerk) → StartsAt 1 (Ok c) → (c.month_count ≡ 0) × (c.first_day ≡ 0)
 unfolding head
 head-1 c p = let e = (start-given 1 c p).1 in (ap (λ (d : Clerk). d.month_count) e, ap (λ (d : Clerk). d.first_day) e)
 
 -- the clerk's count of a walk, and the first day that is shown
-counted : (b k : ℕ) (c : Clerk) → WalksOn b k (Is c) → c.month_count ≡ count_of b k
+counted : (b k : ℕ) (c : Clerk) → WalksOn b k (Ok c) → c.month_count ≡ count_of b k
 counted b k c p = ap (λ (d : Clerk). d.month_count) (walked_to b k c p) ∙ (fields_at (count_of b k)).0
 
 shown-day : (c : Clerk) (f : MonthFacts) → Shows c f → f.first_day ≡ c.first_day
@@ -222,27 +216,27 @@ shown-eclipse : (c : Clerk) (f : MonthFacts) → Shows c f → f.eclipse ≡ c.e
 unfolding shown
 shown-eclipse c f s = ap (λ (g : MonthFacts). g.eclipse) s
 
-day-0 : (c : Clerk) → WalksOn 1 0 (Is c) → c.first_day ≡ 0
+day-0 : (c : Clerk) → WalksOn 1 0 (Ok c) → c.first_day ≡ 0
 unfolding clerk_at term_at rule-computed
 day-0 c p = ap (λ (d : Clerk). d.first_day) (walked_to 1 0 c p)
 
-day-29 : (c : Clerk) → WalksOn 1 1 (Is c) → c.first_day ≡ 29
+day-29 : (c : Clerk) → WalksOn 1 1 (Ok c) → c.first_day ≡ 29
 unfolding clerk_at term_at rule-computed
 day-29 c p = ap (λ (d : Clerk). d.first_day) (walked_to 1 1 c p)
 
 -- no walk that stays in range is refused
-not-refused : (b k : ℕ) (why : Reason) → BuInRange b → count_of b k ≤ 507599 → WalksOn b k (Refused why) → ⊥
+not-refused : (b k : ℕ) (why : Reason) → BuInRange b → count_of b k ≤ 507599 → WalksOn b k (Err why) → ⊥
 not-refused b k why r l p =
     let o : is (clerk_at (count_of b k)) ≡ refused (reason_number why) = sym (walk-there b k r l) ∙ sym p in
     let z : ◌≡◌ {A = ℕ} 0 1 = cc in
     omega arith
 
 -- a step's two answers are of two months
-same_step : (c d : Clerk) (r : ClerkTold) → c.month_count < d.month_count → d.month_count < 507599 → d.first_day < 14989830 →
+same_step : (c d : Clerk) (r : Result Clerk Reason) → c.month_count < d.month_count → d.month_count < 507599 → d.first_day < 14989830 →
     StepsOn c r → StepsOn d r → ⊥
-same_step c d (Is e) l n f p q =
+same_step c d (Ok e) l n f p q =
     omega (arith, l, (one-step-by-additions c e p).count, (one-step-by-additions d e q).count)
-same_step c d (Refused why) l n f p q = ((any-state d why).0 q).1 (n, f)
+same_step c d (Err why) l n f p q = ((any-state d why).0 q).1 (n, f)
 
 pub wrong-clerks : Paper.WrongClerks
 wrong-clerks =

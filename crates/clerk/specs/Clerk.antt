@@ -1,14 +1,13 @@
 -- The clerk's own way (W3): one step by additions on plain numbers, for every state that can be put together; the start at a bu's head; what
 -- the four calls promise. Assumes nothing.
-use Rattle.std.specs.Prelude.{ℕ, zero, suc, ◌+◌, ◌-◌, ◌*◌, ◌%◌, ◌≡◌, Bool, true, false, cond, not, ◌&&◌, leb, ltb}
+use Rattle.rule.specs.declared.Reason.{Reason}
+use Rattle.std.specs.Prelude.{Result, ℕ, zero, suc, ◌+◌, ◌-◌, ◌*◌, ◌%◌, ◌≡◌, Bool, true, false, cond, not, ◌&&◌, leb, ltb}
 use Rattle.rule.specs.Counts.{day_name}
 use Rattle.rule.specs.Rule.{marked}
-use Rattle.rule.specs.Reasons.{Answer, is, refused, reason_number, guard, within, and_then}
+use Rattle.rule.specs.Reasons.{said, Answer, is, guard, within, and_then}
 use Rattle.rule.specs.declared.Term.{Term}
 use Rattle.facts.specs.declared.MonthFacts.{MonthFacts}
 use Rattle.clerk.specs.declared.Clerk.{Clerk}
-use Rattle.clerk.specs.declared.ClerkTold.{ClerkTold}
-use Rattle.clerk.specs.declared.ClerkTold.TheVariants.{Is, Refused}
 
 -- a carry: parts are counted from 0, and where a sum of them has come to a whole, the whole is taken off and one goes over
 unfoldable pub carried : ℕ → ℕ → ℕ
@@ -127,21 +126,17 @@ shown c =
       eclipse = c.eclipse;
     }
 
-abbrev pub said_clerk : ClerkTold → Answer Clerk
-said_clerk (Is c) = is c
-said_clerk (Refused why) = refused (reason_number why)
-
 -- a start at a bu's head
-abbrev pub StartsAt : ℕ → ClerkTold → Type 0
-StartsAt b r = said_clerk r ≡ start_at b
+abbrev pub StartsAt : ℕ → Result Clerk Reason → Type 0
+StartsAt b r = said r ≡ start_at b
 
 -- a step
-abbrev pub StepsOn : Clerk → ClerkTold → Type 0
-StepsOn c r = said_clerk r ≡ step_at c
+abbrev pub StepsOn : Clerk → Result Clerk Reason → Type 0
+StepsOn c r = said r ≡ step_at c
 
 -- a start and so many steps
-abbrev pub WalksOn : ℕ → ℕ → ClerkTold → Type 0
-WalksOn b k r = said_clerk r ≡ walked b k
+abbrev pub WalksOn : ℕ → ℕ → Result Clerk Reason → Type 0
+WalksOn b k r = said r ≡ walked b k
 
 -- what is shown
 abbrev pub Shows : Clerk → MonthFacts → Type 0

@@ -9,10 +9,10 @@ use facts::MonthFacts;
 use rule::{Reason, Term};
 
 // What the clerk keeps of the month at which it stands: its count, number, leap mark, first day and small remainder, length, first day's name
-// and eclipse mark; and to go on by, the eclipse remainder in parts of 135, and the next mid-term after the month, its day and the rest in
-// parts of 32.
+// and eclipse mark (the marks are bools, as C has the struct); and to go on by, the eclipse remainder in parts of 135, and the next mid-term
+// after the month, its day and the rest in parts of 32.
 #[repr(C)]
-#[derive(Clone, Copy)]
+#[derive(Debug, Clone, Copy, PartialEq, Eq)]
 pub struct Clerk {
     pub month_count: u32,
     pub first_day: u32,
@@ -25,12 +25,6 @@ pub struct Clerk {
     pub eclipse: bool,
     pub eclipse_remainder: u8,
     pub mid_term_parts: u8,
-}
-
-#[derive(Clone, Copy)]
-pub enum ClerkTold {
-    Is(Clerk),
-    Refused(Reason),
 }
 
 // Parts added to parts that are counted from 0: where they come to a whole, the whole is taken off.
@@ -46,7 +40,7 @@ fn carry_parts(whole: u8, parts: u8, more: u8) -> u8
     }
 }
 
-// The same of what is counted from 1, as numbers and names are.
+// The same of what is counted from 1, as numbers and names are. (No carry of the count less one: in a state that no start leads to it may be 0.)
 fn count_round(whole: u8, count: u8, more: u8) -> u8
     requires { more ≤ whole }
     ensures { result ≡ round whole (count + more) }
@@ -59,7 +53,7 @@ fn count_round(whole: u8, count: u8, more: u8) -> u8
     }
 }
 
-// 499 parts of 940 added to a small remainder.
+// 499 parts of 940 added to a small remainder. (Of sixteen bits: one carry for both widths would cast what it gives back.)
 fn remainder_on(small_remainder: u16) -> u16
     ensures { result ≡ carried 940 (small_remainder + 499) }
 {
@@ -82,15 +76,14 @@ fn term_ahead(t: Term) -> Term
     requires { t.day ≤ 20000000 }
     ensures { result ≡ term_ahead t }
 {
-    let parts = t.parts;
-    let day = if parts < 25 { t.day + 15 } else { t.day + 16 };
+    let day = if t.parts < 25 { t.day + 15 } else { t.day + 16 };
     Term {
-        day: day,
-        parts: carry_parts(32, parts, 7),
+        day,
+        parts: carry_parts(32, t.parts, 7),
     }
 }
 
-// From one mid-term to the next.
+// From one mid-term to the next: two terms.
 fn mid_term_ahead(t: Term) -> Term
     requires { t.day ≤ 15000000 }
     ensures { result ≡ mid_term_ahead t }
@@ -122,50 +115,45 @@ fn next_month(c: Clerk) -> Clerk
     requires { (c.month_count < 507599) × (c.first_day < 14989830) }
     ensures { result ≡ stepped c }
 {
-    let rest = c.small_remainder;
-    let days = days_on(rest);
-    let first = c.first_day + days as u32;
-    let next_rest = remainder_on(rest);
-    let length = days_on(next_rest);
-    let mid_term_day = c.mid_term_day;
-    let held = mid_term_day < first + length as u32;
-    let parts = c.mid_term_parts;
+    let days = days_on(c.small_remainder);
+    let first_day = c.first_day + days as u32;
+    let small_remainder = remainder_on(c.small_remainder);
+    let month_length = days_on(small_remainder);
+    let held = c.mid_term_day < first_day + month_length as u32;
     let ahead = ahead_then(
         held,
         Term {
-            day: mid_term_day,
-            parts: parts,
+            day: c.mid_term_day,
+            parts: c.mid_term_parts,
         },
     );
-    let number = c.number;
-    let name = c.first_name;
-    let eclipse_rest = carry_parts(135, c.eclipse_remainder, 23);
+    let eclipse_remainder = carry_parts(135, c.eclipse_remainder, 23);
     Clerk {
         month_count: c.month_count + 1,
-        first_day: first,
+        first_day,
         mid_term_day: ahead.day,
-        small_remainder: next_rest,
-        number: number_then(held, number),
+        small_remainder,
+        number: number_then(held, c.number),
         leap: !held,
-        month_length: length,
-        first_name: count_round(60, name, days),
-        eclipse: eclipse_rest < 23,
-        eclipse_remainder: eclipse_rest,
+        month_length,
+        first_name: count_round(60, c.first_name, days),
+        eclipse: eclipse_remainder < 23,
+        eclipse_remainder,
         mid_term_parts: ahead.parts,
     }
 }
 
 // A step to the next month, or reason 7.
-pub fn step(c: Clerk) -> ClerkTold
+pub fn step(c: Clerk) -> Result<Clerk, Reason>
     ensures { StepsOn c result }
 {
     if 507598 < c.month_count {
-        return ClerkTold::Refused(Reason::NoSuchMonth);
+        return Err(Reason::NoSuchMonth);
     }
     if 14989829 < c.first_day {
-        return ClerkTold::Refused(Reason::NoSuchMonth);
+        return Err(Reason::NoSuchMonth);
     }
-    ClerkTold::Is(next_month(c))
+    Ok(next_month(c))
 }
 
 // The clerk at a bu's head.
@@ -193,29 +181,24 @@ fn at_head(b: u32) -> Clerk
 }
 
 // A start at a bu's head, or reason 21. Bu 1 starts at the origin.
-pub fn start(b: u32) -> ClerkTold
+pub fn start(b: u32) -> Result<Clerk, Reason>
     ensures { StartsAt b result }
 {
     if !rule::in_range(1, 540, b) {
-        return ClerkTold::Refused(Reason::NoSuchBu);
+        return Err(Reason::NoSuchBu);
     }
-    ClerkTold::Is(at_head(b))
+    Ok(at_head(b))
 }
 
 // A start and so many steps, one at a time: reason 21, then 7. It ends at the first step that is refused.
-pub fn walk(b: u32, steps: u32) -> ClerkTold
+pub fn walk(b: u32, steps: u32) -> Result<Clerk, Reason>
     ensures { WalksOn b steps result }
 {
-    let mut at = start(b);
-    let mut i: u32 = 0;
-    while i < steps {
-        let ClerkTold::Is(c) = at else {
-            return at;
-        };
-        at = step(c);
-        i += 1;
+    let mut at = start(b)?;
+    for _ in 0..steps {
+        at = step(at)?;
     }
-    at
+    Ok(at)
 }
 
 // What the clerk shows of the month at which it stands.

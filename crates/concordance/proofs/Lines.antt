@@ -27,14 +27,6 @@ adv-out (b ∷ s) h = go (eqb b 10) h (adv-out s) where
   go true h k = absurd (omega arith)
   go false h k = let e : advance s ≡ line_length s = k (omega arith) in omega arith
 
-pub adv-some : (s : List ℕ) → 0 < length s → 0 < advance s
-unfolding advance
-adv-some [] h = absurd (omega arith)
-adv-some (b ∷ s) h = go (eqb b 10) where
-  go : (t : Bool) → 0 < cond t 1 (suc (advance s))
-  go true = omega arith
-  go false = omega arith
-
 -- the first line, and the lines of what follows it
 pub lines_next : (s : List ℕ) → 0 < length s → lines_of s ≡ take (line_length s) s ∷ lines_of (drop (advance s) s)
 unfolding lines_of line_length advance

@@ -7,7 +7,7 @@ use Rattle.forms.specs.Forms.{fields_in, field_at, same, is_decimal, is_mark, nu
 use Rattle.forms.specs.Paper.{NoSpace, no_text, text-more}
 use Rattle.forms.proofs.Saying.{both, either, exact, is-decimal, decimal-is}
 use Rattle.forms.proofs.Spaces.{fields-joined, joined-fields, decimal-no-space, sign}
-use Rattle.concordance.specs.Verdicts.{is_number, is_eclipse_mark, all_pass, six_tests, readable, count_in, first_wrong}
+use Rattle.concordance.specs.Verdicts.{is_number, is_eclipse_mark, all_pass, six_tests, readable, count_in, field_counted, first_wrong}
 use Rattle.concordance.specs.declared.Verdict.{Verdict}
 use Rattle.concordance.specs.declared.Verdict.TheVariants.{Right, Wrong}
 use Rattle.concordance.specs.Paper.{Digits, CanBeRead, fields_of, count_of}
@@ -119,12 +119,13 @@ count-is r = ap (λ (fs : List (List ℕ)). number_in fs 0) (fields-are r)
 -- THE FIRST FIELD THAT DIFFERS, counted from k: there is none, or it is the j-th behind that
 pub data Found (k : ℕ) (fs gs : List (List ℕ)) (v : Verdict) : Type 0 where
   agree : fs ≡ gs → v ≡ Right → Found k fs gs v
-  differ : (j : ℕ) → v ≡ Wrong (k + j) → j < length fs → (field_at fs j ≡ field_at gs j → ⊥) → ((i : ℕ) → i < j → field_at fs i ≡ field_at gs i) → Found k fs gs v
+  differ : (j : ℕ) → v ≡ Wrong (field_counted (k + j)) → j < length fs →
+      (field_at fs j ≡ field_at gs j → ⊥) → ((i : ℕ) → i < j → field_at fs i ≡ field_at gs i) → Found k fs gs v
 
 later : (k : ℕ) (f g : List ℕ) (fs gs : List (List ℕ)) (v : Verdict) → f ≡ g → Found (suc k) fs gs v → Found k (f ∷ fs) (g ∷ gs) v
 unfolding field_at
 later k f g fs gs v e (agree h i) = agree (ap₂ (λ (x : List ℕ) (xs : List (List ℕ)). x ∷ xs) e h) i
-later k f g fs gs v e (differ j w l d a) = differ (suc j) (w ∙ ap Wrong (omega arith)) (omega arith) d before
+later k f g fs gs v e (differ j w l d a) = differ (suc j) (w ∙ ap (λ (i : ℕ). Wrong (field_counted i)) (omega arith)) (omega arith) d before
   where
     before : (i : ℕ) → i < suc j → field_at (f ∷ fs) i ≡ field_at (g ∷ gs) i
     before zero m = e
@@ -137,9 +138,9 @@ found k [] (g ∷ gs) e = absurd (omega (arith, e))
 found k (f ∷ fs) [] e = absurd (omega (arith, e))
 found k (f ∷ fs) (g ∷ gs) e = go (same f g) refl (found (suc k) fs gs (omega (arith, e)))
   where
-    go : (t : Bool) → same f g ≡ t → Found (suc k) fs gs (first_wrong (suc k) fs gs) → Found k (f ∷ fs) (g ∷ gs) (cond t (first_wrong (suc k) fs gs) (Wrong k))
+    go : (t : Bool) → same f g ≡ t → Found (suc k) fs gs (first_wrong (suc k) fs gs) → Found k (f ∷ fs) (g ∷ gs) (cond t (first_wrong (suc k) fs gs) (Wrong (field_counted k)))
     go true i h = later k f g fs gs (first_wrong (suc k) fs gs) (sym (exact f g i)) h
     go false i h =
-        differ 0 (ap Wrong (omega arith)) (omega arith)
+        differ 0 (ap (λ (i : ℕ). Wrong (field_counted i)) (omega arith)) (omega arith)
         (λ (q : f ≡ g). let y : true ≡ false = sym (same_self f) ∙ (ap (same f) q ∙ i) in let o : ◌≡◌ {A = ℕ} 0 1 = cc in omega arith)
         (λ i m. absurd (omega (arith, m)))

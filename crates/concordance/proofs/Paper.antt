@@ -1,11 +1,11 @@
 -- The statements of specs/Paper, proved, each under its own name. Assumes nothing.
+use Rattle.std.specs.Prelude.{Result, Ok}
+use Rattle.rule.specs.declared.Reason.{Reason}
 use Rattle.std.proofs.Common.{◌≡◌, ℕ, zero, suc, ◌<◌, ◌≤◌, leb, List, [], ◌∷◌, ◌++◌, length, get_or, sym, refl, ap, ◌∙◌, subst, arith, leb-true}
 use Rattle.rule.specs.Lists.{placed}
 use Rattle.rule.specs.Reasons.{Answer, is, and_then, into_room, afterwards}
 use Rattle.rule.specs.declared.Reason.TheVariants.{TextTooLong}
 use Rattle.rule.proofs.Answers.{at_most, holds-all}
-use Rattle.sheet.specs.declared.HowMany.{HowMany}
-use Rattle.sheet.specs.declared.HowMany.TheVariants as HowMany'
 use Rattle.penned.specs.Promises.{Printed}
 use Rattle.penned.proofs.Paper.{text-given, text_in-front, of-text, printed-kept, printed-once, with_newline, not-refused}
 use Rattle.concordance.specs.Text.{lines_of}
@@ -86,23 +86,23 @@ pub unique-verdicts : Paper.UniqueVerdicts
 unique-verdicts s o x y o₁ o₂ p q = printed-once (verdicts_into s (length o)) o x y o₁ o₂ p q
 
 -- at a named text: the list, and how many verdicts there are
-list-is : {a : Answer (List ℕ)} {xs o' : List ℕ} {r : HowMany} → a ≡ is xs → Printed a nines r o' → o' ≡ placed xs nines
+list-is : {a : Answer (List ℕ)} {xs o' : List ℕ} {r : Result ℕ Reason} → a ≡ is xs → Printed a nines r o' → o' ≡ placed xs nines
 list-is e p = p.buffer ∙ ap (λ (a : Answer (List ℕ)). afterwards a (λ b. b) nines) e
 
-many-are : {a : Answer (List ℕ)} {xs o' : List ℕ} → a ≡ is xs → (n : ℕ) → Printed a nines (HowMany'.Is n) o' → n ≡ length xs
+many-are : {a : Answer (List ℕ)} {xs o' : List ℕ} → a ≡ is xs → (n : ℕ) → Printed a nines (Ok n) o' → n ≡ length xs
 many-are {xs = xs} e n p =
     let q : ◌≡◌ {A = Answer ℕ} (is n) (is (length xs)) = p.answer ∙ ap (λ (a : Answer (List ℕ)). and_then a (λ b. is (length b))) e in
     let f : n ≡ length xs = cc in
     f
 
 -- the one verdict
-alone-is : {a : Answer (List ℕ)} {x : ℕ} → a ≡ is (x ∷ []) → (v : ℕ) → Printed a nines (HowMany'.Is 1) (placed (v ∷ []) nines) → v ≡ x
+alone-is : {a : Answer (List ℕ)} {x : ℕ} → a ≡ is (x ∷ []) → (v : ℕ) → Printed a nines (Ok 1) (placed (v ∷ []) nines) → v ≡ x
 alone-is e v p = ap (λ (o : List ℕ). get_or o 0 0) (list-is e p)
 
-not-alone : {a : Answer (List ℕ)} {x : ℕ} → a ≡ is (x ∷ []) → (v : ℕ) → (v ≡ x → ⊥) → Printed a nines (HowMany'.Is 1) (placed (v ∷ []) nines) → ⊥
+not-alone : {a : Answer (List ℕ)} {x : ℕ} → a ≡ is (x ∷ []) → (v : ℕ) → (v ≡ x → ⊥) → Printed a nines (Ok 1) (placed (v ∷ []) nines) → ⊥
 not-alone e v n p = n (alone-is e v p)
 
-unread : {a : Answer (List ℕ)} → a ≡ is (7 ∷ []) → (v : ℕ) → v < 7 → Printed a nines (HowMany'.Is 1) (placed (v ∷ []) nines) → ⊥
+unread : {a : Answer (List ℕ)} → a ≡ is (7 ∷ []) → (v : ℕ) → v < 7 → Printed a nines (Ok 1) (placed (v ∷ []) nines) → ⊥
 unread e v l p = omega (arith, l, alone-is e v p)
 
 pub wrong-verdicts : Paper.WrongVerdicts

@@ -1,5 +1,5 @@
 -- What the number of a line's verdict says of the line; every line that is printed is right. Assumes nothing.
-use Rattle.std.proofs.Common.{◌≡◌, ℕ, suc, ◌+◌, ◌<◌, ◌≤◌, Bool, true, false, cond, leb, ◌⊎◌, List, [], ◌∷◌, length, sym, refl, ap, ◌∙◌, subst, inl, inr, arith, leb-false, leb-true}
+use Rattle.std.proofs.Common.{◌≡◌, ℕ, zero, suc, ◌+◌, ◌<◌, ◌≤◌, Bool, true, false, cond, leb, ◌⊎◌, List, [], ◌∷◌, length, sym, refl, ap, ◌∙◌, subst, inl, inr, arith, leb-false, leb-true}
 use Rattle.rule.specs.Counts.{MonthInRange, day_name}
 use Rattle.rule.specs.Rule.{number_of, leap_mark}
 use Rattle.rule.proofs.Leap.{number_at, number-range}
@@ -12,9 +12,11 @@ use Rattle.forms.specs.Forms.{fields_in, field_at}
 use Rattle.forms.specs.Paper.{NoSpace, no_text, text-more}
 use Rattle.forms.proofs.Spaces.{joined-fields, decimal-no-space, sign}
 use Rattle.penned.specs.Lines.{month_line}
-use Rattle.concordance.specs.Verdicts.{readable, count_in, first_wrong, printed_fields, verdict_of, verdict_number, number_on}
+use Rattle.concordance.specs.Verdicts.{field_number, field_counted, readable, count_in, first_wrong, printed_fields, verdict_of, verdict_number, number_on}
+use Rattle.concordance.specs.declared.LineField.{LineField}
+use Rattle.concordance.specs.declared.LineField.TheVariants.{MonthCount, Number, LeapMark, FirstName, Length, EclipseMark}
 use Rattle.concordance.specs.declared.Verdict.{Verdict}
-use Rattle.concordance.specs.declared.Verdict.TheVariants.{Right, Wrong, Unreadable}
+use Rattle.concordance.specs.declared.Verdict.TheVariants.{Wrong, Unreadable}
 use Rattle.concordance.specs.Paper.{Digits, CanBeRead, fields_of, count_of, FirstThatDiffers, WrongIn, out_of_range, differs, Says}
 use Rattle.concordance.proofs.Literally.{can-be-read, fields-are, is-readable, count-is, Found, agree, differ, found}
 
@@ -37,6 +39,16 @@ line-fields n =
 line-joined : (n : ℕ) → joined (printed_fields n) ≡ month_line n
 unfolding month_line
 line-joined n = refl
+
+-- each of the six is counted
+number-counted : (j : ℕ) → j < 6 → field_number (field_counted (1 + j)) ≡ 1 + j
+number-counted zero h = refl
+number-counted (suc zero) h = refl
+number-counted (suc (suc zero)) h = refl
+number-counted (suc (suc (suc zero))) h = refl
+number-counted (suc (suc (suc (suc zero)))) h = refl
+number-counted (suc (suc (suc (suc (suc zero))))) h = refl
+number-counted (suc (suc (suc (suc (suc (suc j)))))) h = absurd (omega (arith, h))
 
 -- the first that differs is one
 first_one : {k : ℕ} {fs gs : List (List ℕ)} → FirstThatDiffers k fs gs → (j : ℕ) → (field_at fs j ≡ field_at gs j → ⊥) → ((i : ℕ) → i < j → field_at fs i ≡ field_at gs i) → k ≡ suc j
@@ -117,7 +129,7 @@ module _ (l : List ℕ) where
           back k s (out_of_range i q) = i (rw (sym (count-is s)) there)
           back k s (differs i d) = let d' : FirstThatDiffers k (fields_in l) gs = as_first s d in d'.differs (ap (λ (fs : List (List ℕ)). field_at fs d'.place) e)
       says-found v w h six (differ j i m d a) =
-          let z1 : v ≡ 1 + j = h ∙ ap verdict_number i in
+          let z1 : v ≡ 1 + j = h ∙ ap verdict_number i ∙ number-counted j (omega (arith, m, six)) in
           record {
             unreadable = (λ z. absurd (omega (arith, z, z1, m, six)), λ z. absurd (z r));
             right = (λ z. absurd (omega (arith, z, z1)), λ z. absurd (d (ap (λ (fs : List (List ℕ)). field_at fs j) (as-printed z.0 z.2))));
@@ -132,46 +144,29 @@ module _ (l : List ℕ) where
           back k s (out_of_range q e) = absurd (q (rw (sym (count-is s)) there))
           back k s (differs q b) =
               let e : k ≡ suc j = first_one (as_first s b) j d a in
-              let z1 : v ≡ 1 + j = h ∙ ap verdict_number i in
+              let z1 : v ≡ 1 + j = h ∙ ap verdict_number i ∙ number-counted j (omega (arith, m, six)) in
               (omega (arith, e, z1), omega (arith, e), omega (arith, e, m, six))
 
   pub says : Says l (number_on l)
   unfolding verdict_of
   says = go (readable l) refl
     where
-      read : (r : CanBeRead l) (t : Bool) → leb n 507599 ≡ t → Says l (verdict_number (cond t (first_wrong 1 (fields_in l) gs) (Wrong 1)))
+      read : (r : CanBeRead l) (t : Bool) → leb n 507599 ≡ t → Says l (verdict_number (cond t (first_wrong 1 (fields_in l) gs) (Wrong MonthCount)))
       read r true e = says-found r (leb-true n 507599 e) _ (first_wrong 1 (fields_in l) gs) refl (ap length (fields-are r)) (found 1 (fields_in l) gs (ap length (fields-are r)))
       read r false e = says-1 r (λ i. omega (arith, i, leb-false n 507599 e)) 1 refl
 
-      go : (t : Bool) → readable l ≡ t → Says l (verdict_number (cond t (cond (leb n 507599) (first_wrong 1 (fields_in l) gs) (Wrong 1)) Unreadable))
+      go : (t : Bool) → readable l ≡ t → Says l (verdict_number (cond t (cond (leb n 507599) (first_wrong 1 (fields_in l) gs) (Wrong MonthCount)) Unreadable))
       go true e = read (can-be-read l e) (leb n 507599) refl
       go false e = says-7 e 7 refl
 
--- a wrong line is wrong in one of its six fields
-pub wrong-in-six : (l : List ℕ) (k : ℕ) → verdict_of l ≡ Wrong k → (1 ≤ k) × (k ≤ 6)
-unfolding verdict_of
-wrong-in-six l k = go (readable l) refl
-  where
-    fs : List (List ℕ)
-    fs = fields_in l
-
-    gs' : List (List ℕ)
-    gs' = printed_fields (count_in l)
-
-    of-found : length fs ≡ 6 → Found 1 fs gs' (first_wrong 1 fs gs') → first_wrong 1 fs gs' ≡ Wrong k → (1 ≤ k) × (k ≤ 6)
-    of-found six (agree e i) h = let w : Right ≡ Wrong k = sym i ∙ h in absurd (let o : ◌≡◌ {A = ℕ} 0 1 = cc in omega arith)
-    of-found six (differ j i m d a) h =
-        let w : Wrong (1 + j) ≡ Wrong k = sym i ∙ h in
-        let e : 1 + j ≡ k = cc in
-        (omega (arith, e), omega (arith, e, m, six))
-
-    in-range : CanBeRead l → (t : Bool) → cond t (first_wrong 1 fs gs') (Wrong 1) ≡ Wrong k → (1 ≤ k) × (k ≤ 6)
-    in-range r true h = let six : length fs ≡ 6 = ap length (fields-are r) in of-found six (found 1 fs gs' six) h
-    in-range r false h = let e : 1 ≡ k = cc in (omega (arith, e), omega (arith, e))
-
-    go : (t : Bool) → readable l ≡ t → cond t (cond (leb (count_in l) 507599) (first_wrong 1 fs gs') (Wrong 1)) Unreadable ≡ Wrong k → (1 ≤ k) × (k ≤ 6)
-    go true e h = in-range (can-be-read l e) (leb (count_in l) 507599) h
-    go false e h = absurd (let o : ◌≡◌ {A = ℕ} 0 1 = cc in omega arith)
+-- the fields are six
+pub in-six : (field : LineField) → (1 ≤ field_number field) × (field_number field ≤ 6)
+in-six MonthCount = (omega arith, omega arith)
+in-six Number = (omega arith, omega arith)
+in-six LeapMark = (omega arith, omega arith)
+in-six FirstName = (omega arith, omega arith)
+in-six Length = (omega arith, omega arith)
+in-six EclipseMark = (omega arith, omega arith)
 
 -- EVERY LINE THAT IS PRINTED can be read, and is right
 small : (k : ℕ) → k < 1000000 → Digits (decimal k)

@@ -1,12 +1,10 @@
 -- What request W5 says of concordances, as statements over the promise. proofs/Paper.antt proves each under the same name in small
 -- letters. Assumes nothing.
-use Rattle.std.specs.Prelude.{◌≡◌, ℕ, suc, ◌<◌, ◌≤◌, ◌≢◌, ◌⊎◌, ◌↔◌, List, [], ◌∷◌, ◌++◌, length, replicate, slice_index, slice_index_or}
+use Rattle.std.specs.Prelude.{Result, Ok, Err, ◌≡◌, ℕ, suc, ◌<◌, ◌≤◌, ◌≢◌, ◌⊎◌, ◌↔◌, List, [], ◌∷◌, ◌++◌, length, replicate, slice_index, slice_index_or}
 use Rattle.rule.specs.Counts.{MonthInRange}
 use Rattle.rule.specs.Lists.{placed}
 use Rattle.rule.specs.declared.Reason.{Reason}
 use Rattle.rule.specs.declared.Reason.TheVariants.{TextTooLong}
-use Rattle.sheet.specs.declared.HowMany.{HowMany}
-use Rattle.sheet.specs.declared.HowMany.TheVariants as HowMany'
 use Rattle.sheet.specs.Promises.{RestKept}
 use Rattle.fields.specs.Fields.{word, joined}
 use Rattle.fields.specs.Paper.{IsDecimal, value_from}
@@ -96,7 +94,7 @@ pub record Says (l : List ℕ) (v : ℕ) : Type 0 where
 -- THE CALL
 -- the text s is judged into a list that held o, and n is answered
 abbrev pub Given : List ℕ → List ℕ → ℕ → List ℕ → Type 0
-Given s o n o' = JudgeText s o (HowMany'.Is n) o'
+Given s o n o' = JudgeText s o (Ok n) o'
 
 -- one verdict a line, in order, each what it says
 pub record EachLineJudged : Type 0 where
@@ -114,14 +112,14 @@ ReasonsOfJudging = (s o : List ℕ) → PrintReasons (length s ≤ 65536) TextTo
 
 -- a refused call changes nothing; places beyond the verdicts are untouched
 abbrev pub RefusalJudgesNothing : Type 0
-RefusalJudgesNothing = (s o o' : List ℕ) (why : Reason) → JudgeText s o (HowMany'.Refused why) o' → o' ≡ o
+RefusalJudgesNothing = (s o o' : List ℕ) (why : Reason) → JudgeText s o (Err why) o' → o' ≡ o
 
 abbrev pub RestUnjudged : Type 0
 RestUnjudged = (s o o' : List ℕ) (n : ℕ) → Given s o n o' → RestKept n o o'
 
 -- the promise leaves one answer and one state of the lent list
 abbrev pub UniqueVerdicts : Type 0
-UniqueVerdicts = (s o : List ℕ) (x y : HowMany) (o₁ o₂ : List ℕ) → JudgeText s o x o₁ → JudgeText s o y o₂ → (x ≡ y) × (o₁ ≡ o₂)
+UniqueVerdicts = (s o : List ℕ) (x y : Result ℕ Reason) (o₁ o₂ : List ℕ) → JudgeText s o x o₁ → JudgeText s o y o₂ → (x ≡ y) × (o₁ ≡ o₂)
 
 -- wrong versions, each shut out at a named text, in a list of three nines. Month 129 is the second of two big months.
 abbrev pub nines : List ℕ
@@ -129,16 +127,16 @@ nines = replicate 3 9
 
 -- the text's only line gets the verdict v
 abbrev pub Alone : List ℕ → ℕ → Type 0
-Alone s v = JudgeText s nines (HowMany'.Is 1) (placed (v ∷ []) nines)
+Alone s v = JudgeText s nines (Ok 1) (placed (v ∷ []) nines)
 
 pub record WrongVerdicts : Type 0 where
   -- refuses all; writes nothing; all right; the first line only, the others skipped, or its verdict for all
-  pub refuses : (why : Reason) (o : List ℕ) → JudgeText (word "129 5 - 30 30 E") nines (HowMany'.Refused why) o → ⊥
-  pub unwritten : (a : HowMany) → JudgeText (word "129 5 - 30 30 E") nines a nines → ⊥
+  pub refuses : (why : Reason) (o : List ℕ) → JudgeText (word "129 5 - 30 30 E") nines (Err why) o → ⊥
+  pub unwritten : (a : Result ℕ Reason) → JudgeText (word "129 5 - 30 30 E") nines a nines → ⊥
   pub all_right : Alone (word "129 5 - 30 29 E") 0 → ⊥
-  pub first-only : (o : List ℕ) → JudgeText (word "129 5 - 30 30 E" ++ (10 ∷ word "1")) nines (HowMany'.Is 1) o → ⊥
-  pub rest-skipped : (a : HowMany) → JudgeText (word "129 5 - 30 30 E" ++ (10 ∷ word "1")) nines a (0 ∷ 9 ∷ 9 ∷ []) → ⊥
-  pub first-copied : (a : HowMany) → JudgeText (word "129 5 - 30 30 E" ++ (10 ∷ word "1")) nines a (0 ∷ 0 ∷ 9 ∷ []) → ⊥
+  pub first-only : (o : List ℕ) → JudgeText (word "129 5 - 30 30 E" ++ (10 ∷ word "1")) nines (Ok 1) o → ⊥
+  pub rest-skipped : (a : Result ℕ Reason) → JudgeText (word "129 5 - 30 30 E" ++ (10 ∷ word "1")) nines a (0 ∷ 9 ∷ 9 ∷ []) → ⊥
+  pub first-copied : (a : Result ℕ Reason) → JudgeText (word "129 5 - 30 30 E" ++ (10 ∷ word "1")) nines a (0 ∷ 0 ∷ 9 ∷ []) → ⊥
   -- the last wrong field for the first; counted from 0
   pub last-wrong : Alone (word "129 5 - 31 30 -") 6 → ⊥
   pub counted-from-0 : Alone (word "129 5 - 31 30 -") 3 → ⊥
@@ -157,6 +155,6 @@ pub record WrongVerdicts : Type 0 where
   -- the second of two big months struck out
   pub second-of-two-big : (v : ℕ) → 0 < v → Alone (word "129 5 - 30 30 E") v → ⊥
   -- a newline at the end opens a line; an empty line is passed over; an empty text has a line
-  pub newline-opens : (o : List ℕ) → JudgeText (word "129 5 - 30 30 E" ++ (10 ∷ [])) nines (HowMany'.Is 2) o → ⊥
-  pub empty-line-skipped : (o : List ℕ) → JudgeText (10 ∷ word "129 5 - 30 30 E") nines (HowMany'.Is 1) o → ⊥
-  pub empty-text-judged : (o : List ℕ) → JudgeText [] nines (HowMany'.Is 1) o → ⊥
+  pub newline-opens : (o : List ℕ) → JudgeText (word "129 5 - 30 30 E" ++ (10 ∷ [])) nines (Ok 2) o → ⊥
+  pub empty-line-skipped : (o : List ℕ) → JudgeText (10 ∷ word "129 5 - 30 30 E") nines (Ok 1) o → ⊥
+  pub empty-text-judged : (o : List ℕ) → JudgeText [] nines (Ok 1) o → ⊥

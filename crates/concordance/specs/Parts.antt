@@ -1,66 +1,59 @@
--- A line's fields one by one, as numbers and the bytes of marks: what the inner functions promise. proofs/ ties them to `verdict_of`.
+-- A line's fields one by one, as numbers and marks: what the inner functions promise. proofs/ ties them to `verdict_of`.
 -- Assumes nothing.
-use Rattle.std.specs.Prelude.{◌≡◌, ℕ, ◌+◌, ◌-◌, ◌*◌, ◌<◌, ◌≤◌, Bool, true, cond, not, ◌&&◌, List, [], ◌∷◌, length, ◌==◌, nat_lt}
-use Rattle.rule.specs.Reasons.{within}
+use Rattle.std.specs.Prelude.{Option, Some, None}
+use Rattle.std.specs.Prelude.{◌≡◌, ℕ, Bool, true, false, cond, ◌&&◌, List, [], ◌∷◌, length, ◌==◌, nat_le, nat_lt}
 use Rattle.rule.specs.Rule.{number_of, leap_mark}
 use Rattle.facts.specs.declared.MonthFacts.{MonthFacts}
 use Rattle.fields.specs.Fields.{decimal, mark, letter_l, letter_e}
 use Rattle.fields.specs.Paper.{value_from}
-use Rattle.forms.specs.Forms.{first_field, fields_in, same}
+use Rattle.forms.specs.Forms.{first_field, fields_in, same, all_digits}
+use Rattle.concordance.specs.declared.LineField.TheVariants.{Number, LeapMark, FirstName, Length, EclipseMark}
 use Rattle.concordance.specs.declared.Verdict.{Verdict}
 use Rattle.concordance.specs.declared.Verdict.TheVariants.{Right, Wrong}
 use Rattle.concordance.specs.declared.Numeral.{Numeral}
 use Rattle.concordance.specs.declared.Parts.{Parts}
 use Rattle.concordance.specs.Verdicts.{is_number, readable}
 
--- what stands for no number
-abbrev pub no_number : ℕ
-no_number = 1000000000
+-- nine digits at most, and nothing else
+abbrev pub nine_digits : List ℕ → Bool
+nine_digits f = all_digits f && nat_le (length f) 9
 
--- what digits make of the i that were worth v: nine at most
-unfoldable pub worth : ℕ → ℕ → List ℕ → ℕ
-worth i v [] = v
-worth i v (b ∷ f) = cond (nat_lt i 9 && within 48 57 b) (worth (i + 1) (10 * v + (b - 48)) f) no_number
+-- the number of the first field, where its test holds, and where it ends
+pub record NumberTaken (test : List ℕ → Bool) (s : List ℕ) (n : Numeral) : Type 0 where
+  pub passed : test (first_field s) ≡ true
+  pub value : n.value ≡ value_from 0 (first_field s)
+  pub end : n.end ≡ length (first_field s)
 
--- the digits of the first field, and where it ends if they are nine at most
-pub record Scanned (s : List ℕ) (n : Numeral) : Type 0 where
-  pub value : n.value ≡ worth 0 0 (first_field s)
-  pub end : n.value < no_number → n.end ≡ length (first_field s)
-  pub inside : n.end ≤ length s
+abbrev pub TakenBy : (List ℕ → Bool) → List ℕ → Option Numeral → Type 0
+TakenBy test s (Some n) = NumberTaken test s n
+TakenBy test s None = test (first_field s) ≡ false
 
--- a field as a number
-unfoldable pub number_or : List ℕ → ℕ
-number_or f = cond (is_number f) (value_from 0 f) no_number
+-- its digits, nine at most; and a field as a number
+abbrev pub Scanned : List ℕ → Option Numeral → Type 0
+Scanned = TakenBy nine_digits
 
-pub record Numbered (s : List ℕ) (n : Numeral) : Type 0 where
-  pub value : n.value ≡ number_or (first_field s)
-  pub end : n.value < no_number → n.end ≡ length (first_field s)
+abbrev pub Numbered : List ℕ → Option Numeral → Type 0
+Numbered = TakenBy is_number
 
--- the byte of a text that is one mark, 0 of any other
-abbrev pub byte_of : ℕ → List ℕ → ℕ
-byte_of letter s = cond (same (45 ∷ []) s) 45 (cond (same (letter ∷ []) s) letter 0)
+-- whether a mark is there, of a text that is one
+abbrev pub mark_read : ℕ → List ℕ → Option Bool
+mark_read letter s = cond (same (45 ∷ []) s) (Some false) (cond (same (letter ∷ []) s) (Some true) None)
 
 -- the first field as a leap mark, where another field follows; what is left of a line as an eclipse mark
-unfoldable pub mark_or : List ℕ → ℕ
-mark_or s = cond (nat_lt 1 (length s)) (byte_of letter_l (first_field s)) 0
+unfoldable pub first_mark : List ℕ → Option Bool
+first_mark s = cond (nat_lt 1 (length s)) (mark_read letter_l (first_field s)) None
 
-unfoldable pub last_mark : List ℕ → ℕ
-last_mark s = byte_of letter_e s
-
-unfoldable pub is_good : Parts → Bool
-is_good p =
-    nat_lt p.count no_number
-    && (nat_lt p.number no_number
-    && (not (p.leap == 0) && (nat_lt p.name no_number && (nat_lt p.days no_number && not (p.eclipse == 0)))))
+unfoldable pub last_mark : List ℕ → Option Bool
+last_mark s = mark_read letter_e s
 
 -- the texts of the six
 abbrev pub texts_of : Parts → List (List ℕ)
-texts_of p = decimal p.count ∷ decimal p.number ∷ (p.leap ∷ []) ∷ decimal p.name ∷ decimal p.days ∷ (p.eclipse ∷ []) ∷ []
+texts_of p = decimal p.count ∷ decimal p.number ∷ (mark p.leap letter_l ∷ []) ∷ decimal p.name ∷ decimal p.days ∷ (mark p.eclipse letter_e ∷ []) ∷ []
 
--- what was taken of a line: it is good where the line can be read, and then these are its fields
-pub record Parted (l : List ℕ) (p : Parts) : Type 0 where
-  pub good : is_good p ≡ readable l
-  pub fields : is_good p ≡ true → fields_in l ≡ texts_of p
+-- what was taken of a line: its fields, where it can be read
+abbrev pub Parted : List ℕ → Option Parts → Type 0
+Parted l (Some p) = (readable l ≡ true) × (fields_in l ≡ texts_of p)
+Parted l None = readable l ≡ false
 
 -- what is printed for a month, as such fields
 unfoldable pub parts_printed : ℕ → MonthFacts → Parts
@@ -68,21 +61,21 @@ parts_printed n f =
     record {
       count = n;
       number = number_of f.month;
-      leap = mark (leap_mark f.month) letter_l;
+      leap = leap_mark f.month;
       name = f.first_name;
       days = f.month_length;
-      eclipse = mark f.eclipse letter_e;
+      eclipse = f.eclipse;
     }
 
 -- the first field behind the month count in which two differ
 unfoldable pub differing : Parts → Parts → Verdict
 differing p q =
     cond (p.number == q.number)
-    (cond (p.leap == q.leap)
+    (cond (mark p.leap letter_l == mark q.leap letter_l)
     (cond (p.name == q.name)
     (cond (p.days == q.days)
-    (cond (p.eclipse == q.eclipse) Right (Wrong 6))
-    (Wrong 5))
-    (Wrong 4))
-    (Wrong 3))
-    (Wrong 2)
+    (cond (mark p.eclipse letter_e == mark q.eclipse letter_e) Right (Wrong EclipseMark))
+    (Wrong Length))
+    (Wrong FirstName))
+    (Wrong LeapMark))
+    (Wrong Number)

@@ -1,20 +1,23 @@
 -- The statements of specs/Paper, proved under their own names, and what follows for a room into which an input was read. Assumes nothing.
+use Rattle.std.specs.Prelude.{Result, Ok, Err, IfOk, MatchResult, Option}
+use Rattle.std.specs.Io.KnownBytes.{Appends}
+use Rattle.penned.specs.Lines.{refused_line}
+use Rattle.rule.specs.declared.Reason.{Reason}
 use Prim.Native.Nat.{ℕ, ◌+◌, ◌*◌, ◌≤◌, ◌<◌}
 use native.Mathlib.Omega.{arith}
 use native.Mathlib.Decide.{dec_lt}
-use mathlib.Core.Path.{◌≡◌, ap, sym, ◌∙◌}
+use mathlib.Core.Path.{◌≡◌, ap, sym, subst, ◌∙◌}
 use mathlib.Core.Logic.{◌⊎◌, inl, inr, ⊎_elim}
 use mathlib.Core.List.{List, [], ◌∷◌}
 use lib.ListN.{length, take, drop, length-append, length-drop}
 use lib.Seq.{take_all}
-use Rattle.rule.specs.Reasons.{Answer, is, refused, and_then, afterwards}
-use Rattle.sheet.specs.declared.HowMany.{HowMany}
-use Rattle.sheet.specs.declared.HowMany.TheVariants as HowMany'
+use Rattle.rule.specs.Reasons.{said, Answer, is, refused, reason_number, and_then, afterwards}
 use Rattle.sheet.specs.Sheet.{ListsFor, sheet_sections, named, read_sheet, count_of, left_after}
 use Rattle.sheet.specs.Faults.{here, later, GoodSections, SectionsFault}
 use Rattle.sheet.specs.Steps.{bytes_of}
-use Rattle.sheet.specs.Promises.{said_how_many, counts_in}
-use Rattle.sheet.proofs.Deciding.{if-refused, made_of}
+use Rattle.sheet.specs.Promises.{counts_in}
+use Rattle.sheet.proofs.Deciding.{if-refused, made_of, refused-of}
+use Rattle.sheet.proofs.Places.{front}
 use Rattle.sheet.proofs.Reading.{sheet-decided, three-good}
 use Rattle.sheet.proofs.Sheets.{front-and-rest}
 use Rattle.listed.specs.Paper.{TakenInto}
@@ -121,30 +124,37 @@ never-too-short =
     old s n k h (later g (later z f)) = absurd (f.fails (omega (arith, h, new-size s g 0 z)))
 
 -- what was taken of an input is converted as the whole
-module _ (room : List ℕ) (n : ℕ) (s out : List ℕ) (r : HowMany) (out' : List ℕ) (e : TakenInto room n s) where
-  pub taken-new : Paper.old_held ≡ length room → (u : List ℕ) → u ≡ take n room → ToNew u out r out' → ToNew s out r out'
-  taken-new h u i p =
-      let f : to_new u (length out) ≡ to_new s (length out) =
-      ap (λ (t : List ℕ). to_new t (length out)) (i ∙ e ∙ ap (λ (k : ℕ). take k s) (sym h)) ∙ front-is-enough.to-new s (length out)
+module _ (room : List ℕ) (n : ℕ) (s out : List ℕ) (r : Result ℕ Reason) (out' : List ℕ) (e : TakenInto room n s) where
+  pub taken-new : Paper.old_held ≡ length room → ToNew (take n room) out r out' → ToNew s out r out'
+  taken-new h p =
+      let f : to_new (take n room) (length out) ≡ to_new s (length out) =
+      ap (λ (t : List ℕ). to_new t (length out)) (e ∙ ap (λ (k : ℕ). take k s) (sym h)) ∙ front-is-enough.to-new s (length out)
       in
       record { answer = rw (f) at p.answer; buffer = rw (f) at p.buffer }
 
-  pub taken-old : Paper.new_held ≡ length room → (u : List ℕ) → u ≡ take n room → ToOld u out r out' → ToOld s out r out'
-  taken-old h u i p =
-      let f : to_old u (length out) ≡ to_old s (length out) =
-      ap (λ (t : List ℕ). to_old t (length out)) (i ∙ e ∙ ap (λ (k : ℕ). take k s) (sym h)) ∙ front-is-enough.to-old s (length out)
+  pub taken-old : Paper.new_held ≡ length room → ToOld (take n room) out r out' → ToOld s out r out'
+  taken-old h p =
+      let f : to_old (take n room) (length out) ≡ to_old s (length out) =
+      ap (λ (t : List ℕ). to_old t (length out)) (e ∙ ap (λ (k : ℕ). take k s) (sym h)) ∙ front-is-enough.to-old s (length out)
       in
       record { answer = rw (f) at p.answer; buffer = rw (f) at p.buffer }
 
 -- so many bytes as are answered lie in the buffer
-pub new-inside : (s o o' : List ℕ) (r : HowMany) (k : ℕ) → r ≡ HowMany'.Is k → ToNew s o r o' → k ≤ length o'
-new-inside s o o' r k e p =
-    let w = made_of (to_new s (length o)) length k (ap said_how_many (sym e) ∙ p.answer) in
-    let f = p.buffer ∙ ap (λ (a : Answer (List ℕ)). afterwards a (λ b. b) o) w.1 in
+pub inside : (made : Answer (List ℕ)) (o o' : List ℕ) (r : Result ℕ Reason) →
+    said r ≡ and_then made (λ b. is (length b)) → o' ≡ afterwards made (λ b. b) o → IfOk r (λ m. m ≤ length o')
+inside made o o' (Err why) p q = tt
+inside made o o' (Ok k) p q =
+    let w = made_of made length k p in
+    let f = q ∙ ap (λ (a : Answer (List ℕ)). afterwards a (λ b. b) o) w.1 in
     omega (arith, w.2, ap length f, length-append w.0 (drop (length w.0) o))
 
-pub old-inside : (s o o' : List ℕ) (r : HowMany) (k : ℕ) → r ≡ HowMany'.Is k → ToOld s o r o' → k ≤ length o'
-old-inside s o o' r k e p =
-    let w = made_of (to_old s (length o)) length k (ap said_how_many (sym e) ∙ p.answer) in
-    let f = p.buffer ∙ ap (λ (a : Answer (List ℕ)). afterwards a (λ b. b) o) w.1 in
-    omega (arith, w.2, ap length f, length-append w.0 (drop (length w.0) o))
+-- what is handed on is what the conversion makes
+pub given : (made : Answer (List ℕ)) (o o' : List ℕ) (r : Result ℕ Reason) (to to' errors errors' : Option (List ℕ)) →
+    said r ≡ and_then made (λ b. is (length b)) → o' ≡ afterwards made (λ b. b) o →
+    MatchResult r (λ m. Appends to to' (take m o')) (λ why. Appends errors errors' (refused_line (reason_number why))) →
+    Paper.Given made to to' errors errors'
+given made o o' (Err why) to to' errors errors' p q h = rw (refused-of made length (reason_number why) p) h
+given made o o' (Ok k) to to' errors errors' p q h =
+    let w = made_of made length k p in
+    let f = q ∙ ap (λ (a : Answer (List ℕ)). afterwards a (λ b. b) o) w.1 in
+    rw (w.1) (subst (Appends to to') (front w.0 o k o' f w.2) h)

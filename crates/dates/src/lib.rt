@@ -1,17 +1,20 @@
 // Dates both ways: the date of a day, and the day of a date asked for by civil year, month number, ordinary or leap, day of month.
+// A range is asked for in one word of a `requires` and by no type: rule's functions take plain numbers
+// (docs/DECISIONS.md, 263).
 #![tactic(auto)]
 
 ghost use Rattle.std.specs.Prelude.{◌≡◌, ℕ, ◌+◌, ◌≤◌, ◌<◌};
 ghost use Rattle.rule.specs.Counts.{DayInRange};
 ghost use Rattle.rule.specs.Rule.{month_start, small_remainder};
+ghost use Rattle.rule.specs.Reasons.{said};
 ghost use Rattle.dates.specs.Dates.{DayOfMonthInRange, date_of, day_in_month, day_of_named};
-ghost use Rattle.dates.specs.Promises.{said_day, DateOfDay, DayOfDate};
+ghost use Rattle.dates.specs.Promises.{DateOfDay, DayOfDate};
 
 use rule::{Month, Reason};
 
 // A date of the rule. Its year is the civil one; ji, bu and year in the bu are the place of the solstice year in which the day lies; `eclipse`
-// is whether its month is an eclipse month.
-#[derive(Clone, Copy)]
+// is whether its month is an eclipse month, as the struct for C says it.
+#[derive(Debug, Clone, Copy, PartialEq, Eq)]
 pub struct Date {
     pub month: Month,
     pub year: u16,
@@ -23,20 +26,6 @@ pub struct Date {
     pub bu: u8,
     pub year_in_bu: u8,
     pub eclipse: bool,
-}
-
-// The answer for a day: its date, or why it has none.
-#[derive(Clone, Copy)]
-pub enum Dated {
-    Is(Date),
-    Refused(Reason),
-}
-
-// The answer for a date: its day, or why it has none.
-#[derive(Clone, Copy)]
-pub enum DayTold {
-    Is(u32),
-    Refused(Reason),
 }
 
 // The date of a day in range. Civil and solstice year, number and leap mark are those of the last mid-term before the month's end: leap where that
@@ -57,7 +46,7 @@ pub fn date_at(day: u32) -> Date
     let leap = term.day < start;
     Date {
         month: rule::marked(leap, its.number),
-        year: year,
+        year,
         day_of_month: (passed + 1) as u8,
         month_length: length as u8,
         day_name: rule::day_name_at(day),
@@ -70,34 +59,34 @@ pub fn date_at(day: u32) -> Date
 }
 
 // Day to date.
-pub fn date_of_day(day: u32) -> Dated
+pub fn date_of_day(day: u32) -> Result<Date, Reason>
     ensures { DateOfDay day result }
 {
     if 14989859 < day {
-        return Dated::Refused(Reason::NoSuchDay);
+        return Err(Reason::NoSuchDay);
     }
-    Dated::Is(date_at(day))
+    Ok(date_at(day))
 }
 
 // A day of the month that starts on day `start`, of which `left` was left at the new moon, or reason 5. (More than 498 is left in a small
 // month; asking `length_of` is slower here.)
-fn day_in(start: u32, left: u32, day_of_month: u32) -> DayTold
+fn day_in(start: u32, left: u32, day_of_month: u32) -> Result<u32, Reason>
     requires { (start ≤ 14989860) × DayOfMonthInRange day_of_month }
-    ensures { (n : ℕ) → start ≡ month_start n → left + small_remainder n ≡ 939 → said_day result ≡ day_in_month n day_of_month }
+    ensures { (n : ℕ) → start ≡ month_start n → left + small_remainder n ≡ 939 → said result ≡ day_in_month n day_of_month }
 {
     let small = 498 < left;
     let thirtieth = 29 < day_of_month;
     if small & thirtieth {
-        return DayTold::Refused(Reason::NoThirtiethDay);
+        return Err(Reason::NoThirtiethDay);
     }
-    DayTold::Is(start + (day_of_month - 1))
+    Ok(start + (day_of_month - 1))
 }
 
 // The day of a date whose number is there, with mid-term m, and whose day of month is in its range: reason 4 or 5 can still be met. The
 // ordinary month of the number holds its mid-term, and the month after it is leap where it ends before the next mid-term.
-fn day_of_named(m: u32, leap: bool, day_of_month: u32) -> DayTold
+fn day_of_named(m: u32, leap: bool, day_of_month: u32) -> Result<u32, Reason>
     requires { (m < 492480) × DayOfMonthInRange day_of_month }
-    ensures { said_day result ≡ day_of_named m leap day_of_month }
+    ensures { said result ≡ day_of_named m leap day_of_month }
 {
     let term = rule::term_of(2 * m);
     let mid = term.day;
@@ -109,28 +98,29 @@ fn day_of_named(m: u32, leap: bool, day_of_month: u32) -> DayTold
         left = rule::next_left(left);
         let next = rule::term_of(2 * (m + 1));
         if next.day < start + rule::length_of(left) {
-            return DayTold::Refused(Reason::NoSuchLeapMonth);
+            return Err(Reason::NoSuchLeapMonth);
         }
     }
     day_in(start, left, day_of_month)
 }
 
 // Date to day: twelve numbers a civil year, of which 11 of year 0 is the first that is there, and 10 of year 41,040 the last.
-pub fn day_of_date(year: u32, number: u32, leap: bool, day_of_month: u32) -> DayTold
+// (Four numbers of any size, which `DayOfDate` refuses one by one.)
+pub fn day_of_date(year: u32, number: u32, leap: bool, day_of_month: u32) -> Result<u32, Reason>
     ensures { DayOfDate year number leap day_of_month result }
 {
     if 41040 < year {
-        return DayTold::Refused(Reason::NoSuchYear);
+        return Err(Reason::NoSuchYear);
     }
     if !rule::in_range(1, 12, number) {
-        return DayTold::Refused(Reason::NoSuchMonthNumber);
+        return Err(Reason::NoSuchMonthNumber);
     }
     if !rule::in_range(1, 30, day_of_month) {
-        return DayTold::Refused(Reason::NoSuchDayOfMonth);
+        return Err(Reason::NoSuchDayOfMonth);
     }
     let count = 12 * year + number;
     if !rule::in_range(11, 492490, count) {
-        return DayTold::Refused(Reason::NoSuchNumberInYear);
+        return Err(Reason::NoSuchNumberInYear);
     }
     day_of_named(count - 11, leap, day_of_month)
 }

@@ -1,15 +1,15 @@
 -- Laws of the sum of records; what a filled drawer is told as. Assumes nothing.
-use Rattle.std.proofs.Common.{◌≡◌, ℕ, zero, suc, ◌+◌, ◌*◌, ◌/◌, ◌%◌, ◌^◌, ◌<◌, List, [], ◌∷◌, map, length, get_or, take, sym, refl, ap, ◌∙◌, subst, le_of_suc-le-suc, not-suc-le-zero, add-one, arith}
+use Rattle.std.proofs.Common.{◌≡◌, ℕ, zero, suc, ◌+◌, ◌*◌, ◌/◌, ◌%◌, ◌^◌, ◌<◌, ◌≤◌, List, [], ◌∷◌, map, length, get_or, take, sym, refl, ap, ◌∙◌, le_of_suc-le-suc, not-suc-le-zero, add-one, arith}
+use Rattle.std.specs.Prelude.{Result}
 use lib.ListN.{length-map}
 use lib.Seq.{take-append_seam}
 use Rattle.rule.specs.Lists.{placed}
 use Rattle.rule.specs.Reasons.{Answer, is, afterwards}
 use Rattle.dates.specs.declared.Date.{Date}
 use Rattle.dates.specs.Dates.{date_of}
-use Rattle.drawer.specs.declared.Filled.{Filled}
+use Rattle.drawer.specs.declared.DrawerError.{DrawerError}
 use Rattle.drawer.specs.Drawer.{drawer_at, said_filled, to_fill, FillDates}
 use Rattle.drawer.proofs.Days.{Verdict, many, short, bad, good, verdict}
-use Rattle.drawer.proofs.Filling.{fills}
 use Rattle.drawn.specs.Drawn.{added_of, sum_from, drawn_with, drawn_of}
 
 -- a number of 64 bits turned by seven of them
@@ -37,11 +37,15 @@ pub sum-next : (zs : List Date) (i : ℕ) (d : Date) (t : ℕ) → t ≡ sum_fro
 sum-next zs i d t e l = ap (λ (s : ℕ). added_of s (get_or zs i d)) e ∙ next 0 zs i d l ∙ ap (λ (k : ℕ). sum_from 0 (take k zs)) (sym (add-one i))
 
 -- a drawer of 4,096 records after the call
-module _ (ds : List ℕ) (ys : List Date) (len : length ys ≡ 4096) (v : Filled) (zs : List Date) (done : FillDates ds ys v zs) where
-  pub within : (i : ℕ) → i < to_fill (said_filled v) → i < 4096
-  within i l =
-      let h : i < length ys = (fills ds (length ys) i (subst (λ (a : Answer ℕ). i < to_fill a) done.answered l)).a-record in
-      omega arith
+module _ (ds : List ℕ) (ys : List Date) (len : length ys ≡ 4096) (v : Result ℕ DrawerError) (zs : List Date) (done : FillDates ds ys v zs) where
+  pub within : (n : ℕ) → n ≡ to_fill (said_filled v) → length zs ≡ length ys → n ≤ length zs
+  within n e f = let most : to_fill (said_filled v) ≤ 4096 = rw (done.answered) (go (drawer_at ds (length ys)) (verdict ds (length ys))) in omega arith
+    where
+      go : (a : Answer ℕ) → Verdict ds (length ys) a → to_fill a ≤ 4096
+      go a (many l e) = rw (e) (omega arith)
+      go a (short l m e) = rw (e) (omega arith)
+      go a (bad l m j f e) = rw (e) (omega arith)
+      go a (good l m all e) = rw (e) l
 
   -- all that were filled are read
   pub as-drawn : drawn_with (said_filled v) (sum_from 0 (take (to_fill (said_filled v)) zs)) ≡ drawn_of ds

@@ -7,10 +7,11 @@ ghost use Rattle.drawer.specs.Drawer.{said_filled};
 ghost use Rattle.drawn.specs.Drawn.{bit, low_of, high_of, added_of, drawn_with, drawn_of};
 
 use dates::Date;
-use drawer::Filled;
+use drawer::DrawerError;
 use rule::Month;
 
 // The answer for a drawer laid flat, and what the records that are filled add up to.
+// (For C: no more derives than it needs.)
 #[repr(C)]
 #[derive(Clone, Copy)]
 pub struct Drawn {
@@ -21,6 +22,7 @@ pub struct Drawn {
 }
 
 // A record before it is filled.
+// (`Date` has no number that is none, and the blank date of `flat` is a record for C.)
 fn blank() -> Date {
     Date {
         month: Month::Ordinary(0),
@@ -78,23 +80,23 @@ fn added(sum: u64, date: Date) -> u64
 }
 
 // An answer laid flat; the sum is 0 where the drawer comes back.
-fn told(answer: Filled, sum: u64) -> Drawn
+fn told(answer: Result<u32, DrawerError>, sum: u64) -> Drawn
     ensures { result ≡ drawn_with (said_filled answer) sum }
 {
     match answer {
-        Filled::Is(n) => Drawn {
+        Ok(n) => Drawn {
             reason: 0,
             count: n,
             place: 0,
-            sum: sum,
+            sum,
         },
-        Filled::BadDay(i) => Drawn {
+        Err(DrawerError::BadDay { place }) => Drawn {
             reason: 6,
             count: 0,
-            place: i,
+            place,
             sum: 0,
         },
-        Filled::Refused(why) => Drawn {
+        Err(DrawerError::Refused(why)) => Drawn {
             reason: rule::reason_number(why) as u32,
             count: 0,
             place: 0,
@@ -110,12 +112,9 @@ pub extern "C" fn oes_drawn(days: &[u32]) -> Drawn
 {
     let mut records = [blank(); 4096];
     let answer = drawer::fill_dates(days, &mut records);
-    let n = drawer::to_fill(answer);
     let mut sum: u64 = 0;
-    let mut i: usize = 0;
-    while i < n {
-        sum = added(sum, records[i]);
-        i += 1;
+    for &record in &records[..drawer::to_fill(answer)] {
+        sum = added(sum, record);
     }
     told(answer, sum)
 }

@@ -7,12 +7,13 @@ use borrow.Author.Tests.{ne_eqb}
 use Rattle.reading.specs.declared.Field.{Field}
 use Rattle.reading.specs.declared.Field.TheVariants.{Known}
 use Rattle.reading.specs.declared.Reading.{Reading}
+use Rattle.emending.specs.declared.Place.{Place}
 use Rattle.emending.specs.declared.Fault.{Fault}
 use Rattle.emending.specs.declared.Fault.TheVariants.{Without, One, More}
 use Rattle.emending.specs.Faults.{fault_in, together, is_more, name_fault, number_fault, month_fault}
 
 -- a known field, by whether it is the value
-module _ (i : ℕ) {f : Field} {k : ℕ} (v : ℕ) (e : f ≡ Known k) where
+module _ (i : Place) {f : Field} {k : ℕ} (v : ℕ) (e : f ≡ Known k) where
   pub one-fault : (k ≡ v → ⊥) → One i k v ≡ fault_in i f v
   one-fault h = rw (e, ne_eqb k v h)
 

@@ -12,10 +12,11 @@ use Rattle.rule.specs.Lists.{kept, those, placed}
 use Rattle.rule.proofs.Lists.{has-place, at-place, rises}
 use Rattle.reading.specs.declared.Reading.{Reading}
 use Rattle.reading.specs.Readings.{window_days}
+use Rattle.emending.specs.declared.Place.{Place}
 use Rattle.emending.specs.declared.Fault.{Fault}
 use Rattle.emending.specs.declared.Fault.TheVariants.{Without, One, More}
 use Rattle.emending.specs.Faults.{fault, is_one, laid_out, gathered, emendations, emendable}
-use Rattle.emending.specs.Paper.{Place, place_number, Entry, Emendation, ListsEmendations}
+use Rattle.emending.specs.Paper.{Entry, Emendation, ListsEmendations}
 use Rattle.emending.proofs.Gathering.{four-a-day}
 use Rattle.emending.proofs.Literally.{found-fault, made_fault, fits-righted}
 
@@ -86,7 +87,7 @@ module _ (r : Reading) (first last : ℕ) where
   written = emendations r first (window_days first last)
 
   -- the i-th of them, where its day has one fault at p
-  entry_of : (i d : ℕ) (p : Place) (k v : ℕ) → i < length among → get_or among i 0 ≡ d → fault r d ≡ One (place_number p) k v → Entry written i d p k v
+  entry_of : (i d : ℕ) (p : Place) (k v : ℕ) → i < length among → get_or among i 0 ≡ d → fault r d ≡ One p k v → Entry written i d p k v
   unfolding emendations emendable
   entry_of i d p k v h e f =
       record {
@@ -96,13 +97,13 @@ module _ (r : Reading) (first last : ℕ) where
         should-be = at 3 (omega arith);
       }
     where
-      at : (j : ℕ) → j < 4 → get_or written (4 * i + j) 0 ≡ get_or (laid_out d (One (place_number p) k v)) j 0
+      at : (j : ℕ) → j < 4 → get_or written (4 * i + j) 0 ≡ get_or (laid_out d (One p k v)) j 0
       at j l =
           four-at (fault r) first (window_days first last) i j h l
           ∙ ap (λ (n : ℕ). get_or (laid_out n (fault r n)) j 0) e ∙ ap (λ (x : Fault). get_or (laid_out d x) j 0) f
 
   -- a fault that is one
-  one-there : (x : Fault) → is_one x ≡ true → (i : ℕ) × (k : ℕ) × (v : ℕ) × (x ≡ One i k v)
+  one-there : (x : Fault) → is_one x ≡ true → (i : Place) × (k : ℕ) × (v : ℕ) × (x ≡ One i k v)
   one-there Without e = absurd (let o : ◌≡◌ {A = ℕ} 0 1 = cc in omega arith)
   one-there (One i k v) e = (i, k, v, refl)
   one-there More e = absurd (let o : ◌≡◌ {A = ℕ} 0 1 = cc in omega arith)
@@ -118,7 +119,7 @@ module _ (r : Reading) (first last : ℕ) where
         p = f.0;
         k = o.1;
         v = o.2;
-        entry = entry_of i (first + w.i) f.0 o.1 o.2 h w.here (o.3 ∙ ap (λ (n : ℕ). One n o.1 o.2) f.1);
+        entry = entry_of i (first + w.i) f.0 o.1 o.2 h w.here (o.3 ∙ ap (λ (n : Place). One n o.1 o.2) f.1);
         from_first = omega arith;
         to_last = omega (arith, w.inside);
         only-fault = f.2;

@@ -1,4 +1,5 @@
 -- What the request says of emendations, proved, each statement under its name in small letters. Assumes nothing.
+use Rattle.std.specs.Prelude.{Result, Ok, Err}
 use Prim.Native.Nat.{ℕ, ◌+◌, ◌*◌, ◌≤◌, ◌<◌}
 use native.Mathlib.Omega.{arith}
 use native.Mathlib.Decide.{dec_lt}
@@ -16,17 +17,21 @@ use Rattle.dates.specs.Dates.{date_in, date_of}
 use Rattle.reading.specs.declared.Field.TheVariants.{Known, Unread}
 use Rattle.reading.specs.declared.Reading.{Reading}
 use Rattle.reading.specs.Readings.{six_of, window_days, fitting}
-use Rattle.reading.specs.Search.{total}
+use Rattle.reading.specs.Search.{total, said_found}
+use Rattle.reading.proofs.Answered.{found-once}
 use Rattle.reading.specs.Paper.{GoodSearch, SearchFault, all_unread}
 use Rattle.reading.proofs.Paper.{lists-exactly, the-total, search-lists, too-short-says-the-total, all_fit}
 use Rattle.reading.proofs.Computing.{searches-computed}
 use Rattle.emending.specs.declared.Fault.TheVariants.{One}
 use Rattle.emending.specs.declared.Emended.{Emended}
-use Rattle.emending.specs.declared.Emended.TheVariants.{Fits, Are, TooShort, Refused}
+use Rattle.emending.specs.declared.Emended.TheVariants.{Fits, Are}
+use Rattle.reading.specs.declared.SearchError.{SearchError}
+use Rattle.reading.specs.declared.SearchError.TheVariants.{TooShort, Refused}
 use Rattle.emending.specs.Faults.{name_fault, number_fault, month_fault, day_fault, fault, gathered, emendations, emendable}
-use Rattle.emending.specs.Emended.{Outcome, fit, emended, emend_total, emend_at, said_emended, filled_with, EmendsReading}
+use Rattle.emending.specs.Emended.{emend_total, emend_at, filled_with, EmendsReading}
 use Rattle.emending.specs.Paper as Paper
-use Rattle.emending.specs.Paper.{Place, place_number, field_at, OnlyFault, Entry, ListsEmendations, NoneFits, SomeFit}
+use Rattle.emending.specs.declared.Place.{Place}
+use Rattle.emending.specs.Paper.{field_at, OnlyFault, Entry, ListsEmendations, NoneFits, SomeFit}
 use Rattle.emending.proofs.Literally.{found-fault, made_fault, one_place, fits-righted}
 use Rattle.emending.proofs.Passing.{emended-four}
 use Rattle.emending.proofs.Answered.{made, placed-length}
@@ -35,24 +40,23 @@ use Rattle.emending.proofs.Rows.{refuses, fits_said, tells, gives, comes}
 
 pub faults-literally : Paper.FaultsLiterally
 faults-literally r d p k v = (
-  λ e. let w = found-fault r d e in subst (λ (q : Place). OnlyFault r d q k v) (one_place w.0 p (sym w.1)) w.2,
+  λ e. let w = found-fault r d e in subst (λ (q : Place). OnlyFault r d q k v) (sym w.1) w.2,
   made_fault r d p k v,
 )
 
 pub one-fault-a-day : Paper.OneFaultADay
 one-fault-a-day r d p q k l v w a b =
-    let e : One (place_number p) k v ≡ One (place_number q) l w = sym (made_fault r d p k v a) ∙ made_fault r d q l w b in
-    let f : place_number p ≡ place_number q = cc in
-    (one_place p q f, cc, cc)
+    let e : One p k v ≡ One q l w = sym (made_fault r d p k v a) ∙ made_fault r d q l w b in
+    (cc, cc, cc)
 
 pub put-right-fits : Paper.PutRightFits
 put-right-fits = fits-righted
 
 -- the list after the call, by what is said
-lent-after : (r : Reading) (first last : ℕ) (old new : List ℕ) (a : Emended) → EmendsReading r first last old a new →
-    new ≡ afterwards (said_emended a) (filled_with r first last) old
+lent-after : (r : Reading) (first last : ℕ) (old new : List ℕ) (a : Result Emended SearchError) → EmendsReading r first last old a new →
+    new ≡ afterwards (said_found a) (filled_with r first last) old
 lent-after r first last old new a s =
-    s.lent ∙ ap (λ (x : Answer Outcome). afterwards x (filled_with r first last) old) (sym s.answered)
+    s.lent ∙ ap (λ (x : Answer Emended). afterwards x (filled_with r first last) old) (sym s.answered)
 
 -- no day fits, where there are none that do
 none-of-none : (r : Reading) (first last : ℕ) → 0 ≡ total r first last → NoneFits r first last
@@ -108,8 +112,8 @@ module _ (r : Reading) (first last n : ℕ) (e : n ≡ emend_total r first last)
 
 pub emendations-listed : Paper.EmendationsListed
 emendations-listed r first last n old new s =
-    let h = comes r first last (length old) (is (emended n)) s.answered in
-    let f = lent-after r first last old new (Are n) s in
+    let h = comes r first last (length old) (is (Are n)) s.answered in
+    let f = lent-after r first last old new (Ok (Are n)) s in
     let long = as_long r first last n h.2 in (
       h.0,
       record {
@@ -130,7 +134,7 @@ too-short-says-how-many r first last n old new s =
         numbers = emendations r first (window_days first last);
         exactly = all_listed r first last n h.2;
         short = h.3;
-        unchanged = lent-after r first last old new (TooShort n) s;
+        unchanged = lent-after r first last old new (Err (TooShort n)) s;
       },
     )
 
@@ -138,26 +142,26 @@ pub fits-answered : Paper.FitsAnswered
 unfolding total
 fits-answered r first last n old new = (there, λ h. back h.0 h.1 h.2)
   where
-    there : EmendsReading r first last old (Fits n) new → GoodSearch r first last × SomeFit r first last n × (new ≡ old)
+    there : EmendsReading r first last old (Ok (Fits n)) new → GoodSearch r first last × SomeFit r first last n × (new ≡ old)
     there s =
-        let h = comes r first last (length old) (is (fit n)) s.answered in (
+        let h = comes r first last (length old) (is (Fits n)) s.answered in (
           h.0,
           record { days = fitting r first (window_days first last); exactly = lists-exactly r first last; counted = sym h.1; some = h.2 },
-          lent-after r first last old new (Fits n) s,
+          lent-after r first last old new (Ok (Fits n)) s,
         )
 
-    back : GoodSearch r first last → SomeFit r first last n → new ≡ old → EmendsReading r first last old (Fits n) new
+    back : GoodSearch r first last → SomeFit r first last n → new ≡ old → EmendsReading r first last old (Ok (Fits n)) new
     back g h e =
         let t = the-total r first last h.days h.exactly n h.counted in
-        made (Fits n) (fits_said r first last (length old) g (omega (arith, t, h.some)) ∙ ap (λ m. is (fit m)) t) refl e
+        made (Ok (Fits n)) (fits_said r first last (length old) g (omega (arith, t, h.some)) ∙ ap (λ m. is (Fits m)) t) refl e
 
 pub reasons-of-an-emendation : Paper.ReasonsOfAnEmendation
 reasons-of-an-emendation r first last old new why = (
-  λ s. (there s, lent-after r first last old new (Refused why) s),
-  λ h. made (Refused why) (refuses r first last (length old) why h.0) refl h.1,
+  λ s. (there s, lent-after r first last old new (Err (Refused why)) s),
+  λ h. made (Err (Refused why)) (refuses r first last (length old) why h.0) refl h.1,
 )
   where
-    there : EmendsReading r first last old (Refused why) new → SearchFault r first last why
+    there : EmendsReading r first last old (Err (Refused why)) new → SearchFault r first last why
     there s =
         let h = comes r first last (length old) (refused (reason_number why)) s.answered in
         subst (SearchFault r first last) (one-to-one reason_number reason_of reason-back h.0 why h.1) h.2
@@ -165,33 +169,18 @@ reasons-of-an-emendation r first last old new why = (
 pub refusal-changes-nothing : Paper.RefusalChangesNothing
 refusal-changes-nothing =
     record {
-      refused-one = λ r first last old new why. lent-after r first last old new (Refused why);
-      too_short = λ r first last n old new. lent-after r first last old new (TooShort n);
+      refused-one = λ r first last old new why. lent-after r first last old new (Err (Refused why));
+      too_short = λ r first last n old new. lent-after r first last old new (Err (TooShort n));
     }
 
--- an answer can be read back from what it says
-back-to-emended : Answer Outcome → Emended
-back-to-emended (is (fit n)) = Fits n
-back-to-emended (is (emended n)) = Are n
-back-to-emended (refused k) = Refused (reason_of k)
-back-to-emended (refused-with k n) = TooShort n
-
 pub unique-emendation : Paper.UniqueEmendation
-unfolding back-to-emended
-unique-emendation r first last old a b new other p q =
-    (one-to-one said_emended back-to-emended again a b (p.answered ∙ sym q.answered), p.lent ∙ sym q.lent)
-  where
-    again : (a : Emended) → back-to-emended (said_emended a) ≡ a
-    again (Fits n) = refl
-    again (Are n) = refl
-    again (TooShort n) = refl
-    again (Refused w) = ap Refused (reason-back w)
+unique-emendation r first last old a b new other p q = (found-once a b (p.answered ∙ sym q.answered), p.lent ∙ sym q.lent)
 
 -- where n days fit, it is what the emendation says
-says_so : (r : Reading) (first last n : ℕ) (old new : List ℕ) (a : Emended) → GoodSearch r first last → SomeFit r first last n →
-    EmendsReading r first last old a new → (a ≡ Fits n) × (new ≡ old)
+says_so : (r : Reading) (first last n : ℕ) (old new : List ℕ) (a : Result Emended SearchError) → GoodSearch r first last → SomeFit r first last n →
+    EmendsReading r first last old a new → (a ≡ Ok (Fits n)) × (new ≡ old)
 says_so r first last n old new a g f s =
-    unique-emendation r first last old a (Fits n) new old s ((fits-answered r first last n old old).1 (g, f, refl))
+    unique-emendation r first last old a (Ok (Fits n)) new old s ((fits-answered r first last n old old).1 (g, f, refl))
 
 -- a list without length is empty
 empty : (xs : List ℕ) → length xs ≡ 0 → xs ≡ []
@@ -210,7 +199,7 @@ never_both =
           says_so r first last n old' new' a h.0
           (record { days = h.1.days; exactly = h.1.exactly; counted = h.1.counted; some = omega (arith, h.1.short) }) t;
       where-emended = λ r first last n m old new old' new' s t.
-          let z = (comes r first last (length old) (is (emended n)) s.answered).1 in
+          let z = (comes r first last (length old) (is (Are n)) s.answered).1 in
           let h = ((search-lists r first last m old' new').0 t).1 in
           let e : m ≡ 0 = omega (arith, z, the-total r first last h.days h.exactly m h.counted) in
           (e, h.filled ∙ ap (λ (l : List ℕ). placed l old') (empty h.days (h.counted ∙ e)));
@@ -243,20 +232,20 @@ none_found r first last none = go (dec_lt 0 (length (fitting r first (window_day
     go (no n) = omega (arith, n)
 
 -- the emendations given, where there is room
-module _ (r : Reading) (first last : ℕ) (old new : List ℕ) (a : Emended) (g : GoodSearch r first last) (none : NoneFits r first last) where
+module _ (r : Reading) (first last : ℕ) (old new : List ℕ) (a : Result Emended SearchError) (g : GoodSearch r first last) (none : NoneFits r first last) where
   given : EmendsReading r first last old a new → 4 * emend_total r first last ≤ length old →
-      (a ≡ Are (emend_total r first last)) × (new ≡ placed (emendations r first (window_days first last)) old)
+      (a ≡ Ok (Are (emend_total r first last))) × (new ≡ placed (emendations r first (window_days first last)) old)
   given s h =
-      unique-emendation r first last old a (Are (emend_total r first last)) new _ s
-      (made (Are (emend_total r first last)) (gives r first last (length old) g (none_found r first last none) h) refl refl)
+      unique-emendation r first last old a (Ok (Are (emend_total r first last))) new _ s
+      (made (Ok (Are (emend_total r first last))) (gives r first last (length old) g (none_found r first last none) h) refl refl)
 
-  told : EmendsReading r first last old a new → length old < 4 * emend_total r first last → a ≡ TooShort (emend_total r first last)
+  told : EmendsReading r first last old a new → length old < 4 * emend_total r first last → a ≡ Err (TooShort (emend_total r first last))
   told s h =
-      (unique-emendation r first last old a (TooShort (emend_total r first last)) new old s
-      (made (TooShort (emend_total r first last)) (tells r first last (length old) g (none_found r first last none) h) refl refl)).0
+      (unique-emendation r first last old a (Err (TooShort (emend_total r first last))) new old s
+      (made (Err (TooShort (emend_total r first last))) (tells r first last (length old) g (none_found r first last none) h) refl refl)).0
 
   one-or-other : EmendsReading r first last old a new → Dec (length old < 4 * emend_total r first last) →
-      ((n : ℕ) × (a ≡ Are n) × (4 * n ≤ length old)) ⊎ ((n : ℕ) × (a ≡ TooShort n) × (length old < 4 * n))
+      ((n : ℕ) × (a ≡ Ok (Are n)) × (4 * n ≤ length old)) ⊎ ((n : ℕ) × (a ≡ Err (TooShort n)) × (length old < 4 * n))
   one-or-other s (yes h) = inr (emend_total r first last, told s h, h)
   one-or-other s (no n) = let h : 4 * emend_total r first last ≤ length old = omega (arith, n) in inl (emend_total r first last, (given s h).0, h)
 
@@ -276,7 +265,7 @@ where-none-fits =
           let z = without r first last old new a g none f (dec_lt 0 (emend_total r first last)) in
           let w = given r first last old new a g none s (omega (arith, z)) in
           let e = empty (emendations r first (window_days first last)) (omega (arith, z, as_long r first last (emend_total r first last) refl)) in
-          (w.0 ∙ ap Are z, w.1 ∙ ap (λ (l : List ℕ). placed l old) e);
+          (w.0 ∙ ap (λ m. Ok (Are m)) z, w.1 ∙ ap (λ (l : List ℕ). placed l old) e);
     }
 
 pub second-of-two-big-emended : Paper.SecondOfTwoBigEmended
@@ -296,23 +285,23 @@ unfolding computing
 wrong-emendations =
     record {
       refusing-all = λ why new s.
-          let e : ◌≡◌ {A = Answer Outcome} (refused (reason_number why)) (is (emended 1)) = s.answered in
+          let e : ◌≡◌ {A = Answer Emended} (refused (reason_number why)) (is (Are 1)) = s.answered in
           let o : ◌≡◌ {A = ℕ} 0 1 = cc in omega arith;
       short-for-all = λ n new s.
-          let e : ◌≡◌ {A = Answer Outcome} (refused-with 12 n) (is (emended 1)) = s.answered in
+          let e : ◌≡◌ {A = Answer Emended} (refused-with 12 n) (is (Are 1)) = s.answered in
           let o : ◌≡◌ {A = ℕ} 0 1 = cc in omega arith;
       fitting-all = λ n new s.
-          let e : ◌≡◌ {A = Answer Outcome} (is (fit n)) (is (emended 1)) = s.answered in
+          let e : ◌≡◌ {A = Answer Emended} (is (Fits n)) (is (Are 1)) = s.answered in
           let o : ◌≡◌ {A = ℕ} 0 1 = cc in omega arith;
       second-big-left-out = λ a s.
           let e : ◌≡◌ {A = List ℕ} (5 ∷ 5 ∷ 5 ∷ 5 ∷ []) (3838 ∷ 4 ∷ 29 ∷ 30 ∷ []) = s.lent in omega (arith, ap (λ (l : List ℕ). get_or l 0 0) e);
       two-faults = λ a new h s. h s.lent;
-      two-faults-counted = λ n new h s. h (let e : ◌≡◌ {A = Answer Outcome} (is (emended n)) (is (emended 0)) = s.answered in cc);
+      two-faults-counted = λ n new h s. h (let e : ◌≡◌ {A = Answer Emended} (is (Are n)) (is (Are 0)) = s.answered in cc);
       two-faults-short = λ n new s.
-          let e : ◌≡◌ {A = Answer Outcome} (refused-with 12 n) (is (emended 0)) = s.answered in
+          let e : ◌≡◌ {A = Answer Emended} (refused-with 12 n) (is (Are 0)) = s.answered in
           let o : ◌≡◌ {A = ℕ} 0 1 = cc in omega arith;
-      inventing = λ n new h s. h (let e : ◌≡◌ {A = Answer Outcome} (is (emended n)) (is (emended 1)) = s.answered in cc);
-      counting-numbers = λ n new h s. h (let e : ◌≡◌ {A = Answer Outcome} (refused-with 12 n) (refused-with 12 1) = s.answered in cc);
+      inventing = λ n new h s. h (let e : ◌≡◌ {A = Answer Emended} (is (Are n)) (is (Are 1)) = s.answered in cc);
+      counting-numbers = λ n new h s. h (let e : ◌≡◌ {A = Answer Emended} (refused-with 12 n) (refused-with 12 1) = s.answered in cc);
       first_alone = λ a s.
           let e : ◌≡◌ {A = List ℕ} (0 ∷ 1 ∷ 17 ∷ 16 ∷ 5 ∷ 5 ∷ 5 ∷ 5 ∷ []) (0 ∷ 1 ∷ 17 ∷ 16 ∷ 1 ∷ 1 ∷ 17 ∷ 16 ∷ []) = s.lent in
           omega (arith, ap (λ (l : List ℕ). get_or l 4 0) e);
@@ -322,7 +311,7 @@ wrong-emendations =
           let e : ◌≡◌ {A = List ℕ} (3838 ∷ 4 ∷ 30 ∷ 29 ∷ []) (3838 ∷ 4 ∷ 29 ∷ 30 ∷ []) = s.lent in omega (arith, ap (λ (l : List ℕ). get_or l 2 0) e);
       touched-though-fitting = λ a new h s. h s.lent;
       short-though-fitting = λ n new s.
-          let e : ◌≡◌ {A = Answer Outcome} (refused-with 12 n) (is (fit 1)) = s.answered in
+          let e : ◌≡◌ {A = Answer Emended} (refused-with 12 n) (is (Fits 1)) = s.answered in
           let o : ◌≡◌ {A = ℕ} 0 1 = cc in omega arith;
       written-before-refusal = λ a x h s. h (let e : ◌≡◌ {A = List ℕ} (x ∷ []) (5 ∷ []) = s.lent in ap (λ (l : List ℕ). get_or l 0 0) e);
       emendation-before-refusal = λ a s.

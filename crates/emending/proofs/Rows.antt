@@ -1,4 +1,6 @@
 -- What an emendation comes to: a fault of the paper's rows, the days that fit, the emendations given, or their total told. Assumes nothing.
+use Rattle.emending.specs.declared.Emended.TheVariants.{Fits, Are}
+use Rattle.emending.specs.declared.Emended.{Emended}
 use Prim.Native.Nat.{ℕ, ◌*◌, ◌≤◌, ◌<◌}
 use native.Mathlib.Omega.{arith}
 use native.Mathlib.Decide.{dec_lt}
@@ -13,7 +15,7 @@ use Rattle.reading.specs.Search.{total}
 use Rattle.reading.specs.Paper.{SearchFault, GoodSearch}
 use Rattle.reading.proofs.Rows.{refuses-any, lets-through, good-or-not}
 use Rattle.emending.specs.Faults.{emendations}
-use Rattle.emending.specs.Emended.{Outcome, fit, emended, emend_total, emend_at}
+use Rattle.emending.specs.Emended.{emend_total, emend_at}
 use Rattle.emending.proofs.Passing.{emended-four}
 use Rattle.emending.proofs.Answered.{some_fit, as_many, too_short, enough}
 
@@ -23,7 +25,7 @@ module _ (r : Reading) (first last room : ℕ) where
   refuses why h = refuses-any r first last _ why h
 
   module _ (g : GoodSearch r first last) where
-    pub fits_said : 0 < total r first last → emend_at r first last room ≡ is (fit (total r first last))
+    pub fits_said : 0 < total r first last → emend_at r first last room ≡ is (Fits (total r first last))
     unfolding total
     fits_said h = some_fit r first last room (lets-through r first last g) (total r first last) refl h
 
@@ -42,20 +44,20 @@ module _ (r : Reading) (first last room : ℕ) where
           too_short r first last room (lets-through r first last g) z numbers refl (omega (arith, four-times, h))
           ∙ ap (refused-with 12) (as_many r first last room (lets-through r first last g) z numbers refl)
 
-      pub gives : 4 * emend_total r first last ≤ room → emend_at r first last room ≡ is (emended (emend_total r first last))
+      pub gives : 4 * emend_total r first last ≤ room → emend_at r first last room ≡ is (Are (emend_total r first last))
       unfolding total
       gives h =
           enough r first last room (lets-through r first last g) z numbers refl (omega (arith, four-times, h))
-          ∙ ap (λ n. is (emended n)) (as_many r first last room (lets-through r first last g) z numbers refl)
+          ∙ ap (λ n. is (Are n)) (as_many r first last room (lets-through r first last g) z numbers refl)
 
   -- by what is said
-  abbrev Comes : Answer Outcome → Type 0
-  Comes (is (fit n)) = GoodSearch r first last × (n ≡ total r first last) × (0 < n)
-  Comes (is (emended n)) = GoodSearch r first last × (0 ≡ total r first last) × (n ≡ emend_total r first last) × (4 * n ≤ room)
+  abbrev Comes : Answer Emended → Type 0
+  Comes (is (Fits n)) = GoodSearch r first last × (n ≡ total r first last) × (0 < n)
+  Comes (is (Are n)) = GoodSearch r first last × (0 ≡ total r first last) × (n ≡ emend_total r first last) × (4 * n ≤ room)
   Comes (refused k) = (why : Reason) × (reason_number why ≡ k) × SearchFault r first last why
   Comes (refused-with k n) = GoodSearch r first last × (0 ≡ total r first last) × (n ≡ emend_total r first last) × (room < 4 * n)
 
-  pub comes : (x : Answer Outcome) → x ≡ emend_at r first last room → Comes x
+  pub comes : (x : Answer Emended) → x ≡ emend_at r first last room → Comes x
   comes x said =
       subst Comes (sym said)
       (⊎_elim (λ (g : GoodSearch r first last). good g (dec_lt 0 (total r first last)))

@@ -7,16 +7,27 @@ use Rattle.reading.specs.declared.Field.{Field}
 use Rattle.reading.specs.declared.Field.TheVariants.{Known, Unread}
 use Rattle.reading.specs.declared.Reading.{Reading}
 use Rattle.reading.specs.Readings.{mark_number, field_fits}
+use Rattle.emending.specs.declared.Place.{Place}
+use Rattle.emending.specs.declared.Place.TheVariants.{YearName, MonthNumber, LeapMark, DayOfMonth, DayName, FirstName}
 use Rattle.emending.specs.declared.Fault.{Fault}
 use Rattle.emending.specs.declared.Fault.TheVariants.{Without, One, More}
+
+-- the six fields, "1 to 6 in the reading's order"
+abbrev pub place_number : Place → ℕ
+place_number YearName = 1
+place_number MonthNumber = 2
+place_number LeapMark = 3
+place_number DayOfMonth = 4
+place_number DayName = 5
+place_number FirstName = 6
 
 -- what was read in a known field
 abbrev pub read_in : Field → ℕ
 read_in (Known k) = k
 read_in Unread = 0
 
--- "which field, what was read and what it should be": field i, where it does not fit a value
-abbrev pub fault_in : ℕ → Field → ℕ → Fault
+-- "which field, what was read and what it should be": the field at i, where it does not fit a value
+abbrev pub fault_in : Place → Field → ℕ → Fault
 fault_in i f value = cond (field_fits f value) Without (One i (read_in f) value)
 
 -- the faults of two parts together
@@ -36,16 +47,16 @@ is_more More = true
 -- by the four values that all days of month n share, its two names, fields 1 and 6, and its number and mark, 2 and 3; and by a day's own two,
 -- 4 and 5, its month starting on day s
 unfoldable pub name_fault : Reading → ℕ → Fault
-name_fault r n = together (fault_in 1 r.year_name (year_name (civil_year_of_month n))) (fault_in 6 r.first_name (day_name (month_start n)))
+name_fault r n = together (fault_in YearName r.year_name (year_name (civil_year_of_month n))) (fault_in FirstName r.first_name (day_name (month_start n)))
 
 unfoldable pub number_fault : Reading → ℕ → Fault
-number_fault r n = together (fault_in 2 r.month_number (month_number n)) (fault_in 3 r.leap_mark (mark_number (leap n)))
+number_fault r n = together (fault_in MonthNumber r.month_number (month_number n)) (fault_in LeapMark r.leap_mark (mark_number (leap n)))
 
 unfoldable pub month_fault : Reading → ℕ → Fault
 month_fault r n = together (name_fault r n) (number_fault r n)
 
 unfoldable pub day_fault : Reading → ℕ → ℕ → Fault
-day_fault r s d = together (fault_in 4 r.day_of_month (d - s + 1)) (fault_in 5 r.day_name (day_name d))
+day_fault r s d = together (fault_in DayOfMonth r.day_of_month (d - s + 1)) (fault_in DayName r.day_name (day_name d))
 
 -- what a reading disagrees in with day d: in nothing, in one known field, or in more (Paper, FaultsLiterally, says the second of the six)
 unfoldable pub fault : Reading → ℕ → Fault
@@ -60,7 +71,7 @@ is_one More = false
 -- an emendation in four numbers: day, field, what was read, what it should be
 abbrev pub laid_out : ℕ → Fault → List ℕ
 laid_out d Without = []
-laid_out d (One i k v) = d ∷ i ∷ k ∷ v ∷ []
+laid_out d (One i k v) = d ∷ place_number i ∷ k ∷ v ∷ []
 laid_out d More = []
 
 -- of the k days from a on, what f gives for each, one after the other

@@ -1,46 +1,76 @@
 // Emending a misread slip: where no day of a window fits a reading, every day that disagrees with exactly one known field, with that field,
 // what was read and what it should be, four numbers each in a lent list.
+// A range is asked for in one word of a `requires` and by no type: rule's functions take plain numbers
+// (docs/DECISIONS.md, 263).
 #![tactic(auto)]
 
 ghost use Rattle.std.specs.Prelude.{◌≡◌, ◌+◌, ◌-◌, ◌*◌, ◌≤◌, ◌<◌, true, cond, [], ◌∷◌, length};
 ghost use Rattle.std.proofs.lemmas.List.Edits.{sets};
 ghost use Rattle.rule.specs.Lists.{placed};
-ghost use Rattle.reading.specs.Readings.{PartOfMonth};
 ghost use Rattle.rule.specs.Counts.{MonthInRange};
-ghost use Rattle.emending.specs.Faults.{fault_in, together, is_more, name_fault, number_fault, month_fault, day_fault, laid_out, days_out, emendations, NoneBetween};
+ghost use Rattle.rule.specs.Rule.{month_start};
+ghost use Rattle.emending.specs.Faults.{place_number, fault_in, together, is_more, name_fault, number_fault, month_fault, day_fault, laid_out, days_out, emendations, NoneBetween};
 ghost use Rattle.emending.specs.Emended.{EmendsReading};
 
-use reading::{Field, Reading, Tested};
-use rule::Reason;
+use reading::{Field, Part, Reading, SearchError};
 
-// What a reading disagrees in: in nothing; in one known field, with its number, what was read and what it should be; or in more.
-#[derive(Clone, Copy)]
+// The six fields of a reading, in the paper's order.
+#[derive(Debug, Clone, Copy, PartialEq)]
+enum Place {
+    YearName,
+    MonthNumber,
+    LeapMark,
+    DayOfMonth,
+    DayName,
+    FirstName,
+}
+
+// The field's number, 1 to 6, as an emendation is given.
+impl From<Place> for u32 {
+    ghost from_gives = { λ place number. number ≡ place_number place };
+
+    fn from(place: Place) -> u32 {
+        match place {
+            Place::YearName => 1,
+            Place::MonthNumber => 2,
+            Place::LeapMark => 3,
+            Place::DayOfMonth => 4,
+            Place::DayName => 5,
+            Place::FirstName => 6,
+        }
+    }
+}
+
+// What a reading disagrees in: in nothing; in one known field, what was read there and what is right; or in more.
+// (Three cases: neither an Option nor a Result says them.)
+#[derive(Debug, Clone, Copy, PartialEq)]
 enum Fault {
     Without,
-    One(u32, u32, u32),
+    One { place: Place, read: u32, right: u32 },
     More,
 }
 
-// The answer of an emendation: how many days fit; or how many emendations there are; or that the lent list is too short for so many; or why it
-// comes back.
-#[derive(Clone, Copy)]
+// The answer of an emendation: how many days fit; or how many emendations there are.
+#[derive(Debug, Clone, Copy, PartialEq)]
 pub enum Emended {
     Fits(u32),
     Are(u32),
-    TooShort(u32),
-    Refused(Reason),
 }
 
-// The fault of a field, by its number, where it does not fit a value.
-fn fault_in(i: u32, f: Field, value: u32) -> Fault
-    ensures { result ≡ fault_in i f value }
+// The fault of the field at a place, where it does not fit a value.
+fn fault_in(place: Place, f: Field, value: u32) -> Fault
+    ensures { result ≡ fault_in place f value }
 {
     match f {
         Field::Known(k) => {
             if k == value {
                 Fault::Without
             } else {
-                Fault::One(i, k, value)
+                Fault::One {
+                    place,
+                    read: k,
+                    right: value,
+                }
             }
         }
         Field::Unread => Fault::Without,
@@ -51,14 +81,10 @@ fn fault_in(i: u32, f: Field, value: u32) -> Fault
 fn together(a: Fault, b: Fault) -> Fault
     ensures { result ≡ together a b }
 {
-    match a {
-        Fault::Without => b,
-        Fault::One(i, k, v) => match b {
-            Fault::Without => Fault::One(i, k, v),
-            Fault::One(_, _, _) => Fault::More,
-            Fault::More => Fault::More,
-        },
-        Fault::More => Fault::More,
+    match (a, b) {
+        (Fault::Without, _) => b,
+        (Fault::One { .. }, Fault::Without) => a,
+        _ => Fault::More,
     }
 }
 
@@ -66,22 +92,25 @@ fn together(a: Fault, b: Fault) -> Fault
 fn is_more(a: Fault) -> bool
     ensures { result ≡ is_more a }
 {
-    match a {
-        Fault::Without => false,
-        Fault::One(_, _, _) => false,
-        Fault::More => true,
-    }
+    matches!(a, Fault::More)
 }
 
 // The fault of a month's two names, of its year and of its first day.
+// (As `number_fault`: two fields each, and the second is looked at only where the first allows it.)
 fn name_fault(r: Reading, n: u32) -> Fault
     requires { MonthInRange n }
     ensures { result ≡ name_fault r n }
 {
-    let f1 = r.year_name;
-    let f6 = r.first_name;
-    let year = fault_in(1, f1, rule::year_name(rule::civil_year_of_month(n)) as u32);
-    let first = fault_in(6, f6, rule::day_name(rule::month_start(n)) as u32);
+    let year = fault_in(
+        Place::YearName,
+        r.year_name,
+        rule::year_name(rule::civil_year_of_month(n)) as u32,
+    );
+    let first = fault_in(
+        Place::FirstName,
+        r.first_name,
+        rule::day_name(rule::month_start(n)) as u32,
+    );
     together(year, first)
 }
 
@@ -90,10 +119,16 @@ fn number_fault(r: Reading, n: u32) -> Fault
     requires { MonthInRange n }
     ensures { result ≡ number_fault r n }
 {
-    let f2 = r.month_number;
-    let f3 = r.leap_mark;
-    let number = fault_in(2, f2, rule::month_number(n) as u32);
-    let mark = fault_in(3, f3, reading::mark_number(rule::is_leap(n)));
+    let number = fault_in(
+        Place::MonthNumber,
+        r.month_number,
+        rule::month_number(n) as u32,
+    );
+    let mark = fault_in(
+        Place::LeapMark,
+        r.leap_mark,
+        reading::mark_number(rule::is_leap(n)),
+    );
     together(number, mark)
 }
 
@@ -114,15 +149,14 @@ fn day_fault(r: Reading, start: u32, day: u32) -> Fault
     requires { (start ≤ day) × (day < start + 30) }
     ensures { result ≡ day_fault r start day }
 {
-    let f4 = r.day_of_month;
-    let f5 = r.day_name;
     together(
-        fault_in(4, f4, day - start + 1),
-        fault_in(5, f5, rule::day_name(day) as u32),
+        fault_in(Place::DayOfMonth, r.day_of_month, day - start + 1),
+        fault_in(Place::DayName, r.day_name, rule::day_name(day) as u32),
     )
 }
 
 // Four numbers put into the list at a place, or only counted; the place after them.
+// (One walk counts and writes, as `write` says: one clause says both, and two walks would each need the laws of it.)
 fn put_four(
     day: u32,
     i: u32,
@@ -152,60 +186,57 @@ fn put_fault(a: Fault, day: u32, out: &mut [u32], at: usize, write: bool) -> usi
 {
     match a {
         Fault::Without => at,
-        Fault::One(i, read, value) => put_four(day, i, read, value, out, at, write),
+        Fault::One { place, read, right } => put_four(
+            day,
+            u32::from(place),
+            read,
+            right,
+            out,
+            at,
+            write,
+        ),
         Fault::More => at,
     }
 }
 
-// The emendations of the days from `from` up to `to`, all in the month that starts on a day and whose own fault is given, put into the list from
-// a place on, or only counted; the place after them.
+// The emendations of the days of a part whose month's own fault is given, put into the list from a place on, or only counted; the place after
+// them.
 fn emend_days(
     r: Reading,
     shared: Fault,
-    start: u32,
-    from: u32,
-    to: u32,
+    part: Part,
     out: &mut [u32],
     at: usize,
     write: bool,
 ) -> usize
-    requires { (start ≤ from) × (from ≤ to) × (to ≤ start + 30) × (at + 4 * (to - from) ≤ 59959440) × (write ≡ true → at + length (days_out r shared start from (to - from)) ≤ length out.old) }
-    ensures { (result ≡ at + length (days_out r shared start from (to - from))) × (out.new ≡ cond write (sets out.old at (days_out r shared start from (to - from))) out.old) }
+    requires { (at + 4 * (part.to - part.from) ≤ 59959440) × (write ≡ true → at + length (days_out r shared (month_start part.month) part.from (part.to - part.from)) ≤ length out.old) }
+    ensures { (result ≡ at + length (days_out r shared (month_start part.month) part.from (part.to - part.from))) × (out.new ≡ cond write (sets out.old at (days_out r shared (month_start part.month) part.from (part.to - part.from))) out.old) }
 {
+    let start = rule::month_start(part.month);
     let mut k = at;
-    let mut day = from;
-    while day < to {
+    for day in part.from..part.to {
         let own = day_fault(r, start, day);
         let all = together(shared, own);
         k = put_fault(all, day, out, k, write);
-        day += 1;
     }
     k
 }
 
-// The emendations of the days of a month from `from` up to `to`, put into the list from a place on, or only counted; the place after them. A
-// month with more than one fault of its own has none.
-fn emend_month(
-    r: Reading,
-    n: u32,
-    from: u32,
-    to: u32,
-    out: &mut [u32],
-    at: usize,
-    write: bool,
-) -> usize
-    requires { PartOfMonth n from to × (at + 4 * (to - from) ≤ 59959440) × (write ≡ true → at + length (emendations r from (to - from)) ≤ length out.old) }
-    ensures { (result ≡ at + length (emendations r from (to - from))) × (out.new ≡ cond write (sets out.old at (emendations r from (to - from))) out.old) }
+// The emendations of the days of a part, put into the list from a place on, or only counted; the place after them. A month with more than one
+// fault of its own has none.
+fn emend_month(r: Reading, part: Part, out: &mut [u32], at: usize, write: bool) -> usize
+    requires { (at + 4 * (part.to - part.from) ≤ 59959440) × (write ≡ true → at + length (emendations r part.from (part.to - part.from)) ≤ length out.old) }
+    ensures { (result ≡ at + length (emendations r part.from (part.to - part.from))) × (out.new ≡ cond write (sets out.old at (emendations r part.from (part.to - part.from))) out.old) }
 {
-    let shared = month_fault(r, n);
+    let shared = month_fault(r, part.month);
     if is_more(shared) {
         return at;
     }
-    emend_days(r, shared, rule::month_start(n), from, to, out, at, write)
+    emend_days(r, shared, part, out, at, write)
 }
 
 // The first month from n on that has at most one fault of its own, or one that starts at `end` or after it. A loop of its own, so that the
-// months without an emendation, nearly all, are passed over lightly.
+// months without an emendation, nearly all, are passed over lightly; by hand, since it ends by a month's start and no range says that.
 fn skip_months(r: Reading, n: u32, end: u32) -> u32
     requires { (n ≤ 507600) × (end ≤ 14989860) }
     ensures { (n ≤ result) × (result ≤ 507600) × NoneBetween r end n result }
@@ -223,7 +254,7 @@ fn skip_months(r: Reading, n: u32, end: u32) -> u32
 }
 
 // The emendations of the days from `first` up to `end`, put into the front of the list, month by month, or only counted; how many numbers they
-// are.
+// are. A loop by hand: it goes on at the month that skip_months found, which no range says.
 fn emend_window(r: Reading, first: u32, end: u32, out: &mut [u32], write: bool) -> usize
     requires { (first < end) × (end ≤ 14989860) × (write ≡ true → length (emendations r first (end - first)) ≤ length out.old) }
     ensures { (result ≡ length (emendations r first (end - first))) × (out.new ≡ cond write (placed (emendations r first (end - first)) out.old) out.old) }
@@ -233,7 +264,12 @@ fn emend_window(r: Reading, first: u32, end: u32, out: &mut [u32], write: bool) 
     let mut n = rule::month_of_day(first);
     while day < end {
         let to = reading::part_end(n, end);
-        k = emend_month(r, n, day, to, out, k, write);
+        let part = Part {
+            month: n,
+            from: day,
+            to,
+        };
+        k = emend_month(r, part, out, k, write);
         n = skip_months(r, n + 1, end);
         day = reading::part_end(n - 1, end);
     }
@@ -242,23 +278,22 @@ fn emend_window(r: Reading, first: u32, end: u32, out: &mut [u32], write: bool) 
 
 // Where a day of the window fits the reading, how many do; else every day that disagrees with exactly one known field, four numbers each at the
 // front of the lent list. Only a list with fewer than four places for each day can be too short: then they are counted first.
-pub fn emend(r: Reading, first: u32, last: u32, out: &mut [u32]) -> Emended
+pub fn emend(r: Reading, first: u32, last: u32, out: &mut [u32]) -> Result<Emended, SearchError>
     ensures { EmendsReading r first last out.old result out.new }
 {
-    let tested = reading::test_search(r, first, last);
-    if let Tested::Fails(why) = tested {
-        return Emended::Refused(why);
-    }
+    reading::test_search(r, first, last)?;
     let end = last + 1;
     let fits = reading::count_window(r, first, end);
     if 0 < fits {
-        return Emended::Fits(fits);
+        return Ok(Emended::Fits(fits));
     }
     if out.len() < 4 * ((end - first) as usize) {
         let numbers = emend_window(r, first, end, out, false);
         if out.len() < numbers {
-            return Emended::TooShort((numbers / 4) as u32);
+            return Err(SearchError::TooShort {
+                total: (numbers / 4) as u32,
+            });
         }
     }
-    Emended::Are((emend_window(r, first, end, out, true) / 4) as u32)
+    Ok(Emended::Are((emend_window(r, first, end, out, true) / 4) as u32))
 }

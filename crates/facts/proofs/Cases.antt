@@ -1,7 +1,7 @@
 -- Figures of the paper at which a wrong definition shows at once. Assumes nothing.
+use Rattle.std.specs.Prelude.{Some}
 use mathlib.Core.Path.{◌≡◌, refl}
 use Rattle.rule.specs.Reasons.{is, refused}
-use Rattle.facts.specs.declared.LeapMonth.TheVariants.{With}
 use Rattle.facts.specs.Facts.{solstice_year, solstice_year_at, leap_month, year_facts_at, month_facts_at, term_at}
 use Rattle.facts.proofs.Computing.{facts-computed}
 
@@ -38,6 +38,6 @@ unfolding facts-computed
 head-of-77 = refl
 
 -- case 8: "Year 11: leap 9, month 134."
-pub leap-of-11 : leap_month 11 ≡ With 9 134
+pub leap-of-11 : leap_month 11 ≡ Some (record { number = 9; month = 134 })
 unfolding facts-computed
 leap-of-11 = refl

@@ -1,4 +1,5 @@
 -- What each call gives is exactly what the paper says of it, and nothing else is. Assumes nothing.
+use Rattle.std.specs.Prelude.{Option, Some, None}
 use Prim.Native.Nat.{ℕ, ◌+◌, ◌-◌, ◌*◌, ◌/◌, ◌≤◌, ◌<◌}
 use native.Mathlib.Omega.{arith}
 use mathlib.Core.Path.{◌≡◌, refl, ap, sym, ◌∙◌}
@@ -39,7 +40,6 @@ use Rattle.rule.proofs.Pairs.{lt-or-le}
 use Rattle.rule.proofs.Paper as Rule
 use Rattle.facts.specs.declared.SolsticeYear.{SolsticeYear}
 use Rattle.facts.specs.declared.LeapMonth.{LeapMonth}
-use Rattle.facts.specs.declared.LeapMonth.TheVariants.{Without, With}
 use Rattle.facts.specs.declared.YearFacts.{YearFacts}
 use Rattle.facts.specs.declared.MonthFacts.{MonthFacts}
 use Rattle.facts.specs.Facts.{solstice_year, leap_month, year_facts, month_facts, quarter_of, term_of}
@@ -197,26 +197,26 @@ module _ (y : ℕ) (l : CivilYearInRange y) where
   pub leap-there : LeapMonthOf y (leap_month y)
   leap-there = record { with-one = λ k n. (there k n, back k n); without = (none, λ h. leap-none y l (λ n i. ordinary h n i (leap n) refl)) }
     where
-      there : (k n : ℕ) → leap_month y ≡ With k n → InCivilYear y n × IsMonth n (Leap k)
+      there : (k n : ℕ) → leap_month y ≡ Some (record { number = k; month = n }) → InCivilYear y n × IsMonth n (Leap k)
       there k n f = let h = leap-is y k n l f in (h.0, (Rule.month-literally n (Leap k)).0 (at_mark n k true h.1 h.2))
 
-      back : (k n : ℕ) → InCivilYear y n × IsMonth n (Leap k) → leap_month y ≡ With k n
+      back : (k n : ℕ) → InCivilYear y n × IsMonth n (Leap k) → leap_month y ≡ Some (record { number = k; month = n })
       back k n h =
           let e : month_at n ≡ Leap k = (Rule.month-literally n (Leap k)).1 h.1 in
-          leap-found y n h.0 (sym (mark-at n) ∙ ap leap_mark e) ∙ ap (λ (j : ℕ). With j n) (sym (number_at n) ∙ ap number_of e)
+          leap-found y n h.0 (sym (mark-at n) ∙ ap leap_mark e) ∙ ap (λ (j : ℕ). Some (record { number = j; month = n })) (sym (number_at n) ∙ ap number_of e)
 
-      none : leap_month y ≡ Without → (n : ℕ) → InCivilYear y n → NoMidTerm n → ⊥
+      none : leap_month y ≡ None → (n : ℕ) → InCivilYear y n → NoMidTerm n → ⊥
       none e n i h =
-          let g : leap_month y ≡ With (month_number n) n = leap-found y n i ((Rule.leap-without-mid-term n).1 h) in
+          let g : leap_month y ≡ Some (record { number = month_number n; month = n }) = leap-found y n i ((Rule.leap-without-mid-term n).1 h) in
           let o : ◌≡◌ {A = ℕ} 0 1 = cc in omega arith
 
       ordinary : ((n : ℕ) → InCivilYear y n → NoMidTerm n → ⊥) → (n : ℕ) → InCivilYear y n → (b : Bool) → leap n ≡ b → leap n ≡ false
       ordinary h n i true e = absurd (h n i ((Rule.leap-without-mid-term n).0 e))
       ordinary h n i false e = e
 
-  leap-only : (m : LeapMonth) → LeapMonthOf y m → m ≡ leap_month y
-  leap-only Without h = sym (leap-there.without.1 (h.without.0 refl))
-  leap-only (With k n) h = sym ((leap-there.with-one k n).1 ((h.with-one k n).0 refl))
+  leap-only : (m : Option LeapMonth) → LeapMonthOf y m → m ≡ leap_month y
+  leap-only None h = sym (leap-there.without.1 (h.without.0 refl))
+  leap-only (Some l) h = sym ((leap-there.with-one l.number l.month).1 ((h.with-one l.number l.month).0 refl))
 
   -- its own facts
   year-there : IsYearFacts y (year_facts y)

@@ -1,4 +1,5 @@
 -- Records made of their parts, over plain values, for the functions that make them. Assumes nothing.
+use Rattle.std.specs.Prelude.{Option}
 use Prim.Native.Nat.{ℕ, ◌≤◌}
 use native.Mathlib.Omega.{arith}
 use mathlib.Core.Path.{◌≡◌, ap, ◌∙◌}
@@ -37,7 +38,7 @@ pub solstice-year-made : (y : ℕ) {j b i h f l m : ℕ} →
 unfolding solstice_year
 solstice-year-made y p q r s t u v = cc
 
-pub year-made : (y : ℕ) {n f m : ℕ} {l : LeapMonth} → n ≡ year_name y → f ≡ civil_first_month y → m ≡ months_in_civil_year y → l ≡ leap_month y →
+pub year-made : (y : ℕ) {n f m : ℕ} {l : Option LeapMonth} → n ≡ year_name y → f ≡ civil_first_month y → m ≡ months_in_civil_year y → l ≡ leap_month y →
     record { name = n; first_month = f; months = m; leap_month = l } ≡ year_facts y
 unfolding year_facts
 year-made y p q r s = cc

@@ -1,4 +1,7 @@
 -- What the paper says of these answers, proved, each statement under its name in small letters. Assumes nothing.
+use Rattle.std.specs.Prelude.{Option, Some, Result, Ok, Err}
+use Rattle.rule.specs.declared.Reason.{Reason}
+use Rattle.rule.specs.declared.Quarter.{Quarter}
 use Prim.Native.Nat.{ℕ, ◌+◌, ◌-◌, ◌*◌}
 use native.Mathlib.Omega.{arith}
 use mathlib.Core.Path.{◌≡◌, refl, ap, sym, ◌∙◌}
@@ -6,26 +9,16 @@ use mathlib.Core.Bool.{Bool, true, false, false≢true}
 use lib.Dec.{leb}
 use Rattle.rule.specs.Counts.{SolsticeYearInRange, MonthInRange, year_name, bu, year_in_bu}
 use Rattle.rule.specs.Rule.{month_start, month_length, quarter_day, term_day, term_parts, year_term, leap_mark, month_at, eclipse}
-use Rattle.rule.specs.Reasons.{Answer, is, guard, within, and_then, reason_number, reason_of}
+use Rattle.rule.specs.Reasons.{said, Answer, is, guard, within, and_then, reason_number, reason_of}
 use Rattle.rule.specs.Paper.{IsTerm}
 use Rattle.rule.specs.declared.Term.{Term}
 use Rattle.rule.proofs.Answers.{reason-back, within-true, at_most, read_back, once, given-not, one_only, two-only}
 use Rattle.rule.proofs.Leap.{mark-at}
 use Rattle.rule.proofs.Paper as Rule
 use Rattle.facts.specs.declared.SolsticeYear.{SolsticeYear}
-use Rattle.facts.specs.declared.SolsticeYearTold.{SolsticeYearTold}
-use Rattle.facts.specs.declared.SolsticeYearTold.TheVariants as Solstice'
-use Rattle.facts.specs.declared.LeapMonth.TheVariants.{With}
+use Rattle.facts.specs.declared.LeapMonth.{LeapMonth}
 use Rattle.facts.specs.declared.YearFacts.{YearFacts}
-use Rattle.facts.specs.declared.YearTold.{YearTold}
-use Rattle.facts.specs.declared.YearTold.TheVariants as Year'
 use Rattle.facts.specs.declared.MonthFacts.{MonthFacts}
-use Rattle.facts.specs.declared.MonthTold.{MonthTold}
-use Rattle.facts.specs.declared.MonthTold.TheVariants as Month'
-use Rattle.facts.specs.declared.QuarterTold.{QuarterTold}
-use Rattle.facts.specs.declared.QuarterTold.TheVariants as Quarter'
-use Rattle.facts.specs.declared.TermTold.{TermTold}
-use Rattle.facts.specs.declared.TermTold.TheVariants as Term'
 use Rattle.facts.specs.Facts.{
   solstice_year,
   solstice_year_at,
@@ -38,16 +31,7 @@ use Rattle.facts.specs.Facts.{
   term_of,
   term_at,
 }
-use Rattle.facts.specs.Promises.{
-  said_solstice_year,
-  said_year,
-  said_month,
-  said_quarter,
-  said_term,
-  SolsticeYearFacts,
-  MonthByCount,
-  TermOfYear,
-}
+use Rattle.facts.specs.Promises.{SolsticeYearFacts, MonthByCount, TermOfYear}
 use Rattle.facts.specs.Paper as Paper
 use Rattle.facts.proofs.Cases.{leap-of-11}
 use Rattle.facts.proofs.Given.{
@@ -99,32 +83,32 @@ pub unique-facts : Paper.UniqueFacts
 unfolding read_back
 unique-facts =
     record {
-      solstice-year = λ y a b p q. once said_solstice_year Solstice'.Is (λ k. Solstice'.Refused (reason_of k)) solstice a b (solstice_year_at y) p q;
-      year = λ y a b p q. once said_year Year'.Is (λ k. Year'.Refused (reason_of k)) year a b (year_facts_at y) p q;
-      month = λ n a b p q. once said_month Month'.Is (λ k. Month'.Refused (reason_of k)) month a b (month_facts_at n) p q;
-      quarter = λ n r a b p q. once said_quarter Quarter'.Is (λ k. Quarter'.Refused (reason_of k)) quarter a b (quarter_at n r) p q;
-      term = λ y k a b p q. once said_term Term'.Is (λ j. Term'.Refused (reason_of j)) term a b (term_at y k) p q;
+      solstice-year = λ y a b p q. once said Ok (λ k. Err (reason_of k)) solstice a b (solstice_year_at y) p q;
+      year = λ y a b p q. once said Ok (λ k. Err (reason_of k)) year a b (year_facts_at y) p q;
+      month = λ n a b p q. once said Ok (λ k. Err (reason_of k)) month a b (month_facts_at n) p q;
+      quarter = λ n r a b p q. once said Ok (λ k. Err (reason_of k)) quarter a b (quarter_at n r) p q;
+      term = λ y k a b p q. once said Ok (λ j. Err (reason_of j)) term a b (term_at y k) p q;
     }
   where
-    solstice : (e : SolsticeYearTold) → read_back said_solstice_year Solstice'.Is (λ k. Solstice'.Refused (reason_of k)) (said_solstice_year e) ≡ e
-    solstice (Solstice'.Is r) = refl
-    solstice (Solstice'.Refused r) = ap Solstice'.Refused (reason-back r)
+    solstice : (e : Result SolsticeYear Reason) → read_back said Ok (λ k. Err (reason_of k)) (said e) ≡ e
+    solstice (Ok r) = refl
+    solstice (Err r) = ap Err (reason-back r)
 
-    year : (e : YearTold) → read_back said_year Year'.Is (λ k. Year'.Refused (reason_of k)) (said_year e) ≡ e
-    year (Year'.Is r) = refl
-    year (Year'.Refused r) = ap Year'.Refused (reason-back r)
+    year : (e : Result YearFacts Reason) → read_back said Ok (λ k. Err (reason_of k)) (said e) ≡ e
+    year (Ok r) = refl
+    year (Err r) = ap Err (reason-back r)
 
-    month : (e : MonthTold) → read_back said_month Month'.Is (λ k. Month'.Refused (reason_of k)) (said_month e) ≡ e
-    month (Month'.Is r) = refl
-    month (Month'.Refused r) = ap Month'.Refused (reason-back r)
+    month : (e : Result MonthFacts Reason) → read_back said Ok (λ k. Err (reason_of k)) (said e) ≡ e
+    month (Ok r) = refl
+    month (Err r) = ap Err (reason-back r)
 
-    quarter : (e : QuarterTold) → read_back said_quarter Quarter'.Is (λ k. Quarter'.Refused (reason_of k)) (said_quarter e) ≡ e
-    quarter (Quarter'.Is r) = refl
-    quarter (Quarter'.Refused r) = ap Quarter'.Refused (reason-back r)
+    quarter : (e : Result Quarter Reason) → read_back said Ok (λ k. Err (reason_of k)) (said e) ≡ e
+    quarter (Ok r) = refl
+    quarter (Err r) = ap Err (reason-back r)
 
-    term : (e : TermTold) → read_back said_term Term'.Is (λ j. Term'.Refused (reason_of j)) (said_term e) ≡ e
-    term (Term'.Is r) = refl
-    term (Term'.Refused r) = ap Term'.Refused (reason-back r)
+    term : (e : Result Term Reason) → read_back said Ok (λ j. Err (reason_of j)) (said e) ≡ e
+    term (Ok r) = refl
+    term (Err r) = ap Err (reason-back r)
 
 -- the literal readings
 pub solstice-year-exactly : Paper.SolsticeYearExactly
@@ -186,23 +170,23 @@ wrong-facts =
       quarter-refused = λ why p. given-not (quarter_at 0 0) (quarter_of 0 0) (reason_number why) (quarter-given 0 0 (omega arith) (omega arith)) (sym p);
       term-refused = λ why p. given-not (term_at 1 0) (term_of 1 0) (reason_number why) (term-given 1 0 (omega arith) (omega arith)) (sym p);
       solstice-year-fixed = λ a p q.
-          differ said_solstice_year (λ s. s.bu) a (solstice_year 76) (solstice_year 77) (λ e. omega arith)
+          differ said (λ s. s.bu) a (solstice_year 76) (solstice_year 77) (λ e. omega arith)
           (p ∙ solstice-year-given 76 (omega arith))
           (q ∙ solstice-year-given 77 (omega arith));
       year-fixed = λ a p q.
-          differ said_year (λ f. f.name) a (year_facts 76) (year_facts 77) (λ e. omega arith)
+          differ said (λ f. f.name) a (year_facts 76) (year_facts 77) (λ e. omega arith)
           (p ∙ year-given 76 (omega arith))
           (q ∙ year-given 77 (omega arith));
       month-fixed = λ a p q.
-          differ said_month (λ f. f.first_day) a (month_facts 134) (month_facts 135) (λ e. omega arith)
+          differ said (λ f. f.first_day) a (month_facts 134) (month_facts 135) (λ e. omega arith)
           (p ∙ month-given 134 (omega arith))
           (q ∙ month-given 135 (omega arith));
       quarter-fixed = λ a p q.
-          differ said_quarter (λ r. r.day) a (quarter_of 0 0) (quarter_of 0 1) (λ e. omega arith)
+          differ said (λ r. r.day) a (quarter_of 0 0) (quarter_of 0 1) (λ e. omega arith)
           (p ∙ quarter-given 0 0 (omega arith) (omega arith))
           (q ∙ quarter-given 0 1 (omega arith) (omega arith));
       term-fixed = λ a p q.
-          differ said_term (λ r. r.day) a (term_of 1 0) (term_of 1 1) (λ e. omega arith)
+          differ said (λ r. r.day) a (term_of 1 0) (term_of 1 1) (λ e. omega arith)
           (p ∙ term-given 1 0 (omega arith) (omega arith))
           (q ∙ term-given 1 1 (omega arith) (omega arith));
       term-other-divisor = λ r p e. omega (arith, ap (λ (t : Term). t.parts) (near-midnight r p));
@@ -210,17 +194,17 @@ wrong-facts =
       term-after = λ r p e. omega (arith, ap (λ (t : Term). t.parts) (near-midnight r p));
     }
   where
-    near-midnight : (r : Term) → TermOfYear 44 10 (Term'.Is r) → r ≡ term_of 44 10
+    near-midnight : (r : Term) → TermOfYear 44 10 (Ok r) → r ≡ term_of 44 10
     near-midnight r = told_is (term_of 44 10) r (term_at 44 10) (term-given 44 10 (omega arith) (omega arith))
 
 -- what is told of a year and of a month
-pub its-place : (y : ℕ) (s : SolsticeYear) → SolsticeYearInRange y → SolsticeYearFacts y (Solstice'.Is s) → s ≡ solstice_year y
+pub its-place : (y : ℕ) (s : SolsticeYear) → SolsticeYearInRange y → SolsticeYearFacts y (Ok s) → s ≡ solstice_year y
 its-place y s h = told_is (solstice_year y) s (solstice_year_at y) (solstice-year-given y h)
 
-pub its-month : (n : ℕ) (f : MonthFacts) → MonthInRange n → MonthByCount n (Month'.Is f) → f ≡ month_facts n
+pub its-month : (n : ℕ) (f : MonthFacts) → MonthInRange n → MonthByCount n (Ok f) → f ≡ month_facts n
 its-month n f h = told_is (month_facts n) f (month_facts_at n) (month-given n h)
 
-its-eclipse : (n : ℕ) (f : MonthFacts) → MonthInRange n → MonthByCount n (Month'.Is f) → f.eclipse ≡ eclipse n
+its-eclipse : (n : ℕ) (f : MonthFacts) → MonthInRange n → MonthByCount n (Ok f) → f.eclipse ≡ eclipse n
 unfolding month_facts
 its-eclipse n f h p = ap (λ (g : MonthFacts). g.eclipse) (its-month n f h p)
 
@@ -232,8 +216,10 @@ misleading-facts =
       year-0 = λ s p e. omega (arith, ap (λ (t : SolsticeYear). t.year_in_bu) (its-place 76 s (omega arith) p));
       shortcut = λ f n p e.
           let g : f ≡ year_facts 11 = told_is (year_facts 11) f (year_facts_at 11) (year-given 11 (omega arith)) p in
-          let w : With 9 134 ≡ With 8 n = sym leap-of-11 ∙ sym (ap (λ (h : YearFacts). h.leap_month) g) ∙ e in
-          let o : ◌≡◌ {A = ℕ} 9 8 = cc in omega arith;
+          let w : ◌≡◌ {A = Option LeapMonth} (Some (record { number = 9; month = 134 })) (Some (record { number = 8; month = n })) =
+          sym leap-of-11 ∙ sym (ap (λ (h : YearFacts). h.leap_month) g) ∙ e in
+          let same : ◌≡◌ {A = LeapMonth} (record { number = 9; month = 134 }) (record { number = 8; month = n }) = cc in
+          omega (arith, ap (λ (m : LeapMonth). m.number) same);
       by-instant = λ f k p e.
           let g : f.month ≡ month_at 32 = ap (λ (h : MonthFacts). h.month) (its-month 32 f (omega arith) p) in
           false≢true (ap leap_mark (sym e ∙ g) ∙ mark-at 32 ∙ (Rule.instants-mislead).0);

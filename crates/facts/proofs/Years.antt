@@ -1,4 +1,5 @@
 -- What W4 says of civil years, proved, each statement under its name in small letters. Assumes nothing.
+use Rattle.std.specs.Prelude.{Ok}
 use Prim.Native.Nat.{ℕ, ◌+◌, ◌-◌, ◌≤◌, ◌<◌}
 use native.Mathlib.Omega.{arith}
 use mathlib.Core.Path.{◌≡◌, refl, ap, ap₂, sym, ◌∙◌, subst₂}
@@ -15,9 +16,7 @@ use Rattle.rule.proofs.CivilYears.{civil-so-many, civil-end, civil-next}
 use Rattle.rule.proofs.Civil as Civil
 use Rattle.facts.specs.declared.SolsticeYear.{SolsticeYear}
 use Rattle.facts.specs.declared.YearFacts.{YearFacts}
-use Rattle.facts.specs.declared.YearTold.TheVariants as Year'
 use Rattle.facts.specs.declared.MonthFacts.{MonthFacts}
-use Rattle.facts.specs.declared.MonthTold.TheVariants as Month'
 use Rattle.facts.specs.Facts.{solstice_year, year_facts, year_facts_at, month_facts}
 use Rattle.facts.specs.Promises.{YearOwnFacts, MonthByCount}
 use Rattle.facts.specs.Years as Years
@@ -27,10 +26,10 @@ use Rattle.facts.proofs.Given.{told_is, year-given, month-given}
 use Rattle.facts.proofs.Paper as Facts
 
 -- what is answered for a year and for a month
-year-told : (y : ℕ) (f : YearFacts) → YearOwnFacts y (Year'.Is f) → CivilYearInRange y × (f ≡ year_facts y)
+year-told : (y : ℕ) (f : YearFacts) → YearOwnFacts y (Ok f) → CivilYearInRange y × (f ≡ year_facts y)
 year-told y f p = let h = ((Facts.year-facts-exactly y f).0 p).0 in (h, told_is (year_facts y) f (year_facts_at y) (year-given y h) p)
 
-month-told : (n : ℕ) (f : MonthFacts) → MonthByCount n (Month'.Is f) → MonthInRange n × (f.month ≡ month_at n)
+month-told : (n : ℕ) (f : MonthFacts) → MonthByCount n (Ok f) → MonthInRange n × (f.month ≡ month_at n)
 unfolding month_facts
 month-told n f p =
     let h = ((Facts.month-by-count-exactly n f).0 p).0 in (h, ap (λ (g : MonthFacts). g.month) (Facts.its-month n f h p))
@@ -90,8 +89,8 @@ numbers-in-order told h y f l m p =
     inside : CivilYearInRange y → (i : ℕ) → i < M → MonthInRange (F + i)
     inside r i g = omega (arith, civil-end y r)
 
-    its : (n : ℕ) → MonthInRange n → told n ≡ Month'.Is (month_facts n)
-    its n r = (Facts.unique-facts).month n (told n) (Month'.Is (month_facts n)) (h n r) (sym (month-given n r))
+    its : (n : ℕ) → MonthInRange n → told n ≡ Ok (month_facts n)
+    its n r = (Facts.unique-facts).month n (told n) (Ok (month_facts n)) (h n r) (sym (month-given n r))
 
     mark : (n : ℕ) → MonthInRange n → ordinary_told (told n) ≡ ordinary n
     mark n r = ap ordinary_told (its n r) ∙ ap not (mark-at n)

@@ -1,6 +1,6 @@
 -- The facts of a year and of a month as the rule has them, for every number; refusals in the paper's order.
 -- Assumes nothing.
-use Rattle.std.specs.Prelude.{ℕ, List, [], ◌∷◌, leb}
+use Rattle.std.specs.Prelude.{Option, Some, None, ℕ, List, [], ◌∷◌, leb}
 use Rattle.rule.specs.Counts.{day_name, year_name, ji, bu, year_in_bu, head_name}
 use Rattle.rule.specs.Rule.{
   month_start,
@@ -27,7 +27,6 @@ use Rattle.rule.specs.declared.Quarter.{Quarter}
 use Rattle.rule.specs.declared.Term.{Term}
 use Rattle.facts.specs.declared.SolsticeYear.{SolsticeYear}
 use Rattle.facts.specs.declared.LeapMonth.{LeapMonth}
-use Rattle.facts.specs.declared.LeapMonth.TheVariants.{Without, With}
 use Rattle.facts.specs.declared.YearFacts.{YearFacts}
 use Rattle.facts.specs.declared.MonthFacts.{MonthFacts}
 
@@ -48,11 +47,11 @@ unfoldable pub solstice_year_at : ℕ → Answer SolsticeYear
 solstice_year_at y = guard (within 1 41040 y) 1 (is (solstice_year y))
 
 -- of the leap months of a civil year: the first, by number and count
-abbrev pub first_of : List ℕ → LeapMonth
-first_of [] = Without
-first_of (n ∷ ns) = With (month_number n) n
+abbrev pub first_of : List ℕ → Option LeapMonth
+first_of [] = None
+first_of (n ∷ ns) = Some (record { number = month_number n; month = n })
 
-unfoldable pub leap_month : ℕ → LeapMonth
+unfoldable pub leap_month : ℕ → Option LeapMonth
 leap_month y = first_of (civil_months_of leap y)
 
 -- a civil year's own: name, the months that it lists, its leap month

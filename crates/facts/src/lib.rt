@@ -1,4 +1,6 @@
 // The facts of a year and of a month: a solstice year's place and months, a civil year's own, a month by its count, a quarter, a term.
+// A range is asked for in one word of a `requires` and by no type: rule's functions take plain numbers
+// (docs/DECISIONS.md, 263).
 #![tactic(auto)]
 
 ghost use Rattle.std.specs.Prelude.{◌≡◌, ◌+◌, ◌≤◌};
@@ -11,7 +13,7 @@ ghost use Rattle.facts.specs.Promises.{SolsticeYearFacts, YearOwnFacts, MonthByC
 use rule::{Month, Quarter, Reason, Term};
 
 // A solstice year: its place, its bu's head name, its first month, its leap remainder, and 12 or 13.
-#[derive(Clone, Copy)]
+#[derive(Debug, Clone, Copy, PartialEq)]
 pub struct SolsticeYear {
     pub ji: u8,
     pub bu: u8,
@@ -22,24 +24,24 @@ pub struct SolsticeYear {
     pub months: u8,
 }
 
-// A civil year's leap month, if it has one: its number and its month count.
-#[derive(Clone, Copy)]
-pub enum LeapMonth {
-    Without,
-    With(u8, u32),
+// A civil year's leap month: its number and its month count.
+#[derive(Debug, Clone, Copy, PartialEq)]
+pub struct LeapMonth {
+    pub number: u8,
+    pub month: u32,
 }
 
-// A civil year's own: its name, the months that it lists, and its leap month.
-#[derive(Clone, Copy)]
+// A civil year's own: its name, the months that it lists, and its leap month, if it has one.
+#[derive(Debug, Clone, Copy, PartialEq)]
 pub struct YearFacts {
     pub name: u8,
     pub first_month: u32,
     pub months: u8,
-    pub leap_month: LeapMonth,
+    pub leap_month: Option<LeapMonth>,
 }
 
 // A month: number with leap mark, first day, small remainder, length, first day's name, eclipse mark.
-#[derive(Clone, Copy)]
+#[derive(Debug, Clone, Copy, PartialEq)]
 pub struct MonthFacts {
     pub month: Month,
     pub first_day: u32,
@@ -47,36 +49,6 @@ pub struct MonthFacts {
     pub month_length: u8,
     pub first_name: u8,
     pub eclipse: bool,
-}
-
-#[derive(Clone, Copy)]
-pub enum SolsticeYearTold {
-    Is(SolsticeYear),
-    Refused(Reason),
-}
-
-#[derive(Clone, Copy)]
-pub enum YearTold {
-    Is(YearFacts),
-    Refused(Reason),
-}
-
-#[derive(Clone, Copy)]
-pub enum MonthTold {
-    Is(MonthFacts),
-    Refused(Reason),
-}
-
-#[derive(Clone, Copy)]
-pub enum QuarterTold {
-    Is(Quarter),
-    Refused(Reason),
-}
-
-#[derive(Clone, Copy)]
-pub enum TermTold {
-    Is(Term),
-    Refused(Reason),
 }
 
 // The facts of a solstice year in range.
@@ -98,28 +70,29 @@ fn solstice_year_at(year: u16) -> SolsticeYear
 }
 
 // A solstice year's facts, or reason 1.
-pub fn solstice_year(year: u32) -> SolsticeYearTold
+pub fn solstice_year(year: u32) -> Result<SolsticeYear, Reason>
     ensures { SolsticeYearFacts year result }
 {
     if !rule::in_range(1, 41040, year) {
-        return SolsticeYearTold::Refused(Reason::NoSuchYear);
+        return Err(Reason::NoSuchYear);
     }
-    SolsticeYearTold::Is(solstice_year_at(year as u16))
+    Ok(solstice_year_at(year as u16))
 }
 
 // The first leap month among so many from a month on.
-fn leap_among(first: u32, months: u32) -> LeapMonth
+fn leap_among(first: u32, months: u32) -> Option<LeapMonth>
     requires { first + months ≤ 507600 }
     ensures { result ≡ first_of (those leap first months) }
 {
-    let mut i: u32 = 0;
-    while i < months {
-        if rule::is_leap(first + i) {
-            return LeapMonth::With(rule::month_number(first + i), first + i);
+    for month in first..first + months {
+        if rule::is_leap(month) {
+            return Some(LeapMonth {
+                number: rule::month_number(month),
+                month: month,
+            });
         }
-        i += 1;
     }
-    LeapMonth::Without
+    None
 }
 
 // The own facts of a civil year in range. Whoever lists a year asks here.
@@ -139,13 +112,13 @@ pub fn year_facts_at(year: u16) -> YearFacts
 }
 
 // A civil year's own facts, or reason 1.
-pub fn year_facts(year: u32) -> YearTold
+pub fn year_facts(year: u32) -> Result<YearFacts, Reason>
     ensures { YearOwnFacts year result }
 {
     if 41040 < year {
-        return YearTold::Refused(Reason::NoSuchYear);
+        return Err(Reason::NoSuchYear);
     }
-    YearTold::Is(year_facts_at(year as u16))
+    Ok(year_facts_at(year as u16))
 }
 
 // The facts of a month in range. Whoever lists a month asks here.
@@ -166,37 +139,37 @@ pub fn month_facts_at(n: u32) -> MonthFacts
 }
 
 // A month by its count, or reason 7.
-pub fn month_facts(n: u32) -> MonthTold
+pub fn month_facts(n: u32) -> Result<MonthFacts, Reason>
     ensures { MonthByCount n result }
 {
     if 507599 < n {
-        return MonthTold::Refused(Reason::NoSuchMonth);
+        return Err(Reason::NoSuchMonth);
     }
-    MonthTold::Is(month_facts_at(n))
+    Ok(month_facts_at(n))
 }
 
 // A quarter of a month: reason 7, then 15.
-pub fn quarter(n: u32, q: u32) -> QuarterTold
+pub fn quarter(n: u32, q: u32) -> Result<Quarter, Reason>
     ensures { QuarterOfMonth n q result }
 {
     if 507599 < n {
-        return QuarterTold::Refused(Reason::NoSuchMonth);
+        Err(Reason::NoSuchMonth)
+    } else if 3 < q {
+        Err(Reason::NoSuchTermOrQuarter)
+    } else {
+        Ok(rule::quarter_of(n, q as u8))
     }
-    if 3 < q {
-        return QuarterTold::Refused(Reason::NoSuchTermOrQuarter);
-    }
-    QuarterTold::Is(rule::quarter_of(n, q as u8))
 }
 
 // A term of a solstice year: reason 1, then 15.
-pub fn term(year: u32, k: u32) -> TermTold
+pub fn term(year: u32, k: u32) -> Result<Term, Reason>
     ensures { TermOfYear year k result }
 {
     if !rule::in_range(1, 41040, year) {
-        return TermTold::Refused(Reason::NoSuchYear);
+        return Err(Reason::NoSuchYear);
     }
     if 23 < k {
-        return TermTold::Refused(Reason::NoSuchTermOrQuarter);
+        return Err(Reason::NoSuchTermOrQuarter);
     }
-    TermTold::Is(rule::term_of(24 * (year - 1) + k))
+    Ok(rule::term_of(24 * (year - 1) + k))
 }

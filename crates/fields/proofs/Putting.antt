@@ -1,41 +1,13 @@
--- Laws of puts: one after the other, of a byte and of bytes; and of the text of a list. Assumes nothing.
-use Prim.Native.Nat.{ℕ, ◌+◌, ◌*◌, ◌≤◌, ◌<◌}
-use native.Mathlib.Nat.{mul-suc}
+-- Laws of the text of a list: of its front and one thing more. Assumes nothing.
+use Prim.Native.Nat.{ℕ, ◌+◌, ◌<◌}
 use native.Mathlib.Numerals.{add-one}
-use native.Mathlib.Omega.{arith}
-use mathlib.Core.Path.{◌≡◌, refl, ap, sym, ◌∙◌, subst}
+use mathlib.Core.Path.{◌≡◌, refl, ap, sym, ◌∙◌}
 use mathlib.Core.List.{List, [], ◌∷◌, ◌++◌, append-nil, append_assoc}
-use lib.ListN.{length, get_or, take, length-append}
-use lib.Seq.{length-sets, take-suc}
+use lib.ListN.{length, get_or, take}
+use lib.Seq.{take-suc}
 use mathlib.Core.Bool.{true}
 use Rattle.rule.specs.Lists.{those}
-use Rattle.rule.proofs.Stores.{sets-append}
-use Rattle.fields.specs.Fields.{each, Put}
-
--- a buffer keeps its length
-pub put-kept : {w a b : ℕ} {o xs o' : List ℕ} → Put w o a xs o' b → length o' ≡ length o
-put-kept {o = o} {xs} p = ap length p.stored ∙ length-sets o _ xs
-
--- so many at most are more at most
-pub wide : {w v a b : ℕ} {o xs o' : List ℕ} → w ≤ v → Put w o a xs o' b → Put v o a xs o' b
-wide h p = record { stored = p.stored; next = p.next; few = omega (arith, p.few, h) }
-
--- one put after the other
-pub then : {w v a b d : ℕ} {o xs o' ys o'' : List ℕ} → Put w o a xs o' b → Put v o' b ys o'' d → Put (w + v) o a (xs ++ ys) o'' d
-then {w} {v} {a} {b} {d} {o} {xs} {o'} {ys} {o''} p q =
-    record {
-      stored = q.stored ∙ rw (p.stored, p.next) (sym (sets-append xs ys o a));
-      next = omega (arith, q.next, p.next, length-append xs ys);
-      few = omega (arith, q.few, p.few);
-    }
-
--- nothing put
-pub put-none : (o : List ℕ) (a : ℕ) → Put 0 o a [] o a
-put-none o a = record { stored = refl; next = omega arith; few = omega arith }
-
--- the same bytes, said otherwise
-pub put_as : {w a b : ℕ} {o xs ys o' : List ℕ} → xs ≡ ys → Put w o a xs o' b → Put w o a ys o' b
-put_as {w} {a} {b} {o} {xs} {ys} {o'} e p = subst (λ (zs : List ℕ). Put w o a zs o' b) e p
+use Rattle.fields.specs.Fields.{each}
 
 -- the front of a list, and one thing more
 pub front-next : (s : List ℕ) (i : ℕ) → i < length s → take (i + 1) s ≡ take i s ++ (get_or s i 0 ∷ [])
@@ -58,8 +30,3 @@ module _ (f : ℕ → List ℕ) where
   pub each-count : (a i : ℕ) → each f (those (λ n. true) a (i + 1)) ≡ each f (those (λ n. true) a i) ++ f (a + i)
   unfolding those
   each-count a i = ap (λ (k : ℕ). each f (those (λ n. true) a k)) (add-one i) ∙ each_last (those (λ n. true) a i) (a + i)
-
--- a loop that puts w bytes at most at each turn: the next turn
-pub turn : {w a b d : ℕ} {o xs o' ys zs o'' : List ℕ} (i : ℕ) → zs ≡ xs ++ ys → Put (w * i) o a xs o' b → Put w o' b ys o'' d → Put (w * (i + 1)) o a zs o'' d
-turn {w} i e p q =
-    wide (omega (arith, mul-suc w i, ap (λ (k : ℕ). w * k) (add-one i))) (put_as (sym e) (then p q))

@@ -1,74 +1,17 @@
-// What printed lines are made of, put into a lent buffer one after the other: words, decimal numbers, spaces, marks.
+// What printed lines are made of, and made in: a text, into which words, decimal numbers, spaces and marks are written one after the other.
 // All of these are inner: each asks for room, and says how many bytes it takes at most, so that callers can add them up.
 #![tactic(auto)]
 
-ghost use Rattle.std.specs.Prelude.{◌≡◌, [], ◌∷◌, ◌+◌, ◌≤◌, length};
-ghost use Rattle.fields.specs.Fields.{decimal, mark, Put};
+ghost use Rattle.std.specs.Prelude.{◌≡◌};
+ghost use Rattle.fields.specs.Fields.{mark};
 
-// A byte.
-pub fn put_byte(b: u8, out: &mut [u8], at: usize) -> usize
-    requires { at + 1 ≤ length out.old }
-    ensures { Put 1 out.old at (b ∷ []) out.new result }
-{
-    out[at] = b;
-    at + 1
-}
+mod text;
 
-// Bytes, as those of a word.
-pub fn put_bytes(s: &[u8], out: &mut [u8], at: usize) -> usize
-    requires { at + length s.now ≤ length out.old }
-    ensures { Put (length s.now) out.old at s.now out.new result }
-{
-    let mut to = at;
-    let mut i = 0;
-    while i < s.len() {
-        to = put_byte(s[i], out, to);
-        i += 1;
-    }
-    to
-}
-
-// A number's digits: those in front of the last one first.
-fn put_digits(n: u32, out: &mut [u8], at: usize) -> usize
-    requires { at + length (decimal n) ≤ length out.old }
-    ensures { Put (length (decimal n)) out.old at (decimal n) out.new result }
-{
-    if n < 10 {
-        return put_byte(48 + n as u8, out, at);
-    }
-    let to = put_digits(n / 10, out, at);
-    put_byte(48 + (n % 10) as u8, out, to)
-}
-
-// A decimal number: ten digits at most.
-pub fn put_decimal(n: u32, out: &mut [u8], at: usize) -> usize
-    requires { at + 10 ≤ length out.old }
-    ensures { Put 10 out.old at (decimal n) out.new result }
-{
-    put_digits(n, out, at)
-}
-
-// A space, and a decimal number.
-pub fn put_next(n: u32, out: &mut [u8], at: usize) -> usize
-    requires { at + 11 ≤ length out.old }
-    ensures { Put 11 out.old at (32 ∷ decimal n) out.new result }
-{
-    let to = put_byte(32, out, at);
-    put_decimal(n, out, to)
-}
+pub use text::Text;
 
 // A letter where the mark is there, `-` where it is absent.
 pub fn mark_of(there: bool, letter: u8) -> u8
     ensures { result ≡ mark there letter }
 {
     if there { letter } else { 45 }
-}
-
-// A space, and a mark.
-pub fn put_mark(there: bool, letter: u8, out: &mut [u8], at: usize) -> usize
-    requires { at + 2 ≤ length out.old }
-    ensures { Put 2 out.old at (32 ∷ mark there letter ∷ []) out.new result }
-{
-    let to = put_byte(32, out, at);
-    put_byte(mark_of(there, letter), out, to)
 }

@@ -1,5 +1,6 @@
 -- Laws of forms and texts: a field that a form admits is the text of what it is read as, and every text is read as what it says.
 -- Assumes nothing.
+use Rattle.std.specs.Prelude.{Some, None}
 use Prim.Native.Nat.{ℕ, zero, suc, ◌≤◌}
 use native.Mathlib.Omega.{arith}
 use native.Mathlib.Decide.{dec_le}
@@ -15,9 +16,7 @@ use Rattle.reading.specs.declared.Field.TheVariants.{Known, Unread}
 use Rattle.fields.specs.Fields.{word, digits, decimal, leap_text}
 use Rattle.fields.specs.Paper.{value_from, AreDigits, none, one_more, IsDecimal, nought, not-nought}
 use Rattle.fields.proofs.Paper.{decimal-reads-back, one-decimal, decimal-tells}
-use Rattle.forms.specs.declared.Mark.{Mark}
-use Rattle.forms.specs.declared.Mark.TheVariants.{Seen, Unseen}
-use Rattle.forms.specs.Forms.{field_at, same, all_digits, leads, is_decimal, is_back, is_mark, letter, admits, like, back, is_minus, move_of, slip_field_of, slip_mark_of}
+use Rattle.forms.specs.Forms.{Mark, field_at, same, all_digits, leads, is_decimal, is_back, is_mark, letter, admits, like, back, is_minus, move_of, slip_field_of, slip_mark_of}
 use Rattle.forms.specs.Texts.{Text, bytes, n, m, s, f, g, signed_text, field_text, mark_read_text, text_of, texts_of}
 
 pub both : (a b : Bool) → (a && b) ≡ true → (a ≡ true) × (b ≡ true)
@@ -143,7 +142,7 @@ pub slip-mark-text : (t : List ℕ) → (is_mark t || same (word "?") t) ≡ tru
 unfolding slip_mark_of
 slip-mark-text t e = go (same (word "?") t) refl e
   where
-    go : (x : Bool) → same (word "?") t ≡ x → (is_mark t || x) ≡ true → t ≡ mark_read_text (cond x Unseen (Seen (same (word "L") t)))
+    go : (x : Bool) → same (word "?") t ≡ x → (is_mark t || x) ≡ true → t ≡ mark_read_text (cond x None (Some (same (word "L") t)))
     go true i h = exact (word "?") t i
     go false i h = mark-text t (or-false (is_mark t) h)
 
@@ -243,11 +242,11 @@ field-says Unread = refl
 
 pub slip-mark-is : (x : Mark) → (is_mark (mark_read_text x) || same (word "?") (mark_read_text x)) ≡ true
 unfolding same
-slip-mark-is (Seen l) = rw (mark-is l) refl
-slip-mark-is Unseen = or-true (is_mark (word "?"))
+slip-mark-is (Some l) = rw (mark-is l) refl
+slip-mark-is None = or-true (is_mark (word "?"))
 
 pub slip-mark-says : (x : Mark) → slip_mark_of (mark_read_text x) ≡ x
 unfolding slip_mark_of same
-slip-mark-says (Seen true) = refl
-slip-mark-says (Seen false) = refl
-slip-mark-says Unseen = refl
+slip-mark-says (Some true) = refl
+slip-mark-says (Some false) = refl
+slip-mark-says None = refl

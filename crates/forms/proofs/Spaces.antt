@@ -1,4 +1,5 @@
 -- Laws of fields without spaces: the line of them has them as its fields, and every line is the line of its fields. Assumes nothing.
+use Rattle.std.specs.Prelude.{Some, None}
 use Prim.Native.Nat.{ℕ, suc, ◌≤◌}
 use native.Mathlib.Omega.{arith}
 use mathlib.Core.Path.{◌≡◌, refl, ap, ap₂, sym, ◌∙◌}
@@ -12,7 +13,6 @@ use Rattle.reading.specs.declared.Field.TheVariants.{Known, Unread}
 use Rattle.fields.specs.Fields.{decimal, followed, joined}
 use Rattle.fields.specs.Paper.{AreDigits, none, one_more, IsDecimal, nought, not-nought}
 use Rattle.fields.proofs.Paper.{decimal-reads-back}
-use Rattle.forms.specs.declared.Mark.TheVariants.{Seen, Unseen}
 use Rattle.forms.specs.Forms.{in_front_of, fields_in}
 use Rattle.forms.specs.Paper.{NoSpace, no_byte, byte_more, NoSpaces, no_text, text-more}
 use Rattle.forms.specs.Texts.{Text, bytes, n, m, s, f, g, text_of, texts_of, line}
@@ -117,9 +117,9 @@ text-no-space (s (pos k)) ts e = decimal-no-space k
 text-no-space (s (negsuc k)) ts e = byte_more {b = 45} (λ i. omega (arith, i)) (decimal-no-space (suc k))
 text-no-space (f (Known k)) ts e = decimal-no-space k
 text-no-space (f Unread) ts e = sign 63 (λ i. omega (arith, i))
-text-no-space (g (Seen true)) ts e = sign 76 (λ i. omega (arith, i))
-text-no-space (g (Seen false)) ts e = sign 45 (λ i. omega (arith, i))
-text-no-space (g Unseen) ts e = sign 63 (λ i. omega (arith, i))
+text-no-space (g (Some true)) ts e = sign 76 (λ i. omega (arith, i))
+text-no-space (g (Some false)) ts e = sign 45 (λ i. omega (arith, i))
+text-no-space (g None) ts e = sign 63 (λ i. omega (arith, i))
 
 later : (t : Text) (ts : List Text) → words (t ∷ ts) ≡ true → words ts ≡ true
 unfolding words

@@ -1,13 +1,16 @@
 -- A line's fields, "parted by single spaces"; the forms of lines; and what each field says. No query is named here. All are lists of
 -- bytes. Assumes nothing.
+use Rattle.std.specs.Prelude.{Option, Some, None}
 use Rattle.std.specs.Prelude.{ℕ, zero, suc, Bool, true, false, not, cond, ◌&&◌, ◌||◌, List, [], ◌∷◌, eqb, ltb, ℤ, pos, negsuc, length, drop}
 use Rattle.rule.specs.Reasons.{within}
 use Rattle.reading.specs.declared.Field.{Field}
 use Rattle.reading.specs.declared.Field.TheVariants.{Known, Unread}
 use Rattle.fields.specs.Fields.{word}
 use Rattle.fields.specs.Paper.{value_from}
-use Rattle.forms.specs.declared.Mark.{Mark}
-use Rattle.forms.specs.declared.Mark.TheVariants.{Seen, Unseen}
+
+-- a mark of a slip: whether it is leap, or none where it is unread
+abbrev pub Mark : Type 0
+Mark = Option Bool
 
 -- what stands before the first space
 unfoldable pub first_field : List ℕ → List ℕ
@@ -123,7 +126,7 @@ module _ (c : ℕ → ℕ) where
   slip_field_of s = cond (same (word "?") s) Unread (Known (c (value_from 0 s)))
 
 unfoldable pub slip_mark_of : List ℕ → Mark
-slip_mark_of s = cond (same (word "?") s) Unseen (Seen (same (word "L") s))
+slip_mark_of s = cond (same (word "?") s) None (Some (same (word "L") s))
 
 unfoldable pub move_in : (ℕ → ℕ) → List (List ℕ) → ℕ → ℤ
 move_in c fs k = move_of c (field_at fs k)

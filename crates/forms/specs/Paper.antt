@@ -3,8 +3,7 @@ use Rattle.std.specs.Prelude.{ℕ, ◌≤◌, ◌≡◌, Bool, true, List, [], �
 use Rattle.reading.specs.declared.Field.{Field}
 use Rattle.fields.specs.Fields.{word, decimal, leap_text, joined}
 use Rattle.fields.specs.Paper.{value_from}
-use Rattle.forms.specs.declared.Mark.{Mark}
-use Rattle.forms.specs.Forms.{fields_in, same, admits, move_of, slip_field_of, slip_mark_of}
+use Rattle.forms.specs.Forms.{Mark, fields_in, same, admits, move_of, slip_field_of, slip_mark_of}
 use Rattle.forms.specs.Texts.{signed_text, field_text, mark_read_text}
 
 -- a text without a space, and such texts

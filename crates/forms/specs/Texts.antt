@@ -1,11 +1,10 @@
 -- What the fields of a line are written as, and the line of them: "Fields parted by single spaces". Assumes nothing.
-use Rattle.std.specs.Prelude.{ℕ, suc, Bool, List, [], ◌∷◌, ℤ, pos, negsuc}
+use Rattle.std.specs.Prelude.{Some, None, ℕ, suc, Bool, List, [], ◌∷◌, ℤ, pos, negsuc}
 use Prim.Native.String.{String}
 use Rattle.reading.specs.declared.Field.{Field}
 use Rattle.reading.specs.declared.Field.TheVariants.{Known, Unread}
 use Rattle.fields.specs.Fields.{word, decimal, leap_text, joined}
-use Rattle.forms.specs.declared.Mark.{Mark}
-use Rattle.forms.specs.declared.Mark.TheVariants.{Seen, Unseen}
+use Rattle.forms.specs.Forms.{Mark}
 
 -- a field of a line: a word, a number, a mark, a number that may start with `-`, a field and a mark of a slip
 pub data Text : Type 0 where
@@ -30,8 +29,8 @@ field_text (Known k) = decimal k
 field_text Unread = word "?"
 
 abbrev pub mark_read_text : Mark → List ℕ
-mark_read_text (Seen l) = leap_text l
-mark_read_text Unseen = word "?"
+mark_read_text (Some l) = leap_text l
+mark_read_text None = word "?"
 
 abbrev pub text_of : Text → List ℕ
 text_of (bytes x) = x

@@ -29,26 +29,17 @@ ghost use Rattle.forms.specs.Forms.{
 
 use reading::Field;
 
-// A mark that was read on a slip, leap or not, or that is unread.
-#[derive(Clone, Copy)]
-pub enum Mark {
-    Seen(bool),
-    Unseen,
-}
-
 // Where the field ends that starts at a place: at the next space, or with the line.
 fn end_of(s: &[u8], from: usize) -> usize
     requires { from ≤ length s.now }
     ensures { result ≡ from + length (first_field (drop from s.now)) }
 {
-    let mut to = from;
-    while to < s.len() {
-        if s[to] == 32 {
+    for to in from..s.len() {
+        if s[to] == b' ' {
             return to;
         }
-        to += 1;
     }
-    to
+    s.len()
 }
 
 // The first field of a line.
@@ -74,38 +65,21 @@ pub fn after_first(s: &[u8]) -> &[u8]
 fn same(p: &[u8], s: &[u8]) -> bool
     ensures { result ≡ same p.now s.now }
 {
-    if p.len() != s.len() {
-        return false;
-    }
-    let mut i = 0;
-    while i < p.len() {
-        if p[i] != s[i] {
-            return false;
-        }
-        i += 1;
-    }
-    true
+    p == s
 }
 
 // Whether a byte is a digit.
 pub fn is_digit(b: u8) -> bool
     ensures { result ≡ within 48 57 b }
 {
-    (48 <= b) & (b <= 57)
+    (b'0' <= b) & (b <= b'9')
 }
 
 // Whether every byte is a digit.
 fn all_digits(s: &[u8]) -> bool
     ensures { result ≡ all_digits s.now }
 {
-    let mut i = 0;
-    while i < s.len() {
-        if !is_digit(s[i]) {
-            return false;
-        }
-        i += 1;
-    }
-    true
+    s.iter().all(|&b| is_digit(b))
 }
 
 // Whether a number of so many digits may start so: 0 stands alone.
@@ -115,7 +89,7 @@ pub fn leads_well(s: &[u8]) -> bool
     if s.len() < 2 {
         return s.len() == 1;
     }
-    s[0] != 48
+    s[0] != b'0'
 }
 
 // Whether a text is a decimal number without leading zeros.
@@ -132,7 +106,7 @@ fn is_back(s: &[u8]) -> bool
     if s.len() == 0 {
         return false;
     }
-    (s[0] == 45) & !same(b"0", &s[1..]) & is_decimal(&s[1..])
+    (s[0] == b'-') & !same(b"0", &s[1..]) & is_decimal(&s[1..])
 }
 
 // Whether a text is a mark.
@@ -142,7 +116,7 @@ fn is_mark(s: &[u8]) -> bool
     same(b"-", s) | same(b"L", s)
 }
 
-// The letter that a field of a form is, 0 for a longer word.
+// The letter that a field of a form is, 0 for a longer word. (0 goes to the last arm of `admits`, as None would.)
 fn letter(s: &[u8]) -> u8
     ensures { result ≡ letter s.now }
 {
@@ -157,16 +131,17 @@ fn admits(p: &[u8], s: &[u8]) -> bool
     ensures { result ≡ admits p.now s.now }
 {
     match letter(p) {
-        110 => is_decimal(s),
-        109 => is_mark(s),
-        115 => is_decimal(s) | is_back(s),
-        102 => is_decimal(s) | same(b"?", s),
-        103 => is_mark(s) | same(b"?", s),
+        b'n' => is_decimal(s),
+        b'm' => is_mark(s),
+        b's' => is_decimal(s) | is_back(s),
+        b'f' => is_decimal(s) | same(b"?", s),
+        b'g' => is_mark(s) | same(b"?", s),
         _ => same(p, s),
     }
 }
 
-// Whether a line is like a form: as many fields, and each admitted.
+// Whether a line is like a form: as many fields, and each admitted. (Two texts at once, each with its own place, and an
+// answer where either ends: over two iterators of fields zipped, whether both end together would be one test more.)
 fn is_like(form: &[u8], line: &[u8]) -> bool
     ensures { result ≡ like (fields_in form.now) (fields_in line.now) }
 {
@@ -245,10 +220,8 @@ fn value_of(s: &[u8]) -> u32
     ensures { result ≡ capped (value_from 0 s.now) }
 {
     let mut v = 0;
-    let mut i = 0;
-    while i < s.len() {
-        v = one_more(v, s[i]);
-        i += 1;
+    for &b in s {
+        v = one_more(v, b);
     }
     v
 }
@@ -260,7 +233,7 @@ fn move_of(s: &[u8]) -> i64
     if s.len() == 0 {
         return 0;
     }
-    if s[0] == 45 {
+    if s[0] == b'-' {
         return -(value_of(&s[1..]) as i64);
     }
     value_of(s) as i64
@@ -276,14 +249,14 @@ fn slip_field_of(s: &[u8]) -> Field
     Field::Known(value_of(s))
 }
 
-// A mark of a slip.
-fn slip_mark_of(s: &[u8]) -> Mark
+// A mark of a slip: whether it is leap (a bool, as in a date), or none where it is unread.
+fn slip_mark_of(s: &[u8]) -> Option<bool>
     ensures { result ≡ slip_mark_of s.now }
 {
     if same(b"?", s) {
-        return Mark::Unseen;
+        return None;
     }
-    Mark::Seen(same(b"L", s))
+    Some(same(b"L", s))
 }
 
 // What the first field says, as a number: the same in one look along it.
@@ -291,13 +264,11 @@ pub fn number(s: &[u8]) -> u32
     ensures { result ≡ capped (value_from 0 (first_field s.now)) }
 {
     let mut v = 0;
-    let mut i = 0;
-    while i < s.len() {
-        if s[i] == 32 {
+    for &b in s {
+        if b == b' ' {
             return v;
         }
-        v = one_more(v, s[i]);
-        i += 1;
+        v = one_more(v, b);
     }
     v
 }
@@ -321,7 +292,7 @@ pub fn slip_field(s: &[u8]) -> Field
     slip_field_of(first_field(s))
 }
 
-pub fn slip_mark(s: &[u8]) -> Mark
+pub fn slip_mark(s: &[u8]) -> Option<bool>
     ensures { result ≡ slip_mark_of (first_field s.now) }
 {
     slip_mark_of(first_field(s))

@@ -6,7 +6,7 @@ use mathlib.Core.Path.{◌≡◌, refl, ap, sym, ◌∙◌}
 use mathlib.Core.Bool.{Bool}
 use mathlib.Core.List.{List, [], ◌∷◌, ◌++◌}
 use lib.ListN.{length, get_or, take, set, length-append, length-take}
-use lib.Seq.{sets, take_all, take-suc-set, take-append-le}
+use lib.Seq.{take_all, take-suc-set, take-append-le}
 use borrow.Author.Tests.{eq-eqb, ne_eqb}
 use Rattle.fields.proofs.Putting.{front-next}
 use Rattle.held.specs.Held.{line_after, line_after_all, reply, said_at, said_at_end, Holds, Becomes, Answers}
@@ -46,7 +46,7 @@ module _ (b : ℕ) where
   unfolding line_after
   line-ended room room' n r h e = record { few = omega arith; holds = λ l g. rw (eq-eqb b 10 e, h) }
 
-  pub line-answered : (e : Bool) {room out out' : List ℕ} {n : ℕ} → b ≡ 10 → Answers (reply e) room n out out' → Answers (λ l. said_at e l b) room n out out'
+  pub line-answered : (e : Bool) {room text : List ℕ} {n : ℕ} → b ≡ 10 → Answers (reply e) room n text → Answers (λ l. said_at e l b) room n text
   unfolding said_at
   line-answered e h a = record { said = λ l g. rw (eq-eqb b 10 h) (a.said l g) }
 
@@ -55,9 +55,9 @@ module _ (b : ℕ) where
   unfolding line_after
   line-longer e a = record { few = a.few; holds = λ l g. rw (ne_eqb b 10 e) (a.holds l g) }
 
-  pub none-answered : (e : Bool) (room out : List ℕ) (n : ℕ) → (b ≡ 10 → ⊥) → Answers (λ l. said_at e l b) room n out out
+  pub none-answered : (e : Bool) (room : List ℕ) (n : ℕ) {text : List ℕ} → text ≡ [] → (b ≡ 10 → ⊥) → Answers (λ l. said_at e l b) room n text
   unfolding said_at
-  none-answered e room out n h = record { said = λ l g. rw (ne_eqb b 10 h) }
+  none-answered e room n i h = record { said = λ l g. rw (ne_eqb b 10 h) i }
 
 -- the bytes of an input, one after the other
 pub lines-append : (l s t : List ℕ) → line_after_all l (s ++ t) ≡ line_after_all (line_after_all l s) t
@@ -84,19 +84,19 @@ module _ (s room : List ℕ) (n : ℕ) where
       record { few = a.few; holds = λ l g. a.holds l g ∙ ap (λ (t : List ℕ). take 201 (line_after_all l t)) (take_all i s h) }
 
 -- the end of the input
-module _ (x : Bool) (room out : List ℕ) (n : ℕ) (h : length room ≡ 201) (k : n ≤ 201) where
-  none-held : n ≤ 0 → (l : List ℕ) → Holds room n l → out ≡ sets out 0 (said_at_end x l)
+module _ (x : Bool) (room : List ℕ) (n : ℕ) (h : length room ≡ 201) (k : n ≤ 201) where
+  none-held : {text : List ℕ} → text ≡ [] → n ≤ 0 → (l : List ℕ) → Holds room n l → text ≡ said_at_end x l
   unfolding said_at_end
-  none-held e [] g = refl
-  none-held e (b ∷ l) g = absurd (omega (arith, how-many room n (b ∷ l) h k g))
+  none-held t e [] g = t
+  none-held t e (b ∷ l) g = absurd (omega (arith, how-many room n (b ∷ l) h k g))
 
-  some-held : {out' : List ℕ} → 0 < n → Answers (reply x) room n out out' → (l : List ℕ) → Holds room n l → out' ≡ sets out 0 (said_at_end x l)
+  some-held : {text : List ℕ} → 0 < n → Answers (reply x) room n text → (l : List ℕ) → Holds room n l → text ≡ said_at_end x l
   unfolding said_at_end
   some-held e a [] g = absurd (omega (arith, how-many room n [] h k g))
   some-held e a (b ∷ l) g = a.said (b ∷ l) g
 
-  pub no_line : n ≤ 0 → Answers (said_at_end x) room n out out
-  no_line e = record { said = none-held e }
+  pub no_line : {text : List ℕ} → text ≡ [] → n ≤ 0 → Answers (said_at_end x) room n text
+  no_line t e = record { said = none-held t e }
 
-  pub final-line : {out' : List ℕ} → 0 < n → Answers (reply x) room n out out' → Answers (said_at_end x) room n out out'
+  pub final-line : {text : List ℕ} → 0 < n → Answers (reply x) room n text → Answers (said_at_end x) room n text
   final-line e a = record { said = some-held e a }

@@ -1,16 +1,15 @@
--- The statements of specs/Paper, proved under their own names, and what follows for an answer that is put. Assumes nothing.
-use Prim.Native.Nat.{ℕ, suc, ◌-◌, ◌≤◌}
-use native.Mathlib.Nat.{sub-zero}
+-- The statements of specs/Paper, proved under their own names, and what follows for an answer. Assumes nothing.
+use Prim.Native.Nat.{ℕ, suc, ◌≤◌}
 use native.Mathlib.Omega.{arith}
 use native.Mathlib.Decide.{dec_le}
 use mathlib.Core.Path.{◌≡◌, refl, ap, ap₂, sym, ◌∙◌}
 use mathlib.Core.Bool.{Bool, true, false, ◌&&◌}
 use mathlib.Core.List.{List, [], ◌∷◌, ◌++◌, append-nil, append_assoc}
 use lib.ListN.{length, take, length-append, length-take}
-use lib.Seq.{sets, take_all}
+use lib.Seq.{take_all}
 use lib.Dec.{leb}
 use borrow.Author.Tests.{ne_eqb, le-leb, lt-leb}
-use Rattle.fields.specs.Fields.{word, digits, decimal, followed, Put}
+use Rattle.fields.specs.Fields.{word, digits, decimal, followed}
 use Rattle.queries.specs.Queries.{unreadable, answer_to}
 use Rattle.asked.specs.Asked.{hashed}
 use Rattle.told.specs.Answers.{refused_text, words_numbered}
@@ -104,13 +103,9 @@ unfolding reply
 held-is-enough true room n l h = ap (λ (t : List ℕ). echoed t ++ answer_to t) h ∙ ap₂ (λ (s t : List ℕ). s ++ t) (echo-alike l) (front-is-enough l)
 held-is-enough false room n l h = ap answer_to h ∙ front-is-enough l
 
--- what is said to what is held, put into the buffer
-pub held-answered : {out out' : List ℕ} {r : ℕ} (e : Bool) (room : List ℕ) (n : ℕ) → Put 3275781 out 0 (reply e (take (n - 0) room)) out' r →
-    Answers (reply e) room n out out'
-held-answered {out} e room n p =
-    record {
-      said = λ l g. p.stored ∙ ap (sets out 0) (ap (λ (k : ℕ). reply e (take k room)) (sub-zero n) ∙ held-is-enough e room n l g);
-    }
+-- what is said to what is held, and the text is that
+pub held-answered : {text : List ℕ} (e : Bool) (room : List ℕ) (n : ℕ) → text ≡ reply e (take n room) → Answers (reply e) room n text
+held-answered e room n h = record { said = λ l g. h ∙ held-is-enough e room n l g }
 
 -- echo, literally
 no_note : (l : List ℕ) → (length l ≤ 200 → (t : List ℕ) → l ≡ 35 ∷ t → ⊥) → is_note l ≡ false
@@ -161,51 +156,43 @@ never-ending room p =
     let o : ◌≡◌ {A = ℕ} 0 1 = cc in
     omega arith
 
-unanswered : (room : List ℕ) → length room ≡ 201 → Answers (λ l. said_at false l 10) room 201 (0 ∷ []) (0 ∷ []) → ⊥
+unanswered : (room : List ℕ) → length room ≡ 201 → Answers (λ l. said_at false l 10) room 201 [] → ⊥
 unfolding said_at reply unreadable followed
 unanswered room h p =
-    let e : ◌≡◌ {A = List ℕ} (0 ∷ []) (85 ∷ []) = p.said room refl ∙ ap (sets (0 ∷ []) 0) (too_long room (omega arith)) in
-    let o : ◌≡◌ {A = ℕ} 0 85 = cc in
+    let e : ◌≡◌ {A = List ℕ} [] (word "UNREADABLE" ++ (10 ∷ [])) = p.said room refl ∙ too_long room (omega arith) in
+    let o : ◌≡◌ {A = ℕ} 0 11 = ap length e in
     omega arith
 
-note-twice : (room : List ℕ) → Answers (λ l. said_at true l 10) (35 ∷ room) 1 (0 ∷ 0 ∷ 0 ∷ 0 ∷ []) (35 ∷ 10 ∷ 35 ∷ 10 ∷ []) → ⊥
+note-twice : (room rest : List ℕ) → Answers (λ l. said_at true l 10) (35 ∷ room) 1 (35 ∷ 10 ∷ 35 ∷ 10 ∷ rest) → ⊥
 unfolding said_at
-note-twice room p =
-    let e : ◌≡◌ {A = List ℕ} (35 ∷ 10 ∷ 35 ∷ 10 ∷ []) (35 ∷ 10 ∷ 0 ∷ 0 ∷ []) =
-    p.said (35 ∷ []) refl ∙ ap (sets (0 ∷ 0 ∷ 0 ∷ 0 ∷ []) 0) (note-once [] (omega arith)) in
-    let o : ◌≡◌ {A = ℕ} 35 0 = cc in
-    omega arith
+note-twice room rest p =
+    let e : ◌≡◌ {A = List ℕ} (35 ∷ 10 ∷ 35 ∷ 10 ∷ rest) (35 ∷ 10 ∷ []) = p.said (35 ∷ []) refl ∙ note-once [] (omega arith) in
+    omega (arith, ap length e)
 
--- nothing is stored beyond the end of one byte
-past_end : (y a : ℕ) (xs : List ℕ) → sets (y ∷ []) (suc a) xs ≡ y ∷ []
-past_end y a [] = refl
-past_end y a (x ∷ xs) = past_end y (suc a) xs
-
-not-echoed : (room : List ℕ) → Answers (λ l. said_at true l 10) (65 ∷ room) 1 (0 ∷ []) (85 ∷ []) → ⊥
+not-echoed : (room rest : List ℕ) → Answers (λ l. said_at true l 10) (65 ∷ room) 1 (85 ∷ rest) → ⊥
 unfolding said_at
-not-echoed room p =
-    let e : ◌≡◌ {A = List ℕ} (85 ∷ []) (65 ∷ []) =
-    p.said (65 ∷ []) refl ∙ ap (sets (0 ∷ []) 0) (line_first (65 ∷ []) (λ i t j. other t j)) ∙ past_end 65 0 (10 ∷ answer_to (65 ∷ [])) in
+not-echoed room rest p =
+    let e : ◌≡◌ {A = List ℕ} (85 ∷ rest) (65 ∷ 10 ∷ answer_to (65 ∷ [])) = p.said (65 ∷ []) refl ∙ line_first (65 ∷ []) (λ i t j. other t j) in
     let o : ◌≡◌ {A = ℕ} 85 65 = cc in
     omega arith
   where
     other : (t : List ℕ) → 65 ∷ [] ≡ 35 ∷ t → ⊥
     other t j = let o : ◌≡◌ {A = ℕ} 65 35 = cc in omega arith
 
--- what is said to a line whose day is out of range, into a buffer of nine bytes: the front of reason 6
-day-too-large : (out' : List ℕ) → Answers (λ l. said_at false l 10) (word "NEXT 1 99999999999") 18 (word "000000000") out' → out' ≡ word "REFUSED 6"
+-- what is said to a line whose day is out of range
+day-too-large : (text : List ℕ) → Answers (λ l. said_at false l 10) (word "NEXT 1 99999999999") 18 text → take 9 text ≡ word "REFUSED 6"
 unfolding said_at reply refused_text words_numbered followed digits decimal
-day-too-large out' p = p.said (word "NEXT 1 99999999999") refl ∙ ap (sets (word "000000000") 0) next-day-too-large
+day-too-large text p = ap (take 9) (p.said (word "NEXT 1 99999999999") refl ∙ next-day-too-large)
 
-numbers-exchanged : Answers (λ l. said_at false l 10) (word "NEXT 1 99999999999") 18 (word "000000000") (word "REFUSED 1") → ⊥
-numbers-exchanged p =
-    let e : ◌≡◌ {A = List ℕ} (word "REFUSED 1") (word "REFUSED 6") = day-too-large (word "REFUSED 1") p in
+numbers-exchanged : (rest : List ℕ) → Answers (λ l. said_at false l 10) (word "NEXT 1 99999999999") 18 (word "REFUSED 1" ++ rest) → ⊥
+numbers-exchanged rest p =
+    let e : ◌≡◌ {A = List ℕ} (word "REFUSED 1") (word "REFUSED 6") = day-too-large (word "REFUSED 1" ++ rest) p in
     let o : ◌≡◌ {A = ℕ} 49 54 = cc in
     omega arith
 
-all-unreadable : Answers (λ l. said_at false l 10) (word "NEXT 1 99999999999") 18 (word "000000000") (word "UNREADABL") → ⊥
-all-unreadable p =
-    let e : ◌≡◌ {A = List ℕ} (word "UNREADABL") (word "REFUSED 6") = day-too-large (word "UNREADABL") p in
+all-unreadable : (rest : List ℕ) → Answers (λ l. said_at false l 10) (word "NEXT 1 99999999999") 18 (word "UNREADABL" ++ rest) → ⊥
+all-unreadable rest p =
+    let e : ◌≡◌ {A = List ℕ} (word "UNREADABL") (word "REFUSED 6") = day-too-large (word "UNREADABL" ++ rest) p in
     let o : ◌≡◌ {A = ℕ} 85 82 = cc in
     omega arith
 

@@ -1,7 +1,6 @@
--- The line that is being read, what is said at each byte of an input, and what is held of a line. A line is a list of bytes. Assumes
--- nothing.
-use Rattle.std.specs.Prelude.{ℕ, ◌≤◌, ◌≡◌, ◌⊎◌, Bool, cond, ◌&&◌, List, [], ◌∷◌, ◌++◌, eqb, leb, length, take}
-use Rattle.std.proofs.lemmas.List.Edits.{sets}
+-- The line that is being read, what is said at each byte of an input, and what is held of a line. A line is a list of
+-- bytes. Assumes nothing.
+use Rattle.std.specs.Prelude.{ℕ, ◌≤◌, ◌≡◌, Bool, cond, ◌&&◌, List, [], ◌∷◌, ◌++◌, eqb, leb, length, take}
 use Rattle.asked.specs.Asked.{hashed}
 use Rattle.queries.specs.Queries.{answer_to}
 
@@ -50,10 +49,6 @@ pub record Becomes (f : List ℕ → List ℕ) (room : List ℕ) (n : ℕ) (room
   pub few : r ≤ 201
   pub holds : (l : List ℕ) → Holds room n l → Holds room' r (f l)
 
--- what a read comes to: the input's end, which is said by 202, or bytes at the front of the buffer, each of which the line has taken
-abbrev pub TakesOn : (bytes room : List ℕ) (n : ℕ) (room' : List ℕ) (r : ℕ) → Type 0
-TakesOn bytes room n room' r = (r ≡ 202) ⊎ ((got : ℕ) × Becomes (λ l. line_after_all l (take got bytes)) room n room' r)
-
--- whatever line is held, what is said to it, to the whole of it, stands at the front of the buffer
-pub record Answers (f : List ℕ → List ℕ) (room : List ℕ) (n : ℕ) (out out' : List ℕ) : Type 0 where
-  pub said : (l : List ℕ) → Holds room n l → out' ≡ sets out 0 (f l)
+-- whatever line is held, the text is what is said to it, to the whole of it
+pub record Answers (f : List ℕ → List ℕ) (room : List ℕ) (n : ℕ) (text : List ℕ) : Type 0 where
+  pub said : (l : List ℕ) → Holds room n l → text ≡ f l

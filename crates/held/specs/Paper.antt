@@ -44,8 +44,8 @@ pub record WrongHoldings : Type 0 where
   pub byte-lost : (room room' : List ℕ) → Becomes (λ l. line_after l 65) room 0 (0 ∷ room') 1 → ⊥
   pub two-hundred : (room room' : List ℕ) → length room ≡ 201 → Becomes (λ l. line_after l 65) room 200 room' 200 → ⊥
   pub never-ending : (room : List ℕ) → Becomes (λ l. line_after l 10) (65 ∷ room) 1 (65 ∷ room) 1 → ⊥
-  pub unanswered : (room : List ℕ) → length room ≡ 201 → Answers (λ l. said_at false l 10) room 201 (0 ∷ []) (0 ∷ []) → ⊥
-  pub note-twice : (room : List ℕ) → Answers (λ l. said_at true l 10) (35 ∷ room) 1 (0 ∷ 0 ∷ 0 ∷ 0 ∷ []) (35 ∷ 10 ∷ 35 ∷ 10 ∷ []) → ⊥
-  pub numbers-exchanged : Answers (λ l. said_at false l 10) (word "NEXT 1 99999999999") 18 (word "000000000") (word "REFUSED 1") → ⊥
-  pub all-unreadable : Answers (λ l. said_at false l 10) (word "NEXT 1 99999999999") 18 (word "000000000") (word "UNREADABL") → ⊥
-  pub not-echoed : (room : List ℕ) → Answers (λ l. said_at true l 10) (65 ∷ room) 1 (0 ∷ []) (85 ∷ []) → ⊥
+  pub unanswered : (room : List ℕ) → length room ≡ 201 → Answers (λ l. said_at false l 10) room 201 [] → ⊥
+  pub note-twice : (room rest : List ℕ) → Answers (λ l. said_at true l 10) (35 ∷ room) 1 (35 ∷ 10 ∷ 35 ∷ 10 ∷ rest) → ⊥
+  pub numbers-exchanged : (rest : List ℕ) → Answers (λ l. said_at false l 10) (word "NEXT 1 99999999999") 18 (word "REFUSED 1" ++ rest) → ⊥
+  pub all-unreadable : (rest : List ℕ) → Answers (λ l. said_at false l 10) (word "NEXT 1 99999999999") 18 (word "UNREADABL" ++ rest) → ⊥
+  pub not-echoed : (room rest : List ℕ) → Answers (λ l. said_at true l 10) (65 ∷ room) 1 (85 ∷ rest) → ⊥

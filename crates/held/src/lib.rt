@@ -1,218 +1,186 @@
-// The lines of an input, held and answered, with echo or without: the desk program's own code. Of each line the first 201 bytes are held,
-// which have the answer of the whole. No contract can say what is written; that it is the front of the buffer, and whose answer stands
-// there, is said.
+// The lines of an input, held and answered, with echo or without: the desk program's own code. Of each line the first
+// 201 bytes are held, which have the answer of the whole. No contract here says what is written; what the text
+// that is written holds, and whose answer it is, is said.
 #![tactic(auto)]
 
-ghost use Rattle.std.specs.Prelude.{◌≤◌, ◌≡◌, cond, [], ◌∷◌, ◌++◌, length};
-ghost use Rattle.fields.specs.Fields.{Put};
+ghost use Rattle.std.specs.Prelude.{◌+◌, ◌≤◌, ◌≡◌, cond, [], ◌∷◌, ◌++◌, length, take};
 ghost use Rattle.told.specs.Answers.{places};
-ghost use Rattle.held.specs.Held.{line_after, line_after_all, is_note, echoed, reply, said_at, said_at_end, Becomes, TakesOn, Answers};
+ghost use Rattle.held.specs.Held.{line_after, line_after_all, is_note, echoed, reply, said_at, said_at_end};
+ghost use Rattle.held.specs.Held.{Becomes, Answers};
 
+use fields::Text;
 use std::io;
 use std::io::{Read, Write};
 use streams::Output;
 
-// A byte more of the line, where there is room for it. How many bytes are held then.
-fn hold(b: u8, line: &mut [u8], held: usize) -> usize
-    requires { (held ≤ 201) × (length line.old ≡ 201) }
-    ensures { Becomes (λ l. l ++ (b ∷ [])) line.old held line.new result }
-{
-    if held < 201 {
-        line[held] = b;
-        return held + 1;
+// What is held of the line that is being read: its first 201 bytes. A room and how much of it is held, since
+// `OneHolding` is of such.
+#[derive(Drop)]
+struct Line {
+    bytes: [u8; 201],
+    held: usize,
+    ghost few: { held ≤ 201 },
+}
+
+impl Line {
+    // A line of which nothing has come.
+    fn new() -> Line
+        ensures { result.held ≡ 0 }
+    {
+        Line {
+            bytes: [0; 201],
+            held: 0,
+        }
     }
-    held
+
+    // What is held of it.
+    fn as_slice(&self) -> &[u8]
+        ensures bytes { result.now ≡ take self.now.held self.now.bytes }
+        ensures few { length result.now ≤ 201 }
+    {
+        &self.bytes[..self.held]
+    }
+
+    // A byte more of the line, where there is room for it.
+    fn hold(&mut self, b: u8)
+        ensures { Becomes (λ l. l ++ (b ∷ [])) self.old.bytes self.old.held self.new.bytes self.new.held }
+    {
+        if self.held < 201 {
+            self.bytes[self.held] = b;
+            self.held += 1;
+        }
+    }
 }
 
 // Whether a line is a note, which is printed as its own answer.
 fn is_note(line: &[u8]) -> bool
     ensures { result ≡ is_note line.now }
 {
-    if 200 < line.len() {
-        return false;
-    }
-    asked::is_hashed(line)
+    line.len() <= 200 && asked::is_hashed(line)
 }
 
 // With echo, a line of 201 bytes at most, where its answer does not print it.
-fn put_echo(echo: bool, line: &[u8], out: &mut [u8]) -> usize
-    requires { (length line.now ≤ 201) × (202 ≤ length out.old) }
-    ensures { Put 202 out.old 0 (cond echo (echoed line.now) []) out.new result }
+#[tactic(auto, using(crate::proofs::Echo::echoes))]
+fn write_echo<const N: usize>(echo: bool, line: &[u8], text: &mut Text<N>)
+    requires { (length line.now ≤ 201) × (length text.old + 202 ≤ N) }
+    ensures text { text.new ≡ text.old ++ cond echo (echoed line.now) [] }
+    ensures few { length text.new ≤ length text.old + 202 }
 {
-    if !echo {
-        return 0;
+    if echo && !is_note(line) {
+        queries::write_line(line, text);
     }
-    if is_note(line) {
-        return 0;
-    }
-    queries::put_line(line, out, 0)
 }
 
 // What is said to a line of 201 bytes at most.
-fn put_said(echo: bool, line: &[u8], days: &mut [u32], out: &mut [u8]) -> usize
-    requires { (length line.now ≤ 201) × (places ≤ length days.old) × (3275781 ≤ length out.old) }
-    ensures { Put 3275781 out.old 0 (reply echo line.now) out.new result }
+#[tactic(auto, unfolding(crate::specs::Held::reply))]
+fn write_said<const N: usize>(echo: bool, line: &[u8], days: &mut [u32], text: &mut Text<N>)
+    requires { (length line.now ≤ 201) × (places ≤ length days.old) × (length text.old + 3275781 ≤ N) }
+    ensures { text.new ≡ text.old ++ reply echo line.now }
 {
-    let to = put_echo(echo, line, out);
-    queries::answer_line(line, days, out, to)
+    write_echo(echo, line, text);
+    queries::answer_line(line, days, text);
 }
 
-// The line is answered: to what is held the same is said as to the whole (HeldIsEnough).
-fn answer_held<W: Write>(
+// The desk at work: the line that is being read, the memory that its answer takes, what is said, and where it goes.
+#[derive(Drop)]
+struct Desk<W> {
     echo: bool,
-    line: &[u8],
-    held: usize,
-    days: &mut [u32],
-    out: &mut [u8],
-    to: &mut Output<W>,
-)
-    requires { (held ≤ 201) × (length line.now ≡ 201) × (places ≤ length days.old) × (3275781 ≤ length out.old) }
-    ensures { Answers (reply echo) line.now held out.old out.new }
-{
-    let n = put_said(echo, &line[0..held], days, out);
-    to.put(&out[0..n]);
+    line: Line,
+    // Four places for each day of the longest window, as many as its emendations take.
+    days: [u32; 111036],
+    // Room for a line that is echoed, of 202 bytes, and the longest answer: a `FOUND` line of 17 and 27,759 `DAY` lines
+    // of 118.
+    said: Text<3275781>,
+    to: Output<W>,
 }
 
-// One byte of the input: the end of the line, which is answered, or a byte more of it. How many bytes are held then.
-fn take_byte<W: Write>(
-    echo: bool,
-    b: u8,
-    line: &mut [u8],
-    held: usize,
-    days: &mut [u32],
-    out: &mut [u8],
-    to: &mut Output<W>,
-) -> usize
-    requires { (held ≤ 201) × (length line.old ≡ 201) × (places ≤ length days.old) × (3275781 ≤ length out.old) }
-    ensures becomes { Becomes (λ l. line_after l b) line.old held line.new result }
-    ensures answers { Answers (λ l. said_at echo l b) line.old held out.old out.new }
-{
-    if b == 10 {
-        answer_held(echo, line, held, days, out, to);
-        return 0;
+impl<W: Write> Desk<W> {
+    // The line is answered: to what is held the same is said as to the whole (HeldIsEnough).
+    fn answer_held(&mut self)
+        ensures answers { Answers (reply self.old.echo) self.old.line.bytes self.old.line.held self.new.said }
+        ensures echo { self.new.echo ≡ self.old.echo }
+    {
+        self.said.clear();
+        write_said(
+            self.echo,
+            self.line.as_slice(),
+            &mut self.days,
+            &mut self.said,
+        );
+        self.to.put(self.said.as_slice());
     }
-    hold(b, line, held)
-}
 
-// So many bytes of the input, one after the other.
-fn take_bytes<W: Write>(
-    echo: bool,
-    bytes: &[u8],
-    line: &mut [u8],
-    held: usize,
-    days: &mut [u32],
-    out: &mut [u8],
-    to: &mut Output<W>,
-) -> usize
-    requires { (held ≤ 201) × (length line.old ≡ 201) × (places ≤ length days.old) × (3275781 ≤ length out.old) }
-    ensures { Becomes (λ l. line_after_all l bytes.now) line.old held line.new result }
-{
-    let mut now_held = held;
-    let mut i = 0;
-    while i < bytes.len() {
-        now_held = take_byte(echo, bytes[i], line, now_held, days, out, to);
-        i += 1;
-    }
-    now_held
-}
-
-// The next bytes of the input, as many as come: how many are held then, or 202 at the input's end.
-fn take_some<R: Read, W: Write>(
-    echo: bool,
-    from: &mut R,
-    bytes: &mut [u8],
-    line: &mut [u8],
-    held: usize,
-    days: &mut [u32],
-    out: &mut [u8],
-    to: &mut Output<W>,
-) -> usize
-    requires { (held ≤ 201) × (length line.old ≡ 201) × (places ≤ length days.old) × (3275781 ≤ length out.old) }
-    ensures upper_bound { result ≤ 202 }
-    ensures takes_on { TakesOn bytes.new line.old held line.new result }
-{
-    let n = streams::read_some(from, bytes);
-    if n == 0 {
-        return 202;
-    }
-    take_bytes(echo, &bytes[0..n], line, held, days, out, to)
-}
-
-// "A final line without a newline counts", where there is one.
-fn end_input<W: Write>(
-    echo: bool,
-    line: &[u8],
-    held: usize,
-    days: &mut [u32],
-    out: &mut [u8],
-    to: &mut Output<W>,
-)
-    requires { (held ≤ 201) × (length line.now ≡ 201) × (places ≤ length days.old) × (3275781 ≤ length out.old) }
-    ensures { Answers (said_at_end echo) line.now held out.old out.new }
-{
-    if 0 < held {
-        answer_held(echo, line, held, days, out, to);
-    }
-}
-
-// The whole input, or as much as is read until a write fails. A loop needs a number that falls: no input has 2 to the 64th parts.
-fn answer_all<R: Read, W: Write>(
-    echo: bool,
-    from: &mut R,
-    bytes: &mut [u8],
-    line: &mut [u8],
-    days: &mut [u32],
-    out: &mut [u8],
-    to: &mut Output<W>,
-)
-    requires { (length line.old ≡ 201) × (places ≤ length days.old) × (3275781 ≤ length out.old) }
-{
-    let mut held = 0;
-    let mut turns = u64::MAX;
-    while 0 < turns {
-        let next = take_some(echo, from, bytes, line, held, days, out, to);
-        if next == 202 {
-            end_input(echo, line, held, days, out, to);
-            return;
+    // One byte of the input: the end of the line, which is answered, or a byte more of it.
+    fn take_byte(&mut self, b: u8)
+        ensures becomes { Becomes (λ l. line_after l b) self.old.line.bytes self.old.line.held
+            self.new.line.bytes self.new.line.held }
+        ensures answers { Answers (λ l. said_at self.old.echo l b) self.old.line.bytes self.old.line.held self.new.said }
+        ensures echo { self.new.echo ≡ self.old.echo }
+    {
+        if b == b'\n' {
+            self.answer_held();
+            self.line = Line::new();
+        } else {
+            self.said.clear();
+            self.line.hold(b);
         }
-        if !to.is_ok() {
-            return;
+    }
+
+    // So many bytes of the input, one after the other.
+    fn take_bytes(&mut self, bytes: &[u8])
+        ensures { Becomes (λ l. line_after_all l bytes.now) self.old.line.bytes self.old.line.held
+            self.new.line.bytes self.new.line.held }
+    {
+        for &b in bytes {
+            self.take_byte(b);
         }
-        held = next;
-        turns -= 1;
+    }
+
+    // The next bytes of the input, as many as come: how many, and none at the input's end.
+    fn take_some<R: Read>(&mut self, from: &mut R, bytes: &mut [u8]) -> usize
+        ensures { Becomes (λ l. line_after_all l (take result bytes.new)) self.old.line.bytes self.old.line.held
+            self.new.line.bytes self.new.line.held }
+    {
+        let n = streams::read_some(from, bytes);
+        self.take_bytes(&bytes[..n]);
+        n
+    }
+
+    // "A final line without a newline counts", where there is one.
+    fn end_input(&mut self)
+        ensures { Answers (said_at_end self.old.echo) self.old.line.bytes self.old.line.held self.new.said }
+    {
+        self.said.clear();
+        if 0 < self.line.held {
+            self.answer_held();
+        }
+    }
+
+    // The whole input, or as much as is read until a write fails. No input has 2 to the 64th parts.
+    fn answer_all<R: Read>(&mut self, from: &mut R, bytes: &mut [u8]) {
+        for _ in 0..u64::MAX {
+            if self.take_some(from, bytes) == 0 {
+                self.end_input();
+                return;
+            }
+            if !self.to.is_ok() {
+                return;
+            }
+        }
     }
 }
 
-// Room for a line that is echoed, of 202 bytes, and the longest answer: a `FOUND` line of 17 and 27,759 `DAY` lines of 118.
-fn room() -> [u8; 3275781] {
-    [0u8; 3275781]
-}
-
-// Four places for each day of the longest window, as many as its emendations take.
-fn day_room() -> [u32; 111036] {
-    [0u32; 111036]
-}
-
-// How many bytes are read at once: a loop that moves much data would spend its time on calls of fewer.
-fn large_buffer() -> [u8; 65536] {
-    [0u8; 65536]
-}
-
-// An input answered on an output.
+// An input answered on an output. It is read so many bytes at once, since a loop that moves much data would spend its
+// time on calls of fewer.
 pub fn answer_input<R: Read, W: Write + Drop>(echo: bool, from: &mut R, to: W) -> io::Result<()> {
-    let mut out = room();
-    let mut days = day_room();
-    let mut line = [0u8; 201];
-    let mut bytes = large_buffer();
-    let mut answers = Output::new(to);
-    answer_all(
+    let mut bytes = [0u8; 65536];
+    let mut desk = Desk {
         echo,
-        from,
-        &mut bytes,
-        &mut line,
-        &mut days,
-        &mut out,
-        &mut answers,
-    );
-    answers.end()
+        line: Line::new(),
+        days: [0; 111036],
+        said: Text::new(),
+        to: Output::new(to),
+    };
+    desk.answer_all(from, &mut bytes);
+    desk.to.end()
 }

@@ -1,17 +1,18 @@
 -- The statements of specs/Paper, proved, each under its own name. Assumes nothing.
+use Rattle.std.specs.Prelude.{Result, Ok, Err, cond}
 use Prim.Native.Nat.{ℕ, ◌+◌, ◌≤◌, ◌<◌}
 use native.Mathlib.Omega.{arith}
 use native.Mathlib.Decide.{dec_lt}
 use mathlib.Core.Path.{◌≡◌, refl, ap, sym, ◌∙◌, subst}
 use mathlib.Core.Logic.{◌⊎◌, inl, inr}
 use mathlib.Core.List.{List, [], ◌∷◌, ◌++◌, map}
-use lib.ListN.{length, take, drop, length-append}
+use lib.ListN.{length, take}
 use lib.Seq.{take_all, length-take-le}
 use borrow.Author.Tests.{le-leb, lt-leb}
+use Rattle.std.proofs.lemmas.List.Sums.{sum_by-cons}
+use Rattle.rule.specs.Reasons.{within}
 use Rattle.rule.specs.declared.Reason.{Reason}
 use Rattle.rule.specs.declared.Reason.TheVariants.{TextTooLong, LentTooShort}
-use Rattle.sheet.specs.declared.HowMany.{HowMany}
-use Rattle.sheet.specs.declared.HowMany.TheVariants as HowMany'
 use Rattle.fields.specs.Fields.{word, followed}
 use Rattle.penned.specs.Paper.{in_lines}
 use Rattle.listed.specs.Paper.{TakenInto}
@@ -24,15 +25,15 @@ use Rattle.concordance.proofs.Places.{lines-le}
 use Rattle.concordance.proofs.Saying.{says}
 use Rattle.concordance.proofs.Paper.{filled, many, not-long, reasons-of-judging, refusal-judges-nothing}
 use Rattle.sheet.proofs.Places.{front}
-use Rattle.judging.specs.Report.{verdict_line, verdict_lines, one_of, how_many, total_line, refusal_line, report}
+use Rattle.judging.specs.Report.{verdict_line, verdict_lines, how_many, total_line, refusal_line, report}
 use Rattle.judging.specs.Paper as Paper
 
 pub example-reported : Paper.ExampleReported
-unfolding judging in_lines followed verdict_line verdict_lines how_many total_line report
+unfolding judging in_lines followed verdict_line verdict_lines total_line report
 example-reported = refl
 
 pub empty-reported : Paper.EmptyReported
-unfolding judging in_lines followed verdict_line verdict_lines how_many total_line report
+unfolding judging in_lines followed verdict_line verdict_lines total_line report
 empty-reported = refl
 
 refused-line : refusal_line TextTooLong ≡ in_lines (word "REFUSED 18 text too long" ∷ [])
@@ -48,19 +49,23 @@ pub long-refused : Paper.LongRefused
 long-refused s h = long-report s (omega (arith, h)) ∙ refused-line
 
 -- every verdict is of one of the three kinds
-one-kind : (v : ℕ) → v ≤ 7 → one_of 0 0 v + one_of 1 6 v + one_of 7 7 v ≡ 1
+one-kind : (v : ℕ) → v ≤ 7 → cond (within 0 0 v) 1 0 + cond (within 1 6 v) 1 0 + cond (within 7 7 v) 1 0 ≡ 1
 one-kind v h = go (dec_lt 0 v) (dec_lt 6 v)
   where
-    go : Dec (0 < v) → Dec (6 < v) → one_of 0 0 v + one_of 1 6 v + one_of 7 7 v ≡ 1
+    go : Dec (0 < v) → Dec (6 < v) → cond (within 0 0 v) 1 0 + cond (within 1 6 v) 1 0 + cond (within 7 7 v) 1 0 ≡ 1
     go (no a) b = let e : v ≡ 0 = omega (arith, a) in rw (e) refl
     go (yes a) (yes b) = let e : v ≡ 7 = omega (arith, b, h) in rw (e) refl
     go (yes a) (no b) =
         rw (le-leb 0 v (omega arith), lt-leb v 0 (omega (arith, a)), le-leb 1 v (omega (arith, a)), le-leb v 6 (omega (arith, b)), lt-leb 7 v (omega (arith, b))) refl
 
 three-kinds : (ls : List (List ℕ)) → how_many 0 0 (map number_on ls) + how_many 1 6 (map number_on ls) + how_many 7 7 (map number_on ls) ≡ length ls
-unfolding how_many
 three-kinds [] = refl
-three-kinds (l ∷ ls) = let e = three-kinds ls in omega (arith, e, one-kind (number_on l) (says l).most)
+three-kinds (l ∷ ls) =
+    let e = three-kinds ls in
+    let v = number_on l in
+    let vs = map number_on ls in
+    let more = λ (least most : ℕ). sum_by-cons (λ (n : ℕ). cond (within least most n) 1 0) v vs in
+    omega (arith, e, one-kind v (says l).most, more 0 0, more 1 6, more 7 7)
 
 pub totals-make-up-the-lines : Paper.TotalsMakeUpTheLines
 unfolding verdicts_of
@@ -79,18 +84,18 @@ pub taken-report : (room : List ℕ) (n : ℕ) (s : List ℕ) → Paper.text_hel
 taken-report room n s h e = ap report (e ∙ ap (λ (k : ℕ). take k s) (sym h)) ∙ front-is-enough s
 
 -- the two reports, by what the call answers
-module _ (s : List ℕ) {o o' : List ℕ} {r : HowMany} (p : JudgeText s o r o') (room : 65536 ≤ length o) where
-  pub refused-report : {why : Reason} → r ≡ HowMany'.Refused why → refusal_line why ≡ report s
+module _ (s : List ℕ) {o o' : List ℕ} {r : Result ℕ Reason} (p : JudgeText s o r o') (room : 65536 ≤ length o) where
+  pub refused-report : {why : Reason} → r ≡ Err why → refusal_line why ≡ report s
   refused-report {why} e = go ((reasons-of-judging s o).only why o' q)
     where
-      q : JudgeText s o (HowMany'.Refused why) o'
-      q = subst (λ (a : HowMany). JudgeText s o a o') e p
+      q : JudgeText s o (Err why) o'
+      q = subst (λ (a : Result ℕ Reason). JudgeText s o a o') e p
 
-      same : JudgeText s o (HowMany'.Refused why) o
-      same = subst (λ (l : List ℕ). JudgeText s o (HowMany'.Refused why) l) (refusal-judges-nothing s o o' why q) q
+      same : JudgeText s o (Err why) o
+      same = subst (λ (l : List ℕ). JudgeText s o (Err why) l) (refusal-judges-nothing s o o' why q) q
 
-      of : (b : Reason) → why ≡ b → JudgeText s o (HowMany'.Refused b) o
-      of b i = subst (λ (x : Reason). JudgeText s o (HowMany'.Refused x) o) i same
+      of : (b : Reason) → why ≡ b → JudgeText s o (Err b) o
+      of b i = subst (λ (x : Reason). JudgeText s o (Err x) o) i same
 
       go : (why ≡ TextTooLong) ⊎ (why ≡ LentTooShort) → refusal_line why ≡ report s
       go (inl i) = ap refusal_line i ∙ sym (long-report s (omega (arith, (reasons-of-judging s o).absent.0 (of TextTooLong i))))
@@ -98,21 +103,15 @@ module _ (s : List ℕ) {o o' : List ℕ} {r : HowMany} (p : JudgeText s o r o')
           let (h, short) = (reasons-of-judging s o).short.0 (of LentTooShort i) in
           absurd (short (omega (arith, h, room, verdicts-length s, lines-le s)))
 
-  module _ {n : ℕ} (e : r ≡ HowMany'.Is n) where
-    q : JudgeText s o (HowMany'.Is n) o'
-    q = subst (λ (a : HowMany). JudgeText s o a o') e p
+  module _ {n : ℕ} (e : r ≡ Ok n) where
+    q : JudgeText s o (Ok n) o'
+    q = subst (λ (a : Result ℕ Reason). JudgeText s o a o') e p
 
     so-many : n ≡ length (verdicts_of s)
     so-many = many s o o' n q ∙ sym (verdicts-length s)
 
     verdicts-there : take n o' ≡ verdicts_of s
     verdicts-there = front (verdicts_of s) o n o' (filled s o o' n q) so-many
-
-    pub verdicts-few : n ≤ 65536
-    verdicts-few = omega (arith, many s o o' n q, lines-le s, not-long s o o' n q)
-
-    pub verdicts-in : n ≤ length o'
-    verdicts-in = omega (arith, so-many, ap length (filled s o o' n q), length-append (verdicts_of s) (drop (length (verdicts_of s)) o))
 
     pub given-report : verdict_lines 1 (take n o') ++ total_line (take n o') ≡ report s
     unfolding report

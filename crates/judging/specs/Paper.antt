@@ -1,7 +1,7 @@
 -- What the verdicts program prints, at an example, and how much of an input it needs, as statements. proofs/Paper.antt proves each under the
 -- same name in small letters. Assumes nothing.
-use Rattle.std.specs.Prelude.{ℕ, ◌+◌, ◌≤◌, ◌≡◌, List, [], ◌∷◌, length, take}
-use Rattle.fields.specs.Fields.{word, Put}
+use Rattle.std.specs.Prelude.{ℕ, ◌+◌, ◌≤◌, ◌≡◌, List, [], ◌∷◌, ◌++◌, length, take}
+use Rattle.fields.specs.Fields.{word}
 use Rattle.penned.specs.Paper.{in_lines}
 use Rattle.listed.specs.Paper.{TakenInto}
 use Rattle.concordance.specs.Text.{lines_of}
@@ -60,6 +60,6 @@ text_held = 65537
 abbrev pub FrontIsEnough : Type 0
 FrontIsEnough = (s : List ℕ) → report (take text_held s) ≡ report s
 
--- whatever input the room has taken, what is put is the report of the whole of it
-abbrev pub TextReported : (room : List ℕ) (n : ℕ) (out out' : List ℕ) (r : ℕ) → Type 0
-TextReported room n out out' r = (s : List ℕ) → TakenInto room n s → Put 2949159 out 0 (report s) out' r
+-- whatever input the room has taken, what is written after a text is the report of the whole of it
+abbrev pub TextReported : (room : List ℕ) (n : ℕ) (text text' : List ℕ) → Type 0
+TextReported room n text text' = (s : List ℕ) → TakenInto room n s → text' ≡ text ++ report s

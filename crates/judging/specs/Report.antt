@@ -1,6 +1,7 @@
 -- "a line each, `1 RIGHT`, `2 WRONG 4 first day's name` (the field and its words ..), `3 UNREADABLE`, and a last line `TOTAL right wrong
 -- unreadable` with the three counts": the report of a text. Assumes nothing.
-use Rattle.std.specs.Prelude.{ℕ, suc, ◌+◌, cond, List, [], ◌∷◌, ◌++◌, eqb, leb, ltb, length}
+use Rattle.std.specs.Prelude.{ℕ, suc, cond, List, [], ◌∷◌, ◌++◌, eqb, leb, ltb, length}
+use Rattle.std.specs.List.{count_by}
 use Rattle.rule.specs.Reasons.{reason_number, within}
 use Rattle.rule.specs.declared.Reason.{Reason}
 use Rattle.rule.specs.declared.Reason.TheVariants.{TextTooLong}
@@ -35,12 +36,8 @@ verdict_lines i [] = []
 verdict_lines i (v ∷ vs) = verdict_line i v ++ verdict_lines (suc i) vs
 
 -- how many verdicts are one of those from `least` to `most`
-abbrev pub one_of : ℕ → ℕ → ℕ → ℕ
-one_of least most v = cond (within least most v) 1 0
-
-unfoldable pub how_many : ℕ → ℕ → List ℕ → ℕ
-how_many least most [] = 0
-how_many least most (v ∷ vs) = one_of least most v + how_many least most vs
+abbrev pub how_many : ℕ → ℕ → List ℕ → ℕ
+how_many least most vs = count_by (within least most) vs
 
 -- "a last line `TOTAL right wrong unreadable`"
 unfoldable pub total_line : List ℕ → List ℕ

@@ -1,13 +1,11 @@
-// What the verdicts program prints, put into a buffer, and the program's own code: a text is read from an input, and a line written to an
+// What the verdicts program prints, made in a text, and the program's own code: a text is read from an input, and a line written to an
 // output for each of its lines, with the totals last.
 #![tactic(auto)]
 
-ghost use Rattle.std.specs.Prelude.{◌+◌, ◌*◌, ◌≤◌, ◌≡◌, ◌++◌, length};
-ghost use Rattle.fields.specs.Fields.{Put};
+ghost use Rattle.std.specs.Prelude.{◌+◌, ◌*◌, ◌≤◌, ◌≡◌, ◌++◌, length, OnOk};
+ghost use Rattle.std.specs.Io.KnownBytes.{Appends, Consumes};
 ghost use Rattle.judging.specs.Report.{
   field_words,
-  one_of,
-  wrong_text,
   said_of,
   verdict_line,
   verdict_lines,
@@ -18,88 +16,68 @@ ghost use Rattle.judging.specs.Report.{
 };
 ghost use Rattle.judging.specs.Paper.{text_held, TextReported};
 
+use fields::Text;
 use rule::Reason;
-use sheet::HowMany;
 use std::io;
 use std::io::{Read, Write};
 
-// The words of a field.
-fn put_field(k: u8, out: &mut [u8], at: usize) -> usize
-    requires { at + 16 ≤ length out.old }
-    ensures { Put 16 out.old at (field_words k) out.new result }
+// The words of a field, by its number: a verdict stands in the lent list as one.
+fn field_words(k: u8) -> &'static str
+    ensures words { result.now ≡ field_words k }
+    ensures few { length result.now ≤ 16 }
 {
-    if k == 1 {
-        return fields::put_bytes(b"month count", out, at);
+    match k {
+        1 => "month count",
+        2 => "number",
+        3 => "leap mark",
+        4 => "first day's name",
+        5 => "length",
+        _ => "eclipse mark",
     }
-    if k == 2 {
-        return fields::put_bytes(b"number", out, at);
-    }
-    if k == 3 {
-        return fields::put_bytes(b"leap mark", out, at);
-    }
-    if k == 4 {
-        return fields::put_bytes(b"first day's name", out, at);
-    }
-    if k == 5 {
-        return fields::put_bytes(b"length", out, at);
-    }
-    fields::put_bytes(b"eclipse mark", out, at)
 }
 
-// A wrong line's field, by its number and its words.
-fn put_wrong(k: u8, out: &mut [u8], at: usize) -> usize
-    requires { at + 34 ≤ length out.old }
-    ensures { Put 34 out.old at (wrong_text k) out.new result }
+// What is said of a verdict: of a wrong line the field's number and its words.
+fn write_said<const N: usize>(v: u8, text: &mut Text<N>)
+    requires { length text.old + 34 ≤ N }
+    ensures text { text.new ≡ text.old ++ said_of v }
+    ensures few { length text.new ≤ length text.old + 34 }
 {
-    let to1 = fields::put_bytes(b" WRONG", out, at);
-    let to2 = fields::put_next(k as u32, out, to1);
-    let to3 = fields::put_byte(32, out, to2);
-    put_field(k, out, to3)
-}
-
-// What is said of a verdict.
-fn put_said(v: u8, out: &mut [u8], at: usize) -> usize
-    requires { at + 34 ≤ length out.old }
-    ensures { Put 34 out.old at (said_of v) out.new result }
-{
-    if v == 0 {
-        return fields::put_bytes(b" RIGHT", out, at);
+    match v {
+        0 => text.bytes(b" RIGHT"),
+        1..=6 => {
+            text.bytes(b" WRONG");
+            text.field(v as u32);
+            text.byte(b' ');
+            text.bytes(field_words(v).as_bytes());
+        }
+        _ => text.bytes(b" UNREADABLE"),
     }
-    if 6 < v {
-        return fields::put_bytes(b" UNREADABLE", out, at);
-    }
-    put_wrong(v, out, at)
 }
 
 // The line of a verdict: the line number, and what is said.
-fn put_verdict(i: u32, v: u8, out: &mut [u8], at: usize) -> usize
-    requires { at + 45 ≤ length out.old }
-    ensures { Put 45 out.old at (verdict_line i v) out.new result }
+#[tactic(auto, unfolding(crate::specs::Report::verdict_line))]
+fn write_verdict<const N: usize>(line: u32, v: u8, text: &mut Text<N>)
+    requires { length text.old + 45 ≤ N }
+    ensures text { text.new ≡ text.old ++ verdict_line line v }
+    ensures few { length text.new ≤ length text.old + 45 }
 {
-    let to1 = fields::put_decimal(i, out, at);
-    let to2 = put_said(v, out, to1);
-    fields::put_byte(10, out, to2)
+    text.number(line);
+    write_said(v, text);
+    text.byte(b'\n');
 }
 
 // The lines of all verdicts, numbered from 1.
-fn put_verdicts(vs: &[u8], out: &mut [u8]) -> usize
-    requires { (length vs.now ≤ 65536) × (45 * length vs.now ≤ length out.old) }
-    ensures { Put (45 * length vs.now) out.old 0 (verdict_lines 1 vs.now) out.new result }
+// (That there are 65,536 at most is a clause and no type: all three that ask it are asked by `write_report` alone, of
+// one list.)
+fn write_verdicts<const N: usize>(vs: &[u8], text: &mut Text<N>)
+    requires few { length vs.now ≤ 65536 }
+    requires room { length text.old + 45 * length vs.now ≤ N }
+    ensures text { text.new ≡ text.old ++ verdict_lines 1 vs.now }
+    ensures few { length text.new ≤ length text.old + 45 * length vs.now }
 {
-    let mut to: usize = 0;
-    let mut i: usize = 0;
-    while i < vs.len() {
-        to = put_verdict(i as u32 + 1, vs[i], out, to);
-        i += 1;
+    for (i, &v) in vs.iter().enumerate() {
+        write_verdict(i as u32 + 1, v, text);
     }
-    to
-}
-
-// Whether a verdict is one of those from `least` to `most`.
-fn one_of(least: u8, most: u8, v: u8) -> u32
-    ensures { result ≡ one_of least most v }
-{
-    if (least <= v) & (v <= most) { 1 } else { 0 }
 }
 
 // How many verdicts are one of those from `least` to `most`.
@@ -107,73 +85,59 @@ fn how_many(least: u8, most: u8, vs: &[u8]) -> u32
     requires { length vs.now ≤ 65536 }
     ensures { result ≡ how_many least most vs.now }
 {
-    let mut n: u32 = 0;
-    let mut i: usize = 0;
-    while i < vs.len() {
-        n += one_of(least, most, vs[i]);
-        i += 1;
-    }
-    n
+    vs.iter().filter(|v| (least <= **v) & (**v <= most)).count() as u32
 }
 
 // The last line: how many are right, wrong, unreadable.
-fn put_total(vs: &[u8], out: &mut [u8], at: usize) -> usize
-    requires { (length vs.now ≤ 65536) × (at + 39 ≤ length out.old) }
-    ensures { Put 39 out.old at (total_line vs.now) out.new result }
+#[tactic(auto, unfolding(crate::specs::Report::total_line, fields::specs::Fields::followed))]
+fn write_total<const N: usize>(vs: &[u8], text: &mut Text<N>)
+    requires few { length vs.now ≤ 65536 }
+    requires room { length text.old + 39 ≤ N }
+    ensures text { text.new ≡ text.old ++ total_line vs.now }
+    ensures few { length text.new ≤ length text.old + 39 }
 {
     let right = how_many(0, 0, vs);
     let wrong = how_many(1, 6, vs);
     let unreadable = how_many(7, 7, vs);
-    let to1 = fields::put_bytes(b"TOTAL", out, at);
-    let to2 = fields::put_next(right, out, to1);
-    let to3 = fields::put_next(wrong, out, to2);
-    let to4 = fields::put_next(unreadable, out, to3);
-    fields::put_byte(10, out, to4)
+    text.bytes(b"TOTAL");
+    text.field(right);
+    text.field(wrong);
+    text.field(unreadable);
+    text.byte(b'\n');
 }
 
-// A refusal: `REFUSED`, the reason's number and its words.
-fn put_refusal(why: Reason, out: &mut [u8]) -> usize
-    requires { 84 ≤ length out.old }
-    ensures { Put 84 out.old 0 (refusal_line why) out.new result }
+// A refusal: `REFUSED`, the reason's number and its words, by `refusal_line`; the desk's is held to told's `refused_text`, on which this crate
+// does not stand.
+#[tactic(auto, unfolding(crate::specs::Report::refusal_line, fields::specs::Fields::followed))]
+fn write_refusal<const N: usize>(why: Reason, text: &mut Text<N>)
+    requires { length text.old + 84 ≤ N }
+    ensures text { text.new ≡ text.old ++ refusal_line why }
+    ensures few { length text.new ≤ length text.old + 84 }
 {
-    let to1 = fields::put_bytes(b"REFUSED", out, 0);
-    let to2 = fields::put_next(rule::reason_number(why) as u32, out, to1);
-    let to3 = fields::put_byte(32, out, to2);
-    let to4 = words::put_words(why, out, to3);
-    fields::put_byte(10, out, to4)
+    text.bytes(b"REFUSED");
+    text.field(rule::reason_number(why) as u32);
+    text.byte(b' ');
+    words::write_words(why, text);
+    text.byte(b'\n');
 }
 
-// All lines of verdicts, and the totals.
-fn put_all(vs: &[u8], out: &mut [u8]) -> usize
-    requires { (length vs.now ≤ 65536) × (2949159 ≤ length out.old) }
-    ensures { Put 2949159 out.old 0 (verdict_lines 1 vs.now ++ total_line vs.now) out.new result }
+// The report of a text: 45 bytes at most a line, 65,536 lines at most, and 39.
+fn write_report<const N: usize>(bytes: &[u8], text: &mut Text<N>)
+    requires { length text.old + 2949159 ≤ N }
+    ensures { text.new ≡ text.old ++ report bytes.now }
 {
-    let to = put_verdicts(vs, out);
-    put_total(vs, out, to)
-}
-
-// The report of a text, with a list that has room for the verdicts of the longest: 45 bytes at most a line, 65,536 lines at most, and 39.
-fn report_text(text: &[u8], vs: &mut [u8], out: &mut [u8]) -> usize
-    requires { (65536 ≤ length vs.old) × (2949159 ≤ length out.old) }
-    ensures { Put 2949159 out.old 0 (report text.now) out.new result }
-{
-    match concordance::judge_text(text, vs) {
-        HowMany::Refused(why) => put_refusal(why, out),
-        HowMany::Is(n) => put_all(&vs[..n], out),
+    let mut vs = [0u8; 65536];
+    match concordance::judge_text(bytes, &mut vs) {
+        Err(why) => write_refusal(why, text),
+        Ok(n) => {
+            write_verdicts(&vs[..n], text);
+            write_total(&vs[..n], text);
+        }
     }
 }
 
-// Room for the longest report.
-fn room() -> [u8; 2949159] {
-    [0u8; 2949159]
-}
-
-// Room for the verdicts on the lines of the longest text.
-fn verdict_room() -> [u8; 65536] {
-    [0u8; 65536]
-}
-
 // The longest text has 65,536 bytes; one byte more shows that an input is longer.
+// (An array: no heap, docs/DECISIONS.md, 269.)
 fn text_room() -> [u8; 65537]
     ensures { text_held ≡ length result }
 {
@@ -181,19 +145,22 @@ fn text_room() -> [u8; 65537]
 }
 
 // The report of the input of which n bytes were taken into a room: the front says what the whole does (FrontIsEnough).
-fn report_taken(bytes: &[u8], n: usize, vs: &mut [u8], out: &mut [u8]) -> usize
-    requires { (text_held ≡ length bytes.now) × (n ≤ length bytes.now) × (65536 ≤ length vs.old) × (2949159 ≤ length out.old) }
-    ensures { TextReported bytes.now n out.old out.new result }
+// (The room and how much of it: `TextReported` is of such.)
+fn report_taken<const N: usize>(bytes: &[u8], n: usize, text: &mut Text<N>)
+    requires { (text_held ≡ length bytes.now) × (n ≤ length bytes.now) × (length text.old + 2949159 ≤ N) }
+    ensures { TextReported bytes.now n text.old text.new }
 {
-    report_text(&bytes[0..n], vs, out)
+    write_report(&bytes[..n], text)
 }
 
-// A text's report.
-pub fn report_from<R: Read, W: Write>(from: &mut R, to: &mut W) -> io::Result<()> {
+// A text's report: of what was taken of an input, which has that of the whole. That all that fits is read no clause says.
+pub fn report_from<R: Read, W: Write>(from: &mut R, to: &mut W) -> io::Result<()>
+    ensures { (s : _) × Consumes (R.remaining from.old) (R.remaining from.new) s
+        × OnOk result (Appends (W.contents to.old) (W.contents to.new) (report s)) }
+{
     let mut bytes = text_room();
-    let mut vs = verdict_room();
-    let mut out = room();
+    let mut text = Text::<2949159>::new();
     let n = streams::read_full(from, &mut bytes);
-    let m = report_taken(&bytes, n, &mut vs, &mut out);
-    to.write_all(&out[..m])
+    report_taken(&bytes, n, &mut text);
+    to.write_all(text.as_slice())
 }

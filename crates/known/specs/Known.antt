@@ -2,14 +2,13 @@
 -- 3, 5, 6, 8, 9 and 11 are worked again where they name a year" (W4): a date's year, with its name and its leap month, is the civil one; a
 -- place, a first month, a leap remainder and a solstice are of the solstice year.
 -- Assumes nothing.
-use Rattle.std.specs.Prelude.{ℕ, ◌≡◌, Bool, true, false, List, [], ◌∷◌, map, ℤ, pos, negsuc}
+use Rattle.std.specs.Prelude.{Option, Some, None, ℕ, ◌≡◌, Bool, true, false, List, [], ◌∷◌, map, ℤ, pos, negsuc}
 use Rattle.rule.specs.Rule.{month_of_day, number_of, leap_mark, shortcut_number}
 use Rattle.rule.specs.Reasons.{Answer, is, refused, and_then}
 use Rattle.dates.specs.declared.Date.{Date}
 use Rattle.dates.specs.Dates.{date_at, day_of_date}
 use Rattle.moves.specs.Moves.{moved}
 use Rattle.facts.specs.declared.LeapMonth.{LeapMonth}
-use Rattle.facts.specs.declared.LeapMonth.TheVariants.{Without, With}
 use Rattle.facts.specs.Facts.{solstice_year_at, year_facts_at, month_facts_at, quarter_at, term_at}
 
 -- what is asked in a row
@@ -43,9 +42,9 @@ bit false = 0
 abbrev pub four_of : Date → List ℕ
 four_of r = r.year ∷ number_of r.month ∷ bit (leap_mark r.month) ∷ r.day_of_month ∷ []
 
-abbrev pub leap_of : LeapMonth → List ℕ
-leap_of Without = []
-leap_of (With k n) = k ∷ n ∷ []
+abbrev pub leap_of : Option LeapMonth → List ℕ
+leap_of None = []
+leap_of (Some l) = l.number ∷ l.month ∷ []
 
 -- what the definitions say to it
 abbrev pub told : Question → Answer (List ℕ)

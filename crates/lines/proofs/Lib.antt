@@ -1,3 +1,2 @@
--- Laws of texts put one after the other, and of a text handed over.
-pub mod Joining
-pub mod Printing
+-- Laws of runs of months.
+pub mod Runs

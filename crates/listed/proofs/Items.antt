@@ -1,19 +1,12 @@
--- Items of a good list are in their range; a loop that puts a text for each item of a list, w bytes at most for each.
--- Assumes nothing.
-use Prim.Native.Nat.{ℕ, zero, suc, ◌+◌, ◌*◌, ◌≤◌, ◌<◌}
-use native.Mathlib.Nat.{mul-suc, mul-le-mul_left}
-use native.Mathlib.Numerals.{add-one}
+-- Items of a good list are in their range. Assumes nothing.
+use Prim.Native.Nat.{ℕ, zero, suc, ◌≤◌, ◌<◌}
 use native.Mathlib.Omega.{arith}
-use mathlib.Core.Path.{◌≡◌, ap}
 use mathlib.Core.List.{List, [], ◌∷◌}
-use lib.ListN.{length, get_or, take}
-use lib.Seq.{take_all}
+use lib.ListN.{length, get_or}
 use Rattle.rule.proofs.Answers.{within-true}
 use Rattle.sheet.specs.declared.Items.{Items}
 use Rattle.sheet.specs.Sheet.{Section, ranged}
 use Rattle.sheet.specs.Faults.{GoodValue, GoodValues, GoodList}
-use Rattle.fields.specs.Fields.{each, Put}
-use Rattle.fields.proofs.Putting.{put-kept, wide, put-none, put_as, each_next, turn}
 
 value-at : (k : Section) (xs : List ℕ) → GoodValues k xs → (j : ℕ) → j < length xs → GoodValue k (get_or xs j 0)
 unfolding GoodValues
@@ -23,26 +16,3 @@ value-at k (x ∷ xs) g (suc j) h = value-at k xs g.1 j (omega arith)
 
 pub in-range : (k : Items) (xs : List ℕ) → GoodList (ranged k) xs → (j : ℕ) → j < length xs → (k.least ≤ get_or xs j 0) × (get_or xs j 0 ≤ k.most)
 in-range k xs g j h = (within-true k.least k.most (get_or xs j 0)).0 (value-at (ranged k) xs g.1 j h)
-
--- the texts of the first i items are put
-pub record ItemsPut (w : ℕ) (f : ℕ → List ℕ) (xs old : List ℕ) (at : ℕ) (out : List ℕ) (to i : ℕ) : Type 0 where
-  pub inside : i ≤ length xs
-  pub put : Put (w * i) old at (each f (take i xs)) out to
-
-module _ (w : ℕ) (f : ℕ → List ℕ) (xs old : List ℕ) (at : ℕ) where
-  pub no_item : ItemsPut w f xs old at old at 0
-  unfolding each
-  no_item = record { inside = omega arith; put = wide (omega arith) (put-none old at) }
-
-module _ {w : ℕ} {f : ℕ → List ℕ} {xs old : List ℕ} {at : ℕ} {out : List ℕ} {to i : ℕ} (a : ItemsPut w f xs old at out to i) where
-  pub room-for-item : i < length xs → at + w * length xs ≤ length old → to + w ≤ length out
-  room-for-item l h =
-      let e : w * (i + 1) ≤ w * length xs = mul-le-mul_left w (omega arith) in
-      omega (arith, put-kept a.put, a.put.few, mul-suc w i, ap (λ (k : ℕ). w * k) (add-one i))
-
-  -- the item j that is put next is item i
-  pub next-item : i < length xs → (j : ℕ) {out' : List ℕ} {to' : ℕ} → Put w out to (f (get_or xs j 0)) out' to' → j ≡ i → ItemsPut w f xs old at out' to' (i + 1)
-  next-item l j p e = record { inside = omega arith; put = turn i (each_next f xs i l) a.put (put_as (ap (λ (k : ℕ). f (get_or xs k 0)) e) p) }
-
-  pub all-items : length xs ≤ i → Put (w * length xs) old at (each f xs) out to
-  all-items l = wide (mul-le-mul_left w a.inside) (put_as (ap (each f) (take_all i xs l)) a.put)

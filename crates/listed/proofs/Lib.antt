@@ -1,4 +1,4 @@
--- Laws of a sheet that was read, of a loop over items, of the front of a sheet, and the proof of the statement.
+-- Laws of a sheet that was read, of the items of its lists, of the front of a sheet, and the proof of the statement.
 pub mod Items
 pub mod Reading
 pub mod Fronts

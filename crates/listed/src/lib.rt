@@ -1,99 +1,88 @@
 // The listing of a whole sheet, and the listing program's own code: a sheet is read from an input, its listing written to an output.
 #![tactic(auto)]
 
-ghost use Rattle.std.specs.Prelude.{◌+◌, ◌*◌, ◌≤◌, ◌≡◌, length};
+ghost use Rattle.std.specs.Prelude.{◌+◌, ◌*◌, ◌≤◌, ◌≡◌, ◌++◌, length, OnOk};
+ghost use Rattle.std.specs.Io.KnownBytes.{Appends, Consumes};
 ghost use Rattle.sheet.specs.Sheet.{ranged, year_items, month_items, day_items};
 ghost use Rattle.sheet.specs.Faults.{GoodList, GoodLists};
-ghost use Rattle.fields.specs.Fields.{Put, each};
+ghost use Rattle.fields.specs.Fields.{each};
 ghost use Rattle.penned.specs.Lines.{year_block, month_item, day_item, listing_of, listing};
 ghost use Rattle.listed.specs.Paper.{input_held, InputListed};
 
-use sheet::SheetCounts;
+use fields::Text;
 use std::io;
 use std::io::{Read, Write};
 
-// The blocks of civil years.
-fn put_years(years: &[u16], out: &mut [u8], at: usize) -> usize
-    requires { GoodList (ranged year_items) years.now × (at + 674 * length years.now ≤ length out.old) }
-    ensures { Put (674 * length years.now) out.old at (each year_block years.now)
-        out.new result }
+// The blocks of civil years. Three loops: a trait over what differs would take longer than they do, and its method no `const N`.
+fn write_years<const N: usize>(years: &[u16], text: &mut Text<N>)
+    requires good { GoodList (ranged year_items) years.now }
+    requires room { length text.old + 674 * length years.now ≤ N }
+    ensures text { text.new ≡ text.old ++ each year_block years.now }
+    ensures few { length text.new ≤ length text.old + 674 * length years.now }
 {
-    let mut to = at;
-    let mut i = 0;
-    while i < years.len() {
-        to = lines::put_year(years[i], out, to);
-        i += 1;
+    for &year in years {
+        lines::write_year(year, text);
     }
-    to
 }
 
 // The `MONTH` lines of month items.
-fn put_month_items(months: &[u32], out: &mut [u8], at: usize) -> usize
-    requires { GoodList (ranged month_items) months.now × (at + 54 * length months.now ≤ length out.old) }
-    ensures { Put (54 * length months.now) out.old at (each month_item months.now)
-        out.new result }
+fn write_months<const N: usize>(months: &[u32], text: &mut Text<N>)
+    requires good { GoodList (ranged month_items) months.now }
+    requires room { length text.old + 54 * length months.now ≤ N }
+    ensures text { text.new ≡ text.old ++ each month_item months.now }
+    ensures few { length text.new ≤ length text.old + 54 * length months.now }
 {
-    let mut to = at;
-    let mut i = 0;
-    while i < months.len() {
-        to = lines::put_month(months[i], out, to);
-        i += 1;
+    for &month in months {
+        lines::write_month(month, text);
     }
-    to
 }
 
 // The `DAY` lines of day items.
-fn put_day_items(days: &[u32], out: &mut [u8], at: usize) -> usize
-    requires { GoodList (ranged day_items) days.now × (at + 61 * length days.now ≤ length out.old) }
-    ensures { Put (61 * length days.now) out.old at (each day_item days.now)
-        out.new result }
+fn write_days<const N: usize>(days: &[u32], text: &mut Text<N>)
+    requires good { GoodList (ranged day_items) days.now }
+    requires room { length text.old + 61 * length days.now ≤ N }
+    ensures text { text.new ≡ text.old ++ each day_item days.now }
+    ensures few { length text.new ≤ length text.old + 61 * length days.now }
 {
-    let mut to = at;
-    let mut i = 0;
-    while i < days.len() {
-        to = lines::put_day(days[i], out, to);
-        i += 1;
+    for &day in days {
+        lines::write_day(day, text);
     }
-    to
 }
 
 // The listing of three lists: 674, 54 and 61 bytes at most for an item, and 1,000 items at most in each.
-pub fn put_lists(years: &[u16], months: &[u32], days: &[u32], out: &mut [u8]) -> usize
-    requires { GoodLists (record { years = years.now; months = months.now; days = days.now }) × (789000 ≤ length out.old) }
-    ensures { Put 789000 out.old 0
-        (listing_of (record { years = years.now; months = months.now; days = days.now }))
-        out.new result }
+#[tactic(auto, unfolding(sheet::specs::Faults::GoodEach, penned::specs::Lines::listing_of))]
+pub fn write_lists<const N: usize>(years: &[u16], months: &[u32], days: &[u32], text: &mut Text<N>)
+    requires good { GoodLists (record { years = years.now; months = months.now; days = days.now }) }
+    requires room { length text.old + 789000 ≤ N }
+    ensures text { text.new ≡ text.old ++ listing_of (record { years = years.now; months = months.now; days = days.now }) }
+    ensures few { length text.new ≤ length text.old + 789000 }
 {
-    let to1 = put_years(years, out, 0);
-    let to2 = put_month_items(months, out, to1);
-    put_day_items(days, out, to2)
+    write_years(years, text);
+    write_months(months, text);
+    write_days(days, text);
 }
 
-// The listing of a sheet's bytes, at the front of a buffer that has room for the longest.
-fn list_sheet(bytes: &[u8], out: &mut [u8]) -> usize
-    requires { 789000 ≤ length out.old }
-    ensures { Put 789000 out.old 0 (listing bytes.now) out.new result }
+// The listing of a sheet's bytes.
+fn list_sheet<const N: usize>(bytes: &[u8], text: &mut Text<N>)
+    requires { length text.old + 789000 ≤ N }
+    ensures { text.new ≡ text.old ++ listing bytes.now }
 {
     let mut years = [0u16; 1000];
     let mut months = [0u32; 1000];
     let mut days = [0u32; 1000];
     match sheet::read_sheet(bytes, &mut years, &mut months, &mut days) {
-        SheetCounts::Refused(why) => lines::put_refused(why, out, 0),
-        SheetCounts::Is(c) => {
-            let y = c.years;
-            let m = c.months;
-            let d = c.days;
-            put_lists(&years[..y], &months[..m], &days[..d], out)
-        }
+        Err(why) => lines::write_refused(why, text),
+        Ok(c) => write_lists(
+            &years[..c.years],
+            &months[..c.months],
+            &days[..c.days],
+            text,
+        ),
     }
 }
 
-// Room for the longest listing.
-fn room() -> [u8; 789000] {
-    [0u8; 789000]
-}
-
 // The longest sheet has 10,006 bytes; one byte more shows that an input is longer.
+// (An array: no heap, docs/DECISIONS.md, 269.)
 fn sheet_room() -> [u8; 10007]
     ensures { input_held ≡ length result }
 {
@@ -101,18 +90,24 @@ fn sheet_room() -> [u8; 10007]
 }
 
 // The listing of the input of which n bytes were taken into a room: the front says what the whole does (FrontIsEnough).
-fn list_taken(bytes: &[u8], n: usize, out: &mut [u8]) -> usize
-    requires { (input_held ≡ length bytes.now) × (n ≤ length bytes.now) × (789000 ≤ length out.old) }
-    ensures { InputListed bytes.now n out.old out.new result }
+// (The room and how much of it: `InputListed` is of such.)
+fn list_taken<const N: usize>(bytes: &[u8], n: usize, text: &mut Text<N>)
+    requires { (input_held ≡ length bytes.now) × (n ≤ length bytes.now) × (length text.old + 789000 ≤ N) }
+    ensures { InputListed bytes.now n text.old text.new }
 {
-    list_sheet(&bytes[0..n], out)
+    list_sheet(&bytes[..n], text)
 }
 
-// A sheet's listing.
-pub fn list_from<R: Read, W: Write>(from: &mut R, to: &mut W) -> io::Result<()> {
+// A sheet's listing: of what was taken of an input, which has that of the whole. That all that fits is read no clause says.
+// (As judging's `report_from`: each has its room, its text and its theorem `FrontIsEnough`; a closure over both would
+// need a clause for each.)
+pub fn list_from<R: Read, W: Write>(from: &mut R, to: &mut W) -> io::Result<()>
+    ensures { (s : _) × Consumes (R.remaining from.old) (R.remaining from.new) s
+        × OnOk result (Appends (W.contents to.old) (W.contents to.new) (listing s)) }
+{
     let mut bytes = sheet_room();
-    let mut out = room();
+    let mut text = Text::<789000>::new();
     let n = streams::read_full(from, &mut bytes);
-    let m = list_taken(&bytes, n, &mut out);
-    to.write_all(&out[..m])
+    list_taken(&bytes, n, &mut text);
+    to.write_all(text.as_slice())
 }

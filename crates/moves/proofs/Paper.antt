@@ -1,4 +1,5 @@
 -- Demand 3, proved, each statement under its name in small letters. Assumes nothing.
+use Rattle.std.specs.Prelude.{Result}
 use Prim.Native.Nat.{ℕ, ◌+◌, ◌-◌, ◌/◌, ◌≤◌, ◌<◌}
 use native.Mathlib.Omega.{arith}
 use mathlib.Core.Path.{◌≡◌, refl, ap, sym, ◌∙◌, subst, subst₂}
@@ -20,16 +21,14 @@ use Rattle.rule.proofs.Paper.{eclipses-kept}
 use Rattle.rule.proofs.CivilYears
 use Rattle.rule.proofs.Counts
 use Rattle.rule.proofs.Leap as Leaps
-use Rattle.rule.proofs.Answers.{given-not, reason-back}
+use Rattle.rule.proofs.Answers.{given-not, reason-back, said-once}
 use Rattle.dates.specs.declared.Date.{Date}
-use Rattle.dates.specs.declared.Dated.{Dated}
 use Rattle.dates.specs.Dates.{date_in, date_of, day_of_date}
-use Rattle.dates.specs.Promises.{said_date}
+use Rattle.rule.specs.Reasons.{said}
 use Rattle.dates.proofs.Cases
 use Rattle.dates.proofs.Days
 use Rattle.dates.specs.Paper.{AgreesWith}
 use Rattle.dates.proofs.Laws.{own_day, back-to-day, agrees}
-use Rattle.dates.proofs.Paper.{dated-once}
 use Rattle.moves.specs.Moves.{landed, moved}
 use Rattle.moves.specs.Paper as Paper
 use Rattle.moves.specs.Paper.{SeventySixLater}
@@ -74,7 +73,7 @@ move-of-a-date-exactly y k l m d n found =
     ends : moved y k l m n ≡ landed (pos d +ℤ n)
     ends = Landing.moved-found y k l m n d (sym found)
 
-    to-date : {x z : Answer Date} (a : Dated) → x ≡ z → (said_date a ≡ x) ↔ (said_date a ≡ z)
+    to-date : {x z : Answer Date} (a : Result Date Reason) → x ≡ z → (said a ≡ x) ↔ (said a ≡ z)
     to-date a e = (λ h. h ∙ e, λ h. h ∙ sym e)
 
 pub date's-own-reasons : Paper.DatesOwnReasons
@@ -133,7 +132,7 @@ pub moves-add : Paper.MovesAdd
 moves-add y k l m a b date second whole p q s =
     let w = answered y k l m a date (sym p) in
     let at : Landed (pos w.0 +ℤ a) date = w.2 in
-    dated-once second whole
+    said-once second whole
     (q
     ∙ from-date at.e _ b date at.inside at.date (omega arith)
     ∙ ap (λ (z : ℤ). landed (z +ℤ b)) (sym at.there)
@@ -236,8 +235,8 @@ eclipse-excepted a b p q =
     record {
       r = date_of 27758;
       s = date_of 55517;
-      here = dated-once a _ (p ∙ by 0 (omega arith));
-      later = dated-once b _ (q ∙ by 27759 (omega arith));
+      here = said-once a _ (p ∙ by 0 (omega arith));
+      later = said-once b _ (q ∙ by 27759 (omega arith));
       in_one = ap (λ (t : Date). t.eclipse) Cases.date-27758;
       in-none = Cases.no-eclipse-55517;
     }
@@ -251,7 +250,7 @@ moved-agrees y k l m n r p =
     (at.e, subst (AgreesWith at.e) (sym at.date) (agrees at.e at.inside))
 
 pub unique-move : Paper.UniqueMove
-unique-move y k l m n a b p q = dated-once a b (p ∙ sym q)
+unique-move y k l m n a b p q = said-once a b (p ∙ sym q)
 
 pub wrong-moves : Paper.WrongMoves
 unfolding date_of date_in day_name

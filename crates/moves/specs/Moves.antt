@@ -1,10 +1,9 @@
 -- A move of a date, as the paper has it, for every number. Assumes nothing.
-use Rattle.std.specs.Prelude.{ℕ, ◌≡◌, Bool, leb, ℤ, pos, negsuc, ◌+ℤ◌}
-use Rattle.rule.specs.Reasons.{Answer, is, refused, guard, and_then}
+use Rattle.std.specs.Prelude.{Result, ℕ, ◌≡◌, Bool, leb, ℤ, pos, negsuc, ◌+ℤ◌}
+use Rattle.rule.specs.Reasons.{Answer, is, refused, guard, and_then, said}
+use Rattle.rule.specs.declared.Reason.{Reason}
 use Rattle.dates.specs.declared.Date.{Date}
-use Rattle.dates.specs.declared.Dated.{Dated}
 use Rattle.dates.specs.Dates.{date_of, day_of_date}
-use Rattle.dates.specs.Promises.{said_date}
 use Rattle.moves.specs.declared.Way.{Way}
 use Rattle.moves.specs.declared.Way.TheVariants.{On, Back}
 
@@ -31,5 +30,5 @@ unfoldable pub stepped : ℕ → Way → Answer Date
 stepped d w = landed (pos d +ℤ signed w)
 
 -- a move of a date by any signed number
-abbrev pub MoveDate : ℕ → ℕ → Bool → ℕ → ℤ → Dated → Type 0
-MoveDate y k l m n r = said_date r ≡ moved y k l m n
+abbrev pub MoveDate : ℕ → ℕ → Bool → ℕ → ℤ → Result Date Reason → Type 0
+MoveDate y k l m n r = said r ≡ moved y k l m n

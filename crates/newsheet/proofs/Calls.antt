@@ -1,22 +1,23 @@
 -- Laws of the calls: what decides each answer, and what each comes to. Assumes nothing.
+use Rattle.std.specs.Prelude.{Ok, Err}
 use Prim.Native.Nat.{ℕ, ◌+◌, ◌-◌, ◌*◌, ◌≤◌, ◌<◌}
 use native.Mathlib.Nat.{zero-add}
+use native.Mathlib.Numerals.{add-one}
 use native.Mathlib.Omega.{arith}
 use mathlib.Core.Path.{◌≡◌, refl, ap, sym, ◌∙◌, subst}
 use mathlib.Core.Logic.{◌↔◌}
 use mathlib.Core.Bool.{Bool, true, false, ◌&&◌}
 use mathlib.Core.List.{List, [], ◌∷◌, ◌++◌}
 use lib.Dec.{leb}
-use lib.ListN.{length, take, drop, length-append}
-use lib.Seq.{length-take-le}
+use lib.ListN.{length, take, drop, set, length-append}
+use lib.Seq.{sets, length-take-le}
 use Rattle.rule.specs.Lists.{placed}
 use Rattle.rule.specs.Reasons.{Answer, is, refused, reason_number, guard, and_then, into_room}
 use Rattle.rule.specs.declared.Reason.{Reason}
 use Rattle.rule.proofs.Answers.{both_true, at_most, fails}
-use Rattle.rule.proofs.Stores.{from_front}
+use Rattle.rule.proofs.Stores.{from_front, sets-append}
 use Rattle.octets.specs.Bytes.{numbers}
 use Rattle.sheet.specs.declared.Counted.{Counted}
-use Rattle.sheet.specs.declared.HowMany.TheVariants as HowMany'
 use Rattle.sheet.specs.Sheet.{sections_read, sheet_sections, lists_of, lists_in, items_of, count_of, months_part, days_part}
 use Rattle.sheet.specs.Faults.{here, later, Row, GoodSections, SectionsFault, HasRoom}
 use Rattle.sheet.specs.Steps.{left_over, bytes_of, ToFill}
@@ -24,9 +25,7 @@ use Rattle.sheet.specs.Promises.{counts_in}
 use Rattle.sheet.proofs.Deciding.{Decides, asks, asks-first, and-then, made-into, if-given, if-refused}
 use Rattle.sheet.proofs.Reading.{sections-decided, sheet-decided, room-iff, section-long, Three, three-good}
 use Rattle.sheet.proofs.Sheets.{length-numbers, front-and-rest}
-use Rattle.fields.specs.Fields.{Put}
 use Rattle.newsheet.specs.declared.FourCounts.{FourCounts}
-use Rattle.newsheet.specs.declared.NewCounts.TheVariants as NewCounts'
 use Rattle.newsheet.specs.New.{eights, reading_section, new_sections, Four, four_named, four_in, read_new, room_for_four, read_new_into, to_new, to_old}
 use Rattle.newsheet.specs.Faults.{HasRoomForFour, GoodNew, NewFault, GoodToNew, ToNewFault, NoReadings, GoodToOld, ToOldFault}
 use Rattle.newsheet.specs.Promises.{counted_four, four_counts_in, readings_part, ReadNew, ToNew, ToOld, ToFillNew, FilledNew}
@@ -116,11 +115,11 @@ module _ (s y m d n : List ℕ) where
   abbrev answered : Answer Four
   answered = read_new_into s (length y) (length m) (length d) (length n)
 
-  pub read-new-refused : (r : Reason) → answered ≡ refused (reason_number r) → ReadNew s y m d n (NewCounts'.Refused r) y m d n
+  pub read-new-refused : (r : Reason) → answered ≡ refused (reason_number r) → ReadNew s y m d n (Err r) y m d n
   read-new-refused r h = record { answer = rw (h); years = rw (h); months = rw (h); days = rw (h); readings = rw (h) }
 
   pub read-new-given : (l : Four) (c : FourCounts) → c ≡ counted_four l → answered ≡ is l →
-      ReadNew s y m d n (NewCounts'.Is c) (placed l.three.years y) (placed l.three.months m) (placed l.three.days d) (placed (eights l.readings) n)
+      ReadNew s y m d n (Ok c) (placed l.three.years y) (placed l.three.months m) (placed l.three.days d) (placed (eights l.readings) n)
   read-new-given l c e h = record { answer = rw (h) (ap is e); years = rw (h); months = rw (h); days = rw (h); readings = rw (h) }
 
   pub read-new-bad : (r : ℕ) → and_then (sections_read new_sections s) (λ l. is (four_counts_in s)) ≡ refused r → answered ≡ refused r
@@ -167,7 +166,7 @@ module _ (s y m d n : List ℕ) where
           }
 
       pub read-new-filled : b ≡ true → 8 * c.readings ≤ length n → (y' m' d' n' : List ℕ) → FilledNew s y m d n y' m' d' n' →
-          ReadNew s y m d n (NewCounts'.Is c) y' m' d' n'
+          ReadNew s y m d n (Ok c) y' m' d' n'
       unfolding four_in lists_in lists_of left_over
       read-new-filled o r y' m' d' n' w =
           let g = (to-fill-new o r).good in
@@ -182,10 +181,10 @@ module _ (s y m d n : List ℕ) where
 
 -- what is converted
 module _ (s o : List ℕ) where
-  pub to-new-refused : (r : Reason) → to_new s (length o) ≡ refused (reason_number r) → ToNew s o (HowMany'.Refused r) o
+  pub to-new-refused : (r : Reason) → to_new s (length o) ≡ refused (reason_number r) → ToNew s o (Err r) o
   to-new-refused r h = record { answer = rw (h); buffer = rw (h) }
 
-  pub to-new-given : (b : List ℕ) → to_new s (length o) ≡ is b → ToNew s o (HowMany'.Is (length b)) (placed b o)
+  pub to-new-given : (b : List ℕ) → to_new s (length o) ≡ is b → ToNew s o (Ok (length b)) (placed b o)
   to-new-given b h = record { answer = rw (h); buffer = rw (h) }
 
   pub to-new-bad : (r : ℕ) → and_then (sections_read sheet_sections s) (λ l. is (counts_in s)) ≡ refused r → to_new s (length o) ≡ refused r
@@ -198,16 +197,24 @@ module _ (s o : List ℕ) where
     pub to-new-short : length o < length s + 2 → to_new s (length o) ≡ refused 12
     to-new-short l = (to-new-decided s (length o)).told 12 (later old-good (record { fails = λ g. omega (arith, g, l); reason = refl }))
 
-    pub to-new-put : length s + 2 ≤ length o → {w r : ℕ} {o' : List ℕ} → Put w o 0 (s ++ (0 ∷ 0 ∷ [])) o' r → ToNew s o (HowMany'.Is r) o'
-    to-new-put l p =
-        let b : List ℕ = s ++ (0 ∷ 0 ∷ []) in
-        let e : length b ≡ length s + 2 = length-append s (0 ∷ 0 ∷ []) in
-        rw (p.stored ∙ from_front b o (omega (arith, l, e)), p.next ∙ zero-add (length b)) (to-new-given b ((to-new-decided s (length o)).given (old-good, l)))
+    -- the bytes copied, and two more put behind them
+    pub to-new-copied : length s + 2 ≤ length o → ToNew s o (Ok (length s + 2)) (set (set (s ++ drop (length s) o) (length s) 0) (length s + 1) 0)
+    to-new-copied l =
+        let z : List ℕ = 0 ∷ 0 ∷ [] in
+        let b : List ℕ = s ++ z in
+        let e : length b ≡ length s + 2 = length-append s z in
+        let f : set (set (s ++ drop (length s) o) (length s) 0) (length s + 1) 0 ≡ placed b o =
+        ap (λ (j : ℕ). set (set (placed s o) (length s) 0) j 0) (add-one (length s))
+        ∙ ap (λ (u : List ℕ). sets u (length s) z) (sym (from_front s o (omega (arith, l))))
+        ∙ ap (λ (j : ℕ). sets (sets o 0 s) j z) (sym (zero-add (length s)))
+        ∙ sym (sets-append s z o 0)
+        ∙ from_front b o (omega (arith, l, e)) in
+        rw (f, ← e) (to-new-given b ((to-new-decided s (length o)).given (old-good, l)))
 
-  pub to-old-refused : (r : Reason) → to_old s (length o) ≡ refused (reason_number r) → ToOld s o (HowMany'.Refused r) o
+  pub to-old-refused : (r : Reason) → to_old s (length o) ≡ refused (reason_number r) → ToOld s o (Err r) o
   to-old-refused r h = record { answer = rw (h); buffer = rw (h) }
 
-  pub to-old-given : (b : List ℕ) → to_old s (length o) ≡ is b → ToOld s o (HowMany'.Is (length b)) (placed b o)
+  pub to-old-given : (b : List ℕ) → to_old s (length o) ≡ is b → ToOld s o (Ok (length b)) (placed b o)
   to-old-given b h = record { answer = rw (h); buffer = rw (h) }
 
   pub to-old-bad : (r : ℕ) → and_then (sections_read new_sections s) (λ l. is (four_counts_in s)) ≡ refused r → to_old s (length o) ≡ refused r
@@ -236,8 +243,8 @@ module _ (s o : List ℕ) where
       to-old-short l =
           (to-old-decided s (length o)).told 12 (later new-good.0 (later none (record { fails = λ g. omega (arith, g, l); reason = refl })))
 
-      pub to-old-put : length s - 2 ≤ length o → {w r : ℕ} {o' : List ℕ} → Put w o 0 (take (length s - 2) s) o' r → ToOld s o (HowMany'.Is r) o'
-      to-old-put l p =
+      pub to-old-copied : length s - 2 ≤ length o → ToOld s o (Ok (length s - 2)) (take (length s - 2) s ++ drop (length s - 2) o)
+      to-old-copied l =
           let b : List ℕ = take (length s - 2) s in
           let e : length b ≡ length s - 2 = length-take-le (length s - 2) s (omega arith) in
-          rw (p.stored ∙ from_front b o (omega (arith, l, e)), p.next ∙ zero-add (length b)) (to-old-given b ((to-old-decided s (length o)).given (new-good.0, (none, l))))
+          rw (e) at (to-old-given b ((to-old-decided s (length o)).given (new-good.0, (none, l))))

@@ -2,21 +2,18 @@
 use Prim.Native.Nat.{ℕ, zero, suc, ◌+◌, ◌-◌, ◌*◌, ◌≤◌, ◌<◌}
 use native.Mathlib.Omega.{arith}
 use mathlib.Core.Path.{◌≡◌, refl, ap, sym, ◌∙◌}
-use mathlib.Core.Bool.{true, false}
 use mathlib.Core.List.{List, [], ◌∷◌, ◌++◌, append_assoc}
-use lib.ListN.{length, get_or, take, drop, set, length-append, length-drop, get_or-append}
-use lib.Seq.{sets, length-sets, drop-append-le, drop-cons, drop-drop, take_at, drop_at}
-use Rattle.rule.specs.Reasons.{refused, reason_number}
+use lib.ListN.{length, get_or, take, drop, length-append, length-drop, get_or-append}
+use lib.Seq.{sets, drop-append-le, drop-cons, drop-drop, take_at, drop_at}
+use Rattle.std.specs.Prelude.{Result, Ok, Err}
 use Rattle.rule.specs.declared.Reason.{Reason}
+use Rattle.rule.specs.Reasons.{is, guard, said}
 use Rattle.rule.proofs.Stores.{part-all, sets-append}
-use Rattle.reading.specs.declared.Tested.{Tested}
-use Rattle.reading.specs.declared.Tested.TheVariants.{Holds, Fails}
-use Rattle.reading.specs.Search.{said_tested}
-use Rattle.octets.specs.Bytes.{number, numbers, lay}
-use Rattle.octets.proofs.Numbers.{number_append, length-lay}
+use Rattle.octets.specs.Bytes.{number, numbers, lay, length-lay, read_all}
+use Rattle.octets.proofs.Numbers.{number_append}
 use Rattle.stated.specs.Paper.{AreBytes}
 use Rattle.stated.proofs.RoundTrip.{lay-number}
-use Rattle.newsheet.specs.New.{eight_in, eight_of, eights, tested, is_given, reason_in, reading_section}
+use Rattle.newsheet.specs.New.{eight_in, eight_of, eights, is_given, reason_in}
 
 -- the eight numbers do not look past 14 bytes
 eight-front : (p q : List ℕ) → 14 ≤ length p → eight_in (p ++ q) ≡ eight_in p
@@ -42,21 +39,6 @@ eight-read s h b =
     let l = lay 14 (number 14 s) in
     sym (eight-front l (drop 14 s) (omega (arith, length-lay 14 (number 14 s)))) ∙ ap eight_in (lay-number 14 s h b)
 
--- eight stores in a row are a run of eight
-module _ (out : List ℕ) (at a b c d e f g h : ℕ) where
-  pub eight-put :
-      set (set (set (set (set (set (set (set out at a) (at + 1) b) (at + 2) c) (at + 3) d) (at + 4) e) (at + 5) f) (at + 6) g) (at + 7) h
-      ≡ sets out at (a ∷ b ∷ c ∷ d ∷ e ∷ f ∷ g ∷ h ∷ [])
-  eight-put =
-      let e1 : at + 1 ≡ suc at = omega arith in
-      let e2 : at + 2 ≡ suc (suc at) = omega arith in
-      let e3 : at + 3 ≡ suc (suc (suc at)) = omega arith in
-      let e4 : at + 4 ≡ suc (suc (suc (suc at))) = omega arith in
-      let e5 : at + 5 ≡ suc (suc (suc (suc (suc at)))) = omega arith in
-      let e6 : at + 6 ≡ suc (suc (suc (suc (suc (suc at))))) = omega arith in
-      let e7 : at + 7 ≡ suc (suc (suc (suc (suc (suc (suc at)))))) = omega arith in
-      rw (e1, e2, e3, e4, e5, e6, e7)
-
 pub length-eight : (x : ℕ) → length (eight_of x) ≡ 8
 unfolding eight_of eight_in
 length-eight x = refl
@@ -66,27 +48,20 @@ unfolding eights
 length-eights [] = refl
 length-eights (x ∷ xs) = length-append (eight_of x) (eights xs) ∙ omega (arith, length-eight x, length-eights xs)
 
--- what the search's tests say of an item
-module _ (x : ℕ) {t : Tested} (p : said_tested t ≡ tested (eight_of x)) where
-  pub test-fails : (why : Reason) → t ≡ Fails why → (reading_section.good x ≡ false) × (reading_section.reason x ≡ reason_number why)
-  test-fails why e =
-      let h : tested (eight_of x) ≡ refused (reason_number why) = sym p ∙ ap said_tested e in
-      (ap is_given h, ap reason_in h)
-
-  pub test-holds : t ≡ Holds → reading_section.good x ≡ true
-  test-holds e = ap is_given (sym p ∙ ap said_tested e)
+-- what a test says, by whether it is given and by its reason
+pub told-again : (r : Result (Unit {0}) Reason) → said r ≡ guard (is_given (said r)) (reason_in (said r)) (is (tt {0}))
+told-again (Ok u) = refl
+told-again (Err why) = refl
 
 -- a loop that stores the numbers of the n items of 14 bytes in s: i are stored, t is what is left
 pub record StoringEights (s old : List ℕ) (n : ℕ) (out t : List ℕ) (i : ℕ) : Type 0 where
-  pub within : i ≤ n
   pub whole : 14 * (n - i) ≤ length t
-  pub same : length out ≡ length old
   pub rest : sets out (8 * i) (eights (numbers 14 (n - i) t)) ≡ sets old 0 (eights (numbers 14 n s))
 
 module _ {s old : List ℕ} {n : ℕ} {out t : List ℕ} {i : ℕ} (a : StoringEights s old n out t i) where
   pub next-stored : i < n → (out' : List ℕ) → out' ≡ sets out (8 * i) (eight_of (number 14 t)) →
       StoringEights s old n out' (take (length t - 14) (drop 14 t)) (i + 1)
-  unfolding eights numbers
+  unfolding eights read_all
   next-stored l out' h =
       let e : n - i ≡ suc (n - (i + 1)) = omega arith in
       let x = eight_of (number 14 t) in
@@ -94,14 +69,12 @@ module _ {s old : List ℕ} {n : ℕ} {out t : List ℕ} {i : ℕ} (a : StoringE
       let f : 8 * i + length x ≡ 8 * (i + 1) = omega (arith, length-eight (number 14 t)) in
       let r : sets out (8 * i) (x ++ ys) ≡ sets old 0 (eights (numbers 14 n s)) = rw (e) at a.rest in
       record {
-        within = omega arith;
         whole = rw (part-all 14 t) (omega (arith, length-drop 14 t, a.whole));
-        same = ap length h ∙ length-sets out (8 * i) x ∙ a.same;
         rest = rw (part-all 14 t, h, ← f) (sym (sets-append x ys out (8 * i)) ∙ r);
       }
 
   pub all-stored : n ≤ i → out ≡ sets old 0 (eights (numbers 14 n s))
-  unfolding eights numbers
+  unfolding eights read_all
   all-stored l = let e : n - i ≡ 0 = omega arith in rw (e) at a.rest
 
 -- the eight numbers read from the bytes s are those of the item at their front

@@ -8,11 +8,11 @@ use borrow.Author.Tests.{le-leb, lt-leb}
 use Rattle.rule.specs.Reasons.{Answer, is, refused, and_then}
 use Rattle.rule.proofs.Stores.{part-all}
 use Rattle.sheet.specs.declared.Counted.{Counted}
-use Rattle.sheet.specs.Sheet.{ListsFor, section_read, sections_read, count_of, count_read, items_read, left_after, sheet_sections}
+use Rattle.sheet.specs.Sheet.{ListsFor, section_read, sections_read, count_of, left_after, sheet_sections}
 use Rattle.sheet.specs.Steps.{front_read, bytes_of}
 use Rattle.sheet.specs.Promises.{counts_in}
 use Rattle.sheet.proofs.Deciding.{made_of, refused-of, stops-there, goes_on}
-use Rattle.sheet.proofs.Reading.{Found, found, section-refused, section-counted, Three, three-refused, three-then}
+use Rattle.sheet.proofs.Reading.{Found, found, Three, three-refused, three-then}
 use Rattle.newsheet.specs.declared.FourCounts.{FourCounts}
 use Rattle.newsheet.specs.New.{reading_section, new_sections}
 use Rattle.newsheet.specs.Promises.{four_counts_in}
@@ -21,18 +21,10 @@ abbrev fourth : List ℕ → Answer ℕ
 fourth s = and_then (sections_read (reading_section ∷ []) s) (λ l. is (count_of s))
 
 -- the fourth section alone
-abbrev pub section : List ℕ → Answer ℕ
+abbrev section : List ℕ → Answer ℕ
 section s = and_then (section_read reading_section s) (λ xs. is (count_of s))
 
 module _ (s : List ℕ) where
-  pub count-bad : (r : ℕ) → count_read reading_section s ≡ refused r → section s ≡ refused r
-  count-bad r h = section-refused reading_section s (count_of s) r h
-
-  -- its readings, read from the part u behind its count
-  pub counted-good : (n : ℕ) (u : List ℕ) → count_read reading_section s ≡ is n → u ≡ drop 2 s →
-      section s ≡ and_then (items_read reading_section n u) (λ xs. is n)
-  counted-good n u h e = (section-counted reading_section s n h).1 ∙ ap (λ (v : List ℕ). and_then (items_read reading_section n v) (λ xs. is n)) (sym e)
-
   pub fourth-bad : (r : ℕ) → section s ≡ refused r → fourth s ≡ refused r
   unfolding sections_read
   fourth-bad r h =

@@ -69,16 +69,16 @@ abbrev pub last_in : List ℕ → ℕ
 last_in v = get_or v 7 0
 
 -- "reading items are checked for 9, 6, 13, 14 in that order": after 9 what the search tests, 6 for either end, 13, 14
-unfoldable pub tested : List ℕ → Answer ℕ
-tested v = where_good (reading_in v) (first_in v) (last_in v) (is 0)
+unfoldable pub tested : List ℕ → Answer (Unit {0})
+tested v = where_good (reading_in v) (first_in v) (last_in v) (is tt)
 
 -- whether there is an answer, and the reason where there is none
-abbrev pub is_given : Answer ℕ → Bool
+abbrev pub is_given : {A : Type 0} → Answer A → Bool
 is_given (is x) = true
 is_given (refused k) = false
 is_given (refused-with k n) = false
 
-abbrev pub reason_in : Answer ℕ → ℕ
+abbrev pub reason_in : {A : Type 0} → Answer A → ℕ
 reason_in (is x) = 0
 reason_in (refused k) = k
 reason_in (refused-with k n) = k

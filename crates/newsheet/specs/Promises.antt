@@ -1,21 +1,15 @@
 -- What reading a sheet of the new form and the two conversions promise: the paper's number and values for each case of an answer, and every
 -- lent list. Assumes nothing.
-use Rattle.std.specs.Prelude.{ℕ, ◌≡◌, List, length}
+use Rattle.rule.specs.declared.Reason.{Reason}
+use Rattle.std.specs.Prelude.{Result, ℕ, ◌≡◌, List, length}
 use Rattle.std.proofs.lemmas.List.Edits.{sets}
-use Rattle.rule.specs.Reasons.{Answer, is, refused, reason_number, and_then, afterwards}
+use Rattle.rule.specs.Reasons.{said, is, and_then, afterwards}
 use Rattle.sheet.specs.Sheet.{sheet_sections, items_of, count_of}
-use Rattle.sheet.specs.declared.HowMany.{HowMany}
 use Rattle.sheet.specs.Steps.{left_over, Filled}
-use Rattle.sheet.specs.Promises.{said_how_many, counted, counts_in}
+use Rattle.sheet.specs.Promises.{counted, counts_in}
 use Rattle.newsheet.specs.declared.FourCounts.{FourCounts}
-use Rattle.newsheet.specs.declared.NewCounts.{NewCounts}
-use Rattle.newsheet.specs.declared.NewCounts.TheVariants as NewCounts'
 use Rattle.newsheet.specs.New.{eights, reading_section, Four, read_new_into, to_new, to_old}
 use Rattle.newsheet.specs.Faults.{GoodNew}
-
-abbrev pub said_new : NewCounts → Answer FourCounts
-said_new (NewCounts'.Is c) = is c
-said_new (NewCounts'.Refused r) = refused (reason_number r)
 
 -- "giving four counts"
 abbrev pub counted_four : Four → FourCounts
@@ -29,20 +23,20 @@ abbrev pub four_counts_in : List ℕ → FourCounts
 four_counts_in s = record { three = counts_in s; readings = count_of (readings_part s) }
 
 -- reading the bytes s into lent lists that held y, m, d and n: the answer r, and what they hold then
-pub record ReadNew (s y m d n : List ℕ) (r : NewCounts) (y' m' d' n' : List ℕ) : Type 0 where
-  pub answer : said_new r ≡ and_then (read_new_into s (length y) (length m) (length d) (length n)) (λ l. is (counted_four l))
+pub record ReadNew (s y m d n : List ℕ) (r : Result FourCounts Reason) (y' m' d' n' : List ℕ) : Type 0 where
+  pub answer : said r ≡ and_then (read_new_into s (length y) (length m) (length d) (length n)) (λ l. is (counted_four l))
   pub years : y' ≡ afterwards (read_new_into s (length y) (length m) (length d) (length n)) (λ l. l.three.years) y
   pub months : m' ≡ afterwards (read_new_into s (length y) (length m) (length d) (length n)) (λ l. l.three.months) m
   pub days : d' ≡ afterwards (read_new_into s (length y) (length m) (length d) (length n)) (λ l. l.three.days) d
   pub readings : n' ≡ afterwards (read_new_into s (length y) (length m) (length d) (length n)) (λ l. eights l.readings) n
 
 -- converting the bytes s into a lent buffer that held o: the answer r, and what it holds then
-pub record ToNew (s o : List ℕ) (r : HowMany) (o' : List ℕ) : Type 0 where
-  pub answer : said_how_many r ≡ and_then (to_new s (length o)) (λ b. is (length b))
+pub record ToNew (s o : List ℕ) (r : Result ℕ Reason) (o' : List ℕ) : Type 0 where
+  pub answer : said r ≡ and_then (to_new s (length o)) (λ b. is (length b))
   pub buffer : o' ≡ afterwards (to_new s (length o)) (λ b. b) o
 
-pub record ToOld (s o : List ℕ) (r : HowMany) (o' : List ℕ) : Type 0 where
-  pub answer : said_how_many r ≡ and_then (to_old s (length o)) (λ b. is (length b))
+pub record ToOld (s o : List ℕ) (r : Result ℕ Reason) (o' : List ℕ) : Type 0 where
+  pub answer : said r ≡ and_then (to_old s (length o)) (λ b. is (length b))
   pub buffer : o' ≡ afterwards (to_old s (length o)) (λ b. b) o
 
 -- for the inner functions: a sheet of the new form that is good, with room in lists of y, m, d and n places, and its counts

@@ -4,34 +4,25 @@
 
 ghost use Rattle.std.specs.Prelude.{◌≡◌, [], ◌∷◌, ◌+◌, ◌*◌, ◌≤◌, length, drop};
 ghost use Rattle.std.proofs.lemmas.List.Edits.{sets};
-ghost use Rattle.rule.specs.Reasons.{is, and_then};
-ghost use Rattle.reading.specs.Search.{said_tested};
+ghost use Rattle.rule.specs.Reasons.{said, is, and_then};
 ghost use Rattle.octets.specs.Bytes.{number, numbers};
-ghost use Rattle.sheet.specs.Sheet.{count_of, items_read, sections_read};
-ghost use Rattle.sheet.specs.Promises.{said_how_many};
-ghost use Rattle.newsheet.specs.New.{eight_of, eights, eight_numbers, field_by, reading_in, tested, reading_section, new_sections};
-ghost use Rattle.newsheet.specs.Promises.{said_new, four_counts_in, ReadNew, ToNew, ToOld, ToFillNew, FilledNew};
+ghost use Rattle.sheet.specs.Sheet.{count_of, sections_read};
+ghost use Rattle.newsheet.specs.New.{eight_of, eights, eight_numbers, field_by, reading_in, reading_section, new_sections};
+ghost use Rattle.newsheet.specs.Promises.{four_counts_in, ReadNew, ToNew, ToOld, ToFillNew, FilledNew};
 
-use reading::{Field, Reading, Tested};
+use reading::{Field, Reading};
 use rule::Reason;
-use sheet::{Counted, HowMany, SheetCounts};
+use sheet::{Counted, InSection};
 
 // The four counts of a sheet of the new form: years, months and days, and readings.
-#[derive(Clone, Copy)]
+#[derive(Debug, Clone, Copy, PartialEq, Eq)]
 pub struct FourCounts {
     pub three: Counted,
     pub readings: usize,
 }
 
-// The answer of reading: the four counts, or why the sheet comes back.
-#[derive(Clone, Copy)]
-pub enum NewCounts {
-    Is(FourCounts),
-    Refused(Reason),
-}
-
 // The eight numbers of a reading, as they stand in a sheet: 0 is unread; a leap mark is 1 for ordinary and 2 for leap.
-#[derive(Clone, Copy)]
+#[derive(Debug, Clone, Copy, PartialEq, Eq)]
 pub struct Eight {
     pub year_name: u32,
     pub month_number: u32,
@@ -43,7 +34,7 @@ pub struct Eight {
     pub last: u32,
 }
 
-// A field by its number: 0 is unread.
+// A field by its number: 0 is unread. No `From`: neither the field nor the number is of this crate.
 fn field_by(n: u32) -> Field
     ensures { result ≡ field_by n }
 {
@@ -74,81 +65,65 @@ fn eight_in(s: &[u8]) -> Eight
 }
 
 // The reading that eight numbers are of.
-pub fn reading_in(e: Eight) -> Reading
-    ensures { result ≡ reading_in (eight_numbers e) }
-{
-    Reading {
-        year_name: field_by(e.year_name),
-        month_number: field_by(e.month_number),
-        leap_mark: field_by(e.leap_mark),
-        day_of_month: field_by(e.day_of_month),
-        day_name: field_by(e.day_name),
-        first_name: field_by(e.first_name),
+impl From<Eight> for Reading {
+    ghost from_gives = { λ e r. r ≡ reading_in (eight_numbers e) };
+
+    fn from(e: Eight) -> Reading {
+        Reading {
+            year_name: field_by(e.year_name),
+            month_number: field_by(e.month_number),
+            leap_mark: field_by(e.leap_mark),
+            day_of_month: field_by(e.day_of_month),
+            day_name: field_by(e.day_name),
+            first_name: field_by(e.first_name),
+        }
     }
 }
 
-// The search's own tests of a reading.
-fn test_eight(e: Eight) -> Tested
-    ensures { said_tested result ≡ tested (eight_numbers e) }
-{
-    reading::test_search(reading_in(e), e.first, e.last)
-}
+// The fourth section is of readings, with the search's own tests: 6, 13 and 14.
+#[derive(Debug, Clone, Copy, PartialEq, Eq)]
+struct Readings;
 
-// The readings of the fourth section, one by one: reason 9, then 6, 13 and 14.
-fn check_readings(s: &[u8], n: usize) -> HowMany
-    ensures { said_how_many result ≡ and_then (items_read reading_section n s.now) (λ xs. is n) }
-{
-    let mut t = s;
-    let mut i = 0;
-    while i < n {
-        if !sheet::is_whole(t, 14) {
-            return HowMany::Refused(Reason::SheetEndsEarly);
-        }
-        let item = test_eight(eight_in(t));
-        if let Tested::Fails(why) = item {
-            return HowMany::Refused(why);
-        }
-        t = &t[14..];
-        i += 1;
+const MOST_READINGS: usize = 500;
+
+impl InSection for Readings {
+    ghost section = { λ k. reading_section };
+
+    ghost Readable = { λ k. Unit {0} };
+
+    fn width(self) -> usize {
+        14
     }
-    HowMany::Is(n)
+
+    fn most(self) -> usize {
+        MOST_READINGS
+    }
+
+    fn test(self, s: &[u8]) -> Result<(), Reason> {
+        let e = eight_in(s);
+        reading::test_search(Reading::from(e), e.first, e.last)
+    }
 }
 
 // The fourth section, which ends the sheet: its count, then its readings; after them nothing is left.
-fn check_fourth(s: &[u8]) -> HowMany
-    ensures { said_how_many result ≡ and_then (sections_read (reading_section ∷ []) s.now) (λ l. is (count_of s.now)) }
+fn check_fourth(s: &[u8]) -> Result<usize, Reason>
+    ensures { said result ≡ and_then (sections_read (reading_section ∷ []) s.now) (λ l. is (count_of s.now)) }
 {
-    match sheet::count_at(s, 500) {
-        HowMany::Refused(r) => HowMany::Refused(r),
-        HowMany::Is(n) => match check_readings(&s[2..], n) {
-            HowMany::Refused(r) => HowMany::Refused(r),
-            HowMany::Is(m) => {
-                if 2 + 14 * m < s.len() {
-                    return HowMany::Refused(Reason::BytesAfterLast);
-                }
-                HowMany::Is(m)
-            }
-        },
+    let n = sheet::check_section(s, Readings)?;
+    if 2 + 14 * n < s.len() {
+        return Err(Reason::BytesAfterLast);
     }
+    Ok(n)
 }
 
 // The whole sheet: the three sections, then the fourth from where they ended.
-fn check_new(s: &[u8]) -> NewCounts
-    ensures { said_new result ≡ and_then (sections_read new_sections s.now) (λ l. is (four_counts_in s.now)) }
+fn check_new(s: &[u8]) -> Result<FourCounts, Reason>
+    ensures { said result ≡ and_then (sections_read new_sections s.now) (λ l. is (four_counts_in s.now)) }
 {
-    match sheet::check_three(s) {
-        SheetCounts::Refused(r) => NewCounts::Refused(r),
-        SheetCounts::Is(c) => {
-            let end = sheet::end_of(c);
-            match check_fourth(&s[end..]) {
-                HowMany::Refused(r) => NewCounts::Refused(r),
-                HowMany::Is(n) => NewCounts::Is(FourCounts {
-                    three: c,
-                    readings: n,
-                }),
-            }
-        }
-    }
+    let three = sheet::check_three(s)?;
+    let end = three.end();
+    let readings = check_fourth(&s[end..])?;
+    Ok(FourCounts { three, readings })
 }
 
 // The eight numbers of a reading, put into the list at a place.
@@ -156,14 +131,16 @@ fn put_eight(e: Eight, out: &mut [u32], at: usize)
     requires { at + 8 ≤ length out.old }
     ensures { out.new ≡ sets out.old at (eight_numbers e) }
 {
-    out[at] = e.year_name;
-    out[at + 1] = e.month_number;
-    out[at + 2] = e.leap_mark;
-    out[at + 3] = e.day_of_month;
-    out[at + 4] = e.day_name;
-    out[at + 5] = e.first_name;
-    out[at + 6] = e.first;
-    out[at + 7] = e.last;
+    out[at..at + 8].copy_from_slice(&[
+        e.year_name,
+        e.month_number,
+        e.leap_mark,
+        e.day_of_month,
+        e.day_name,
+        e.first_name,
+        e.first,
+        e.last,
+    ]);
 }
 
 // The numbers of n readings, which stand behind their count, put into a lent list.
@@ -172,11 +149,9 @@ fn fill_readings(s: &[u8], out: &mut [u32], n: usize)
     ensures { out.new ≡ sets out.old 0 (eights (numbers 14 n (drop 2 s.now))) }
 {
     let mut t = &s[2..];
-    let mut i = 0;
-    while i < n {
+    for i in 0..n {
         put_eight(eight_in(t), out, 8 * i);
         t = &t[14..];
-        i += 1;
     }
 }
 
@@ -196,7 +171,7 @@ fn fill_new(
     let three = c.three;
     let n = c.readings;
     sheet::fill_sheet(s, years, months, days, three);
-    let end = sheet::end_of(three);
+    let end = three.end();
     fill_readings(&s[end..], readings, n);
 }
 
@@ -208,58 +183,48 @@ pub fn read_new(
     months: &mut [u32],
     days: &mut [u32],
     readings: &mut [u32],
-) -> NewCounts
+) -> Result<FourCounts, Reason>
     ensures { ReadNew bytes.now years.old months.old days.old readings.old result
         years.new months.new days.new readings.new }
 {
-    match check_new(bytes) {
-        NewCounts::Refused(r) => NewCounts::Refused(r),
-        NewCounts::Is(c) => {
-            let three = c.three;
-            if !sheet::has_room(three, years.len(), months.len(), days.len()) {
-                return NewCounts::Refused(Reason::LentTooShort);
-            }
-            if readings.len() < 8 * c.readings {
-                return NewCounts::Refused(Reason::LentTooShort);
-            }
-            fill_new(bytes, years, months, days, readings, c);
-            NewCounts::Is(c)
-        }
+    let c = check_new(bytes)?;
+    if !c.three.has_room(years.len(), months.len(), days.len()) {
+        return Err(Reason::LentTooShort);
     }
+    if readings.len() < 8 * c.readings {
+        return Err(Reason::LentTooShort);
+    }
+    fill_new(bytes, years, months, days, readings, c);
+    Ok(c)
 }
 
 // A sheet of the old form put into a lent buffer in the new one: the same bytes and a count of 0.
-pub fn to_new(bytes: &[u8], out: &mut [u8]) -> HowMany
+pub fn to_new(bytes: &[u8], out: &mut [u8]) -> Result<usize, Reason>
     ensures { ToNew bytes.now out.old result out.new }
 {
-    match sheet::check_sheet(bytes) {
-        SheetCounts::Refused(r) => HowMany::Refused(r),
-        SheetCounts::Is(_) => {
-            if out.len() < bytes.len() + 2 {
-                return HowMany::Refused(Reason::LentTooShort);
-            }
-            let to1 = fields::put_bytes(bytes, out, 0);
-            let to2 = fields::put_byte(0, out, to1);
-            HowMany::Is(fields::put_byte(0, out, to2))
-        }
+    sheet::check_sheet(bytes)?;
+    let n = bytes.len();
+    if out.len() < n + 2 {
+        return Err(Reason::LentTooShort);
     }
+    out[..n].copy_from_slice(bytes);
+    out[n] = 0;
+    out[n + 1] = 0;
+    Ok(n + 2)
 }
 
 // A sheet of the new form without readings put into a lent buffer in the old one: the same bytes without the count of 0.
-pub fn to_old(bytes: &[u8], out: &mut [u8]) -> HowMany
+pub fn to_old(bytes: &[u8], out: &mut [u8]) -> Result<usize, Reason>
     ensures { ToOld bytes.now out.old result out.new }
 {
-    match check_new(bytes) {
-        NewCounts::Refused(r) => HowMany::Refused(r),
-        NewCounts::Is(c) => {
-            if 0 < c.readings {
-                return HowMany::Refused(Reason::ReadingsPresent);
-            }
-            let n = bytes.len() - 2;
-            if out.len() < n {
-                return HowMany::Refused(Reason::LentTooShort);
-            }
-            HowMany::Is(fields::put_bytes(&bytes[0..n], out, 0))
-        }
+    let c = check_new(bytes)?;
+    if 0 < c.readings {
+        return Err(Reason::ReadingsPresent);
     }
+    let n = bytes.len() - 2;
+    if out.len() < n {
+        return Err(Reason::LentTooShort);
+    }
+    out[..n].copy_from_slice(&bytes[..n]);
+    Ok(n)
 }

@@ -5,7 +5,7 @@ use mathlib.Core.Path.{◌≡◌, refl, ap, sym, ◌∙◌, subst}
 use mathlib.Core.List.{List, [], ◌∷◌, ◌++◌, append_assoc, append-nil}
 use lib.ListN.{length, length-append}
 use Rattle.rule.proofs.Lists.{empty}
-use Rattle.octets.specs.Bytes.{lay, lay_all}
+use Rattle.octets.specs.Bytes.{lay, lay_each}
 use Rattle.sheet.specs.Sheet.{Section, ranged, year_items, month_items, day_items, sheet_sections, left_after, ListsFor, lists_of, lay_section, lay_sections, Lists, in_order, lists_in, sheet_of}
 use Rattle.sheet.specs.Faults.{later, GoodSections, SectionsFault, GoodValues, GoodList, GoodEach, GoodLists}
 use Rattle.sheet.proofs.Sheets.{lists-read}
@@ -40,7 +40,7 @@ laid-after l xs =
     (append_assoc m (d ++ []) r ∙ ap (λ (t : List ℕ). m ++ t) (append_assoc d [] r ∙ ap (λ (t : List ℕ). d ++ t) (sym (append-nil r)))))
 
 no-readings-laid : lay_section reading_section [] ≡ 0 ∷ 0 ∷ []
-unfolding lay_section lay lay_all
+unfolding lay_section lay lay_each
 no-readings-laid = refl
 
 -- good lists, and good items that fit, are read from their bytes

@@ -7,8 +7,7 @@ use mathlib.Core.Bool.{true}
 use mathlib.Core.List.{List, [], ◌∷◌, ◌++◌, append-nil}
 use lib.ListN.{length, get_or, take, drop, length-append, length-drop, drop_of_length-le, take-append-drop}
 use lib.Seq.{drop-cons, drop-drop, take_at, drop_at, take_all, length-take-le}
-use Rattle.octets.specs.Bytes.{number, numbers, lay}
-use Rattle.octets.proofs.Numbers.{length-lay}
+use Rattle.octets.specs.Bytes.{number, numbers, lay, length-lay, read_all}
 use Rattle.sheet.specs.Faults.{GoodValues}
 use Rattle.stated.specs.Paper.{AreBytes}
 use Rattle.stated.proofs.RoundTrip.{number-lay, lay-number, bytes-lay, bytes_drop, bytes-append, SmallItems}
@@ -79,7 +78,7 @@ number-low zero s b = omega arith
 number-low (suc w) s b = omega (arith, number-low w (drop 1 s) (bytes_drop 1 s b), b 0, pow-suc 256 w)
 
 pub small-numbers : (n : ℕ) (s : List ℕ) → AreBytes s → SmallItems reading_section (numbers 14 n s)
-unfolding SmallItems numbers
+unfolding SmallItems read_all
 small-numbers zero s b = tt
 small-numbers (suc n) s b = (number-low 14 s b, small-numbers n (drop 14 s) (bytes_drop 14 s b))
 

@@ -1,4 +1,6 @@
 -- What the request says, proved, each statement under its name in small letters. Assumes nothing.
+use Rattle.std.specs.Prelude.{Result, Ok, Err}
+use Rattle.rule.specs.declared.Reason.{Reason}
 use Prim.Native.Nat.{ℕ, zero, suc, ◌+◌, ◌-◌, ◌*◌, ◌≤◌}
 use native.Mathlib.Omega.{arith}
 use mathlib.Core.Path.{◌≡◌, refl, ap, sym, ◌∙◌, subst}
@@ -7,15 +9,12 @@ use mathlib.Core.List.{List, [], ◌∷◌, ◌++◌}
 use lib.ListN.{length, take, drop, length-append, length-drop, replicate, length-replicate}
 use lib.Seq.{take_at, drop-drop, length-take-le}
 use Rattle.rule.specs.Lists.{placed}
-use Rattle.rule.specs.Reasons.{Answer, is, refused, reason_number, reason_of, afterwards}
+use Rattle.rule.specs.Reasons.{Answer, is, refused, reason_number, afterwards}
 use Rattle.rule.specs.declared.Reason.TheVariants.{SheetEndsEarly, BytesAfterLast}
-use Rattle.rule.proofs.Answers.{reason-back, read_back, once}
+use Rattle.rule.proofs.Answers.{said-once}
 use Rattle.octets.specs.Bytes.{number, lay}
 use Rattle.reading.specs.Readings.{in_ranges}
 use Rattle.sheet.specs.declared.Counted.{Counted}
-use Rattle.sheet.specs.declared.SheetCounts.{SheetCounts}
-use Rattle.sheet.specs.declared.SheetCounts.TheVariants as Counts'
-use Rattle.sheet.specs.declared.HowMany.TheVariants as HowMany'
 use Rattle.sheet.specs.Sheet.{
   Section,
   ranged,
@@ -42,18 +41,16 @@ use Rattle.sheet.specs.Promises.{counted, ReadSheet}
 use Rattle.sheet.proofs.Deciding.{if-given, reason-iff, made_of, refused-of}
 use Rattle.sheet.proofs.Reading.{section-long, into-decided, Three, three-good}
 use Rattle.sheet.proofs.Sheets.{front-and-rest, read-refused}
-use Rattle.sheet.proofs.Places.{InFront, rest-kept, front, how-many-once}
+use Rattle.sheet.proofs.Places.{InFront, rest-kept, front}
 use Rattle.stated.specs.Paper.{AreBytes, months_from, days_from}
 use Rattle.stated.proofs.RoundTrip.{bytes_drop, SmallItems}
 use Rattle.stated.proofs.Items.{stands_at}
 use Rattle.stated.proofs.Ends.{sections-cut}
 use Rattle.stated.proofs.Paper.{same-items, lists-same, unique-read-sheet}
 use Rattle.newsheet.specs.declared.FourCounts.{FourCounts}
-use Rattle.newsheet.specs.declared.NewCounts.{NewCounts}
-use Rattle.newsheet.specs.declared.NewCounts.TheVariants as NewCounts'
 use Rattle.newsheet.specs.New.{eight_in, eight_of, eights, tested, reading_section, new_sections, Four, four_named, four_in, read_new_into, to_new, to_old}
 use Rattle.newsheet.specs.Faults.{HasRoomForFour, GoodNew, GoodToNew, GoodToOld}
-use Rattle.newsheet.specs.Promises.{said_new, counted_four, four_counts_in, readings_part, ReadNew, ToNew, ToOld}
+use Rattle.newsheet.specs.Promises.{counted_four, four_counts_in, readings_part, ReadNew, ToNew, ToOld}
 use Rattle.newsheet.proofs.Eights.{eight-read, length-eights}
 use Rattle.newsheet.proofs.Calls.{
   into-four-decided,
@@ -74,18 +71,9 @@ use Rattle.newstated.proofs.Packing.{items-once, small-numbers, pack}
 use Rattle.newstated.proofs.Forms.{one_more, four, four-back, old-is-new, new-is-laid, new-is-old, length-four, bytes-four}
 use Rattle.newstated.proofs.Places.{field_at, first-at, last-at}
 
--- an answer can be read back from what it says
-new-once : (a b : NewCounts) → said_new a ≡ said_new b → a ≡ b
-unfolding read_back
-new-once a b e = once said_new NewCounts'.Is (λ k. NewCounts'.Refused (reason_of k)) again a b (said_new b) e refl
-  where
-    again : (a : NewCounts) → read_back said_new NewCounts'.Is (λ k. NewCounts'.Refused (reason_of k)) (said_new a) ≡ a
-    again (NewCounts'.Is c) = refl
-    again (NewCounts'.Refused r) = ap NewCounts'.Refused (reason-back r)
-
 pub unique-read-new : Paper.UniqueReadNew
 unique-read-new s y m d n a b y₁ m₁ d₁ n₁ y₂ m₂ d₂ n₂ p q = (
-  new-once a b (p.answer ∙ sym q.answer),
+  said-once a b (p.answer ∙ sym q.answer),
   p.years ∙ sym q.years,
   p.months ∙ sym q.months,
   p.days ∙ sym q.days,
@@ -93,10 +81,10 @@ unique-read-new s y m d n a b y₁ m₁ d₁ n₁ y₂ m₂ d₂ n₂ p q = (
 )
 
 pub unique-to-new : Paper.UniqueToNew
-unique-to-new s o a b o₁ o₂ p q = (how-many-once a b (p.answer ∙ sym q.answer), p.buffer ∙ sym q.buffer)
+unique-to-new s o a b o₁ o₂ p q = (said-once a b (p.answer ∙ sym q.answer), p.buffer ∙ sym q.buffer)
 
 pub unique-to-old : Paper.UniqueToOld
-unique-to-old s o a b o₁ o₂ p q = (how-many-once a b (p.answer ∙ sym q.answer), p.buffer ∙ sym q.buffer)
+unique-to-old s o a b o₁ o₂ p q = (said-once a b (p.answer ∙ sym q.answer), p.buffer ∙ sym q.buffer)
 
 pub fourth-section-literally : Paper.FourthSectionLiterally
 fourth-section-literally =
@@ -131,7 +119,7 @@ record ReadAs (s y m d n : List ℕ) (c : FourCounts) (y' m' d' n' : List ℕ) :
   days : InFront c.three.days (four_in s).three.days d d'
   readings : InFront (8 * c.readings) (eights (four_in s).readings) n n'
 
-read_as_lem : (s y m d n y' m' d' n' : List ℕ) (c : FourCounts) → ReadNew s y m d n (NewCounts'.Is c) y' m' d' n' → ReadAs s y m d n c y' m' d' n'
+read_as_lem : (s y m d n y' m' d' n' : List ℕ) (c : FourCounts) → ReadNew s y m d n (Ok c) y' m' d' n' → ReadAs s y m d n c y' m' d' n'
 read_as_lem s y m d n y' m' d' n' c p =
     let w = made_of (read_new_into s (length y) (length m) (length d) (length n)) counted_four c p.answer in
     let a = if-given (into-four-decided s (length y) (length m) (length d) (length n)) w.0 w.1 in
@@ -173,7 +161,7 @@ read_as_lem s y m d n y' m' d' n' c p =
     }
 
 -- what was converted: that the sheet is good, and where its bytes stand then
-converted-new : (s o o' : List ℕ) (k : ℕ) → ToNew s o (HowMany'.Is k) o' → GoodToNew s (length o) × InFront k (s ++ (0 ∷ 0 ∷ [])) o o'
+converted-new : (s o o' : List ℕ) (k : ℕ) → ToNew s o (Ok k) o' → GoodToNew s (length o) × InFront k (s ++ (0 ∷ 0 ∷ [])) o o'
 converted-new s o o' k p =
     let w = made_of (to_new s (length o)) length k p.answer in
     let a = if-given (to-new-decided s (length o)) w.0 w.1 in
@@ -186,7 +174,7 @@ converted-new s o o' k p =
       },
     )
 
-converted-old : (s o o' : List ℕ) (k : ℕ) → ToOld s o (HowMany'.Is k) o' → GoodToOld s (length o) × InFront k (take (length s - 2) s) o o'
+converted-old : (s o o' : List ℕ) (k : ℕ) → ToOld s o (Ok k) o' → GoodToOld s (length o) × InFront k (take (length s - 2) s) o o'
 converted-old s o o' k p =
     let w = made_of (to_old s (length o)) length k p.answer in
     let a = if-given (to-old-decided s (length o)) w.0 w.1 in
@@ -270,7 +258,7 @@ converted-there-and-back s o o' p p' n r b c d h =
     let k : take (length t - 2) t ≡ s = take_at s (0 ∷ 0 ∷ []) (length t - 2) (omega (arith, l)) in
     let z : length (four_in t).readings ≡ 0 = ap (λ (x : Four). length x.readings) w.1 in
     let g : to_old t (length p) ≡ is s = (to-old-decided t (length p)).given (w.0, (omega (arith, z), omega (arith, h, l))) ∙ ap is k in
-    unique-to-old t p r (HowMany'.Is (length s)) p' (placed s p) (subst (λ (u : List ℕ). ToOld u p r p') f d) (to-old-given t p s g)
+    unique-to-old t p r (Ok (length s)) p' (placed s p) (subst (λ (u : List ℕ). ToOld u p r p') f d) (to-old-given t p s g)
 
 pub converted-back-and-there : Paper.ConvertedBackAndThere
 converted-back-and-there s o o' p p' n r b c d h =
@@ -281,7 +269,7 @@ converted-back-and-there s o o' p p' n r b c d h =
     let k : take (length s - 2) s ≡ t = ap (take (length s - 2)) w.0 ∙ take_at t (0 ∷ 0 ∷ []) (length s - 2) (omega (arith, l)) in
     let f : take n o' ≡ t = front (take (length s - 2) s) o n o' a.1.list a.1.count ∙ k in
     let g : to_new t (length p) ≡ is s = (to-new-decided t (length p)).given (w.1, omega (arith, h, l)) ∙ ap is (sym w.0) in
-    unique-to-new t p r (HowMany'.Is (length s)) p' (placed s p) (subst (λ (u : List ℕ). ToNew u p r p') f d) (to-new-given t p s g)
+    unique-to-new t p r (Ok (length s)) p' (placed s p) (subst (λ (u : List ℕ). ToNew u p r p') f d) (to-new-given t p s g)
 
 -- the lists of an old sheet that was read have room, so that its new form is read into the same lists
 pub converted-reads-alike : Paper.ConvertedReadsAlike
@@ -326,7 +314,7 @@ readers-of-the-other-form =
     }
   where
     old : (s : List ℕ) → GoodSections new_sections s →
-        (y m d y' m' d' : List ℕ) (r : SheetCounts) → ReadSheet s y m d r y' m' d' → r ≡ Counts'.Refused BytesAfterLast
+        (y m d y' m' d' : List ℕ) (r : Result Counted Reason) → ReadSheet s y m d r y' m' d' → r ≡ Err BytesAfterLast
     old s g y m d y' m' d' r p =
         (unique-read-sheet s y m d r _ y' m' d' y m d p
         (read-refused s y m d BytesAfterLast

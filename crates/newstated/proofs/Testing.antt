@@ -1,4 +1,7 @@
 -- Laws of what is asked of a reading: its rows by its eight numbers, and the search's own tests. Assumes nothing.
+use Rattle.std.specs.Prelude.{Result, Err}
+use Rattle.reading.specs.declared.SearchError.{SearchError}
+use Rattle.reading.specs.declared.SearchError.TheVariants.{Refused}
 use Prim.Native.Nat.{ℕ, zero, suc, ◌≤◌}
 use native.Mathlib.Omega.{arith}
 use mathlib.Core.Path.{◌≡◌, refl, ap, sym, ◌∙◌, subst}
@@ -10,8 +13,6 @@ use lib.ListN.{length, get_or}
 use Rattle.rule.specs.Reasons.{Answer, is, refused, guard, guard-with, reason_number}
 use Rattle.rule.specs.declared.Reason.{Reason}
 use Rattle.rule.proofs.Answers.{both_true, at_most, within-true, given-not}
-use Rattle.reading.specs.declared.Found.{Found}
-use Rattle.reading.specs.declared.Found.TheVariants as Found'
 use Rattle.reading.specs.Readings.{field_in_range, in_ranges, window_holds, window_days}
 use Rattle.reading.specs.Search.{where_good, total, search_at, said_found, Searched}
 use Rattle.reading.proofs.Answered.{made}
@@ -54,9 +55,9 @@ tests-decided v x =
     (both_true _ _ (at_most (first_in v) (last_in v)) (at_most (window_days (first_in v) (last_in v)) 27759))
     (asks (in_ranges (reading_in v)) 14 (fields-iff v) x))
 
-tested-decided : (v : List ℕ) → Decides (tested v) 0 (ReadingFault v) (GoodReading v)
+tested-decided : (v : List ℕ) → Decides (tested v) (tt {0}) (ReadingFault v) (GoodReading v)
 unfolding tested
-tested-decided v = tests-decided v 0
+tested-decided v = tests-decided v (tt {0})
 
 -- a bool that is both
 both : {P : Type 0} (b : Bool) → b ≡ false → b ≡ true → P
@@ -87,29 +88,33 @@ module _ (v : List ℕ) where
   )
 
 -- the same tests before another answer, which is no such refusal
-abbrev none : Answer ℕ
-none = is 0
+abbrev none : Answer (Unit {0})
+none = is tt
+
+-- a refusal is the same of whatever would be given
+alike : {A B : Type 0} (j k : ℕ) → ◌≡◌ {A = Answer A} (refused j) (refused k) → ◌≡◌ {A = Answer B} (refused j) (refused k)
+alike j k h = let e : j ≡ k = cc in ap refused e
 
 tests-alike : (p q t : Bool) (x : Answer ℕ) (k : ℕ) → guard p 6 (guard q 13 (guard t 14 none)) ≡ refused k → guard p 6 (guard q 13 (guard t 14 x)) ≡ refused k
-tests-alike true true true x k h = absurd (given-not none 0 k refl h)
-tests-alike true true false x k h = h
-tests-alike true false t x k h = h
-tests-alike false q t x k h = h
+tests-alike true true true x k h = absurd (given-not none (tt {0}) k refl h)
+tests-alike true true false x k h = alike 14 k h
+tests-alike true false t x k h = alike 13 k h
+tests-alike false q t x k h = alike 6 k h
 
 tests-back : (p q t : Bool) (x : Answer ℕ) (k : ℕ) → (x ≡ refused k → ⊥) → guard p 6 (guard q 13 (guard t 14 x)) ≡ refused k →
     guard p 6 (guard q 13 (guard t 14 none)) ≡ refused k
 tests-back true true true x k n h = absurd (n h)
-tests-back true true false x k n h = h
-tests-back true false t x k n h = h
-tests-back false q t x k n h = h
+tests-back true true false x k n h = alike 14 k h
+tests-back true false t x k n h = alike 13 k h
+tests-back false q t x k n h = alike 6 k h
 
 -- what comes after the tests of a search is no refusal without its total
 no-refusal : (t : Bool) (m n k : ℕ) → guard-with t 12 m (is n) ≡ refused k → ⊥
 no-refusal true m n k h = given-not (is n) n k refl h
 no-refusal false m n k h = let o : ◌≡◌ {A = ℕ} 0 1 = cc in omega arith
 
-pub search-tests : (v old new : List ℕ) (a : Found) (why : Reason) → Searched (reading_in v) (first_in v) (last_in v) old a new →
-    (a ≡ Found'.Refused why) ↔ ReadingFault v (reason_number why)
+pub search-tests : (v old new : List ℕ) (a : Result ℕ SearchError) (why : Reason) → Searched (reading_in v) (first_in v) (last_in v) old a new →
+    (a ≡ Err (Refused why)) ↔ ReadingFault v (reason_number why)
 unfolding search_at tested
 search-tests v old new a why p =
     let k = reason_number why in
@@ -123,5 +128,5 @@ search-tests v old new a why p =
           if-refused (tested-decided v) k (tests-back ends window fields x k (no-refusal (leb n (length old)) n n k) h),
       λ f.
           let h : search_at (reading_in v) (first_in v) (last_in v) (length old) ≡ refused k = tests-alike ends window fields x k ((tested-decided v).told k f) in
-          (unique-search (reading_in v) (first_in v) (last_in v) old a (Found'.Refused why) new old p (made (Found'.Refused why) h refl refl)).0,
+          (unique-search (reading_in v) (first_in v) (last_in v) old a (Err (Refused why)) new old p (made (Err (Refused why)) h refl refl)).0,
     )

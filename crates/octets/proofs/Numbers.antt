@@ -1,12 +1,12 @@
 -- Laws of numbers in bytes, over the width. Assumes nothing.
-use Prim.Native.Nat.{ℕ, zero, suc, ◌+◌, ◌-◌, ◌*◌, ◌/◌, ◌^◌, ◌≤◌, ◌<◌}
+use Prim.Native.Nat.{ℕ, zero, suc, ◌+◌, ◌-◌, ◌*◌, ◌^◌, ◌≤◌, ◌<◌}
 use native.Mathlib.Nat.{pow-suc, add-zero}
 use native.Mathlib.Omega.{arith}
 use mathlib.Core.Path.{◌≡◌, refl, ap}
 use mathlib.Core.List.{List, [], ◌∷◌, ◌++◌}
 use lib.ListN.{length, get_or, drop}
 use lib.Seq.{get_or-drop, drop-drop}
-use Rattle.octets.specs.Bytes.{number, lay}
+use Rattle.octets.specs.Bytes.{number}
 
 -- one byte more in front
 number_more : (w i : ℕ) (s : List ℕ) → number (suc w) (drop i s) ≡ get_or s i 0 + 256 * number w (drop (i + 1) s)
@@ -19,12 +19,6 @@ unfolding number
 number_append zero p q h = refl
 number_append (suc w) [] q h = absurd (omega arith)
 number_append (suc w) (x ∷ p) q h = ap (λ (n : ℕ). x + 256 * n) (number_append w p q (omega arith))
-
--- a number laid in w bytes has w of them
-pub length-lay : (w x : ℕ) → length (lay w x) ≡ w
-unfolding lay
-length-lay zero x = refl
-length-lay (suc w) x = ap suc (length-lay w (x / 256))
 
 -- up to three bytes
 up-to-three : (n : ℕ) → n ≤ 3 → 256 ^ n ≤ 16777216

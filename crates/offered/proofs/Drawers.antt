@@ -1,4 +1,5 @@
 -- A drawer's answer and its records laid flat: what the statements of the calls for C have of it. Assumes nothing.
+use Rattle.std.specs.Prelude.{Result, Ok, Err}
 use Prim.Native.Nat.{ℕ, ◌≤◌, ◌<◌}
 use native.Mathlib.Omega.{arith}
 use mathlib.Core.Path.{◌≡◌, refl, ap, sym, ◌∙◌, subst}
@@ -10,8 +11,8 @@ use Rattle.rule.specs.Reasons.{Answer, is, refused, refused-with, afterwards}
 use Rattle.dates.specs.declared.Date.{Date}
 use Rattle.dates.specs.Dates.{date_of}
 use Rattle.dates.proofs.Days.{a-day}
-use Rattle.drawer.specs.declared.Filled.{Filled}
-use Rattle.drawer.specs.declared.Filled.TheVariants.{Is, BadDay, Refused}
+use Rattle.drawer.specs.declared.DrawerError.{DrawerError}
+use Rattle.drawer.specs.declared.DrawerError.TheVariants.{BadDay, Refused}
 use Rattle.drawer.specs.Drawer.{drawer_at, said_filled, to_fill, FillDates}
 use Rattle.drawer.specs.Paper.{FirstBad, SingleCall}
 use Rattle.drawer.proofs.Days.{too_many}
@@ -96,17 +97,17 @@ module _ (days : List ℕ) (old : List CDate) (r : CFilled) (new : List CDate) (
 -- what the call for C says is what the call says of the same days, given as many records
 module _ (days : List ℕ) (old : List CDate) (r : CFilled) (new : List CDate) (held : List Date) (e : length held ≡ length old) where
   -- the answer of both
-  same_answer : (a : Filled) → said_filled a ≡ drawer_at days (length held) → flat_filled (drawer_at days (length old)) ≡ flat_filled (said_filled a)
+  same_answer : (a : Result ℕ DrawerError) → said_filled a ≡ drawer_at days (length held) → flat_filled (drawer_at days (length old)) ≡ flat_filled (said_filled a)
   same_answer a f = ap (λ (k : ℕ). flat_filled (drawer_at days k)) (sym e) ∙ ap flat_filled (sym f)
 
   -- a record of the single call laid flat
   laid : (d : ℕ) (x : Date) → SingleCall d x → c_date_at d ≡ given_date x
   laid d x s = ap flat_date (sym s)
 
-  says : CFillDates days old r new → (a : Filled) (after : List Date) → FillDates days held a after → SaysTheDrawer old r new a after
+  says : CFillDates days old r new → (a : Result ℕ DrawerError) (after : List Date) → FillDates days held a after → SaysTheDrawer old r new a after
   says p a after f = go a f (p.answer ∙ same_answer a f.answered)
     where
-      unfilled : (a : Filled) → r ≡ flat_filled (said_filled a) → to_fill (said_filled a) ≡ 0 → r.reason ≢ 0 → SaysTheDrawer old r new a after
+      unfilled : (a : Result ℕ DrawerError) → r ≡ flat_filled (said_filled a) → to_fill (said_filled a) ≡ 0 → r.reason ≢ 0 → SaysTheDrawer old r new a after
       unfilled a s none_filled h =
           let same = (drawer-bare days old r new p h).1 in
           record {
@@ -116,8 +117,8 @@ module _ (days : List ℕ) (old : List CDate) (r : CFilled) (new : List CDate) (
             rest = λ i none l. ap (λ (x : List CDate). get_or x i none) same;
           }
 
-      go : (a : Filled) → FillDates days held a after → r ≡ flat_filled (said_filled a) → SaysTheDrawer old r new a after
-      go (Is n) g s =
+      go : (a : Result ℕ DrawerError) → FillDates days held a after → r ≡ flat_filled (said_filled a) → SaysTheDrawer old r new a after
+      go (Ok n) g s =
           let z = ap reason-of s in
           let whole = ((drawer-zero days old r new p).0 z).filled in
           let told = ((drawer-filled days held n after).0 g).1.1.1 in
@@ -129,23 +130,23 @@ module _ (days : List ℕ) (old : List CDate) (r : CFilled) (new : List CDate) (
                 whole.single i none h ∙ laid (get_or days i 0) (get_or after i blank) (told.1.single i blank h);
             rest = λ i none l. whole.beyond i none (omega (arith, told.0, l));
           }
-      go (BadDay j) g s = unfilled (BadDay j) s refl (λ z. omega (arith, z, ap reason-of s))
-      go (Refused why) g s = unfilled (Refused why) s refl (λ z. none-is-0 why (sym (ap reason-of s) ∙ z))
+      go (Err (BadDay j)) g s = unfilled (Err (BadDay j)) s refl (λ z. omega (arith, z, ap reason-of s))
+      go (Err (Refused why)) g s = unfilled (Err (Refused why)) s refl (λ z. none-is-0 why (sym (ap reason-of s) ∙ z))
 
-  back : (a : Filled) (after : List Date) → FillDates days held a after → SaysTheDrawer old r new a after → CFillDates days old r new
+  back : (a : Result ℕ DrawerError) (after : List Date) → FillDates days held a after → SaysTheDrawer old r new a after → CFillDates days old r new
   back a after f s = record { answer = s.answer ∙ sym (same_answer a f.answered); lent = go a f s ∙ ap left (f.answered ∙ ap (drawer_at days) e) }
     where
       left : Answer ℕ → List CDate
       left x = afterwards x (λ n. map c_date_at days) old
 
-      same-list : {a : Filled} → SaysTheDrawer old r new a after → ((i : ℕ) → to_fill (said_filled a) ≤ i) → new ≡ old
+      same-list : {a : Result ℕ DrawerError} → SaysTheDrawer old r new a after → ((i : ℕ) → to_fill (said_filled a) ≤ i) → new ≡ old
       same-list t h = ext_get_or (no_date 0) new old t.as_long (λ i l. t.rest i (no_date 0) (h i))
 
       blank : Date
       blank = date_of 0
 
-      go : (a : Filled) → FillDates days held a after → SaysTheDrawer old r new a after → new ≡ left (said_filled a)
-      go (Is n) g t =
+      go : (a : Result ℕ DrawerError) → FillDates days held a after → SaysTheDrawer old r new a after → new ≡ left (said_filled a)
+      go (Ok n) g t =
           let h = (drawer-filled days held n after).0 g in
           let m = h.1.1.1.0 in
           let k = h.1.1.1.1 in
@@ -155,11 +156,11 @@ module _ (days : List ℕ) (old : List CDate) (r : CFilled) (new : List CDate) (
             single = λ i none l. t.records i none blank (omega (arith, m, l)) ∙ sym (laid (get_or days i 0) (get_or after i blank) (k.single i blank l));
             beyond = λ i none l. t.rest i none (omega (arith, m, l));
           }
-      go (BadDay j) g t = same-list t (λ i. omega arith)
-      go (Refused why) g t = same-list t (λ i. omega arith)
+      go (Err (BadDay j)) g t = same-list t (λ i. omega arith)
+      go (Err (Refused why)) g t = same-list t (λ i. omega arith)
 
   pub says-the-drawer :
-      CFillDates days old r new ↔ ((a : Filled) × (after : List Date) × FillDates days held a after × SaysTheDrawer old r new a after)
+      CFillDates days old r new ↔ ((a : Result ℕ DrawerError) × (after : List Date) × FillDates days held a after × SaysTheDrawer old r new a after)
   says-the-drawer = (
     λ p.
         let a = there-is days (length held) in

@@ -1,4 +1,9 @@
 -- An emendation's answer laid flat: what the statements of the calls for C have of it, and what it is computed with. Assumes nothing.
+use Rattle.std.specs.Prelude.{Result, Err}
+use Rattle.emending.specs.declared.Emended.{Emended}
+use Rattle.emending.specs.declared.Emended.TheVariants.{Fits, Are}
+use Rattle.reading.specs.declared.SearchError.{SearchError}
+use Rattle.reading.specs.declared.SearchError.TheVariants.{TooShort, Refused}
 use Prim.Native.Nat.{ℕ, ◌*◌}
 use native.Mathlib.Omega.{arith}
 use mathlib.Core.Path.{◌≡◌, refl, ap, sym, ◌∙◌}
@@ -11,12 +16,10 @@ use Rattle.rule.specs.declared.Reason.{Reason}
 use Rattle.rule.specs.declared.Reason.TheVariants.{NoSuchDay, BadWindow, FieldOutOfRange}
 use Rattle.reading.specs.declared.Reading.{Reading}
 use Rattle.reading.specs.Readings.{in_ranges, window_holds}
-use Rattle.reading.specs.Search.{total}
+use Rattle.reading.specs.Search.{said_found, total}
 use Rattle.reading.proofs.Computing.{searches-computed}
-use Rattle.emending.specs.declared.Emended.{Emended}
-use Rattle.emending.specs.declared.Emended.TheVariants.{TooShort, Refused}
 use Rattle.emending.specs.Faults.{name_fault, number_fault, month_fault, day_fault, fault, gathered, emendations, emendable}
-use Rattle.emending.specs.Emended.{Outcome, fit, emended, emend_total, where_none_fits, emend_at, said_emended}
+use Rattle.emending.specs.Emended.{emend_total, where_none_fits, emend_at}
 use Rattle.offered.specs.declared.CEmended.{CEmended}
 use Rattle.offered.specs.Flat.{flat_emended}
 use Rattle.offered.specs.Structs.{BareEmended}
@@ -24,24 +27,24 @@ use Rattle.offered.specs.Paper.{saying}
 use Rattle.offered.proofs.Sound.{none-is-0}
 
 -- an emendation, by its tests: answered, refused with 12 and the total m, or with another reason
-data Row (m : ℕ) : Answer Outcome → Type 0 where
-  answers : (o : Outcome) → Row m (is o)
+data Row (m : ℕ) : Answer Emended → Type 0 where
+  answers : (o : Emended) → Row m (is o)
   short : Row m (refused-with 12 m)
   fails : (why : Reason) → reason_number why ≢ 12 → Row m (refused (reason_number why))
 
-room_row : (t : Bool) (m : ℕ) → Row m (guard-with t 12 m (is (emended m)))
-room_row true m = answers (emended m)
+room_row : (t : Bool) (m : ℕ) → Row m (guard-with t 12 m (is (Are m)))
+room_row true m = answers (Are m)
 room_row false m = short
 
-fits-row : (t : Bool) (n m : ℕ) → Row m (where_none_fits n (guard-with t 12 m (is (emended m))))
+fits-row : (t : Bool) (n m : ℕ) → Row m (where_none_fits n (guard-with t 12 m (is (Are m))))
 fits-row t n m = go (eqb n 0) refl
   where
-    go : (f : Bool) → eqb n 0 ≡ f → Row m (where_none_fits n (guard-with t 12 m (is (emended m))))
+    go : (f : Bool) → eqb n 0 ≡ f → Row m (where_none_fits n (guard-with t 12 m (is (Are m))))
     go true e = rw (e) (room_row t m)
-    go false e = rw (e) (answers (fit n))
+    go false e = rw (e) (answers (Fits n))
 
 row :
-    (e w i t : Bool) (n m : ℕ) → Row m (guard e 6 (guard w 13 (guard i 14 (where_none_fits n (guard-with t 12 m (is (emended m)))))))
+    (e w i t : Bool) (n m : ℕ) → Row m (guard e 6 (guard w 13 (guard i 14 (where_none_fits n (guard-with t 12 m (is (Are m)))))))
 row false w i t n m = fails NoSuchDay (λ z. omega (arith, z))
 row true false i t n m = fails BadWindow (λ z. omega (arith, z))
 row true true false t n m = fails FieldOutOfRange (λ z. omega (arith, z))
@@ -52,31 +55,31 @@ abbrev reason-of : CEmended → ℕ
 reason-of a = a.reason
 
 row-bare :
-    {m : ℕ} {x : Answer Outcome} → Row m x → (fills : Outcome → List ℕ) (old : List ℕ) → reason-of (flat_emended x) ≢ 0 →
+    {m : ℕ} {x : Answer Emended} → Row m x → (fills : Emended → List ℕ) (old : List ℕ) → reason-of (flat_emended x) ≢ 0 →
     BareEmended m (flat_emended x) × (afterwards x fills old ≡ old)
-row-bare (answers (fit n)) fills old h = absurd (h refl)
-row-bare (answers (emended n)) fills old h = absurd (h refl)
+row-bare (answers (Fits n)) fills old h = absurd (h refl)
+row-bare (answers (Are n)) fills old h = absurd (h refl)
 row-bare short fills old h = (record { fits = refl; other = λ z. absurd (z refl); twelve = λ z. refl }, refl)
 row-bare (fails why other) fills old h = (record { fits = refl; other = λ z. refl; twelve = λ z. absurd (other z) }, refl)
 
 row_zero :
-    {m : ℕ} {x : Answer Outcome} → Row m x → (a : CEmended) → a ≡ flat_emended x → a.reason ≡ 0 →
-    (o : Outcome) × (said_emended (saying o) ≡ x) × (a ≡ flat_emended (is o))
-row_zero (answers (fit n)) a p z = (fit n, refl, p)
-row_zero (answers (emended n)) a p z = (emended n, refl, p)
+    {m : ℕ} {x : Answer Emended} → Row m x → (a : CEmended) → a ≡ flat_emended x → a.reason ≡ 0 →
+    (o : Emended) × (said_found (saying o) ≡ x) × (a ≡ flat_emended (is o))
+row_zero (answers (Fits n)) a p z = (Fits n, refl, p)
+row_zero (answers (Are n)) a p z = (Are n, refl, p)
 row_zero short a p z = absurd (omega (arith, z, ap reason-of p))
 row_zero (fails why other) a p z = absurd (none-is-0 why (sym (ap reason-of p) ∙ z))
 
-row-said : {m : ℕ} {x : Answer Outcome} → Row m x → (f : Emended) × (said_emended f ≡ x)
-row-said (answers (fit n)) = (saying (fit n), refl)
-row-said (answers (emended n)) = (saying (emended n), refl)
-row-said {m} short = (TooShort m, refl)
-row-said (fails why other) = (Refused why, refl)
+row-said : {m : ℕ} {x : Answer Emended} → Row m x → (f : Result Emended SearchError) × (said_found f ≡ x)
+row-said (answers (Fits n)) = (saying (Fits n), refl)
+row-said (answers (Are n)) = (saying (Are n), refl)
+row-said {m} short = (Err (TooShort m), refl)
+row-said (fails why other) = (Err (Refused why), refl)
 
 -- reason 0 is that of what is answered alone
-pub outcome-zero : (o : Outcome) → (flat_emended (is o)).reason ≡ 0
-outcome-zero (fit n) = refl
-outcome-zero (emended n) = refl
+pub outcome-zero : (o : Emended) → (flat_emended (is o)).reason ≡ 0
+outcome-zero (Fits n) = refl
+outcome-zero (Are n) = refl
 
 module _ (r : Reading) (first last n : ℕ) where
   its-row : Row (emend_total r first last) (emend_at r first last n)
@@ -86,16 +89,16 @@ module _ (r : Reading) (first last n : ℕ) where
       (emend_total r first last)
 
   pub emend-bare :
-      (fills : Outcome → List ℕ) (old : List ℕ) (a : CEmended) → a ≡ flat_emended (emend_at r first last n) → a.reason ≢ 0 →
+      (fills : Emended → List ℕ) (old : List ℕ) (a : CEmended) → a ≡ flat_emended (emend_at r first last n) → a.reason ≢ 0 →
       BareEmended (emend_total r first last) a × (afterwards (emend_at r first last n) fills old ≡ old)
   emend-bare fills old a e no_zero = rw (e) (row-bare its-row fills old (λ z. no_zero (ap reason-of e ∙ z)))
 
   pub emend-zero :
       (a : CEmended) → a ≡ flat_emended (emend_at r first last n) → a.reason ≡ 0 →
-      (o : Outcome) × (said_emended (saying o) ≡ emend_at r first last n) × (a ≡ flat_emended (is o))
+      (o : Emended) × (said_found (saying o) ≡ emend_at r first last n) × (a ≡ flat_emended (is o))
   emend-zero = row_zero its-row
 
-  pub emend-said : (f : Emended) × (said_emended f ≡ emend_at r first last n)
+  pub emend-said : (f : Result Emended SearchError) × (said_found f ≡ emend_at r first last n)
   emend-said = row-said its-row
 
 -- what an emendation is computed with at named inputs: on an `unfolding` line this name brings all that its own line names

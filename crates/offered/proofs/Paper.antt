@@ -1,4 +1,8 @@
 -- Proofs of the statements about the calls for C. Assumes nothing.
+use Rattle.reading.specs.declared.SearchError.{SearchError}
+use Rattle.reading.specs.declared.SearchError.TheVariants.{TooShort, Refused}
+use Rattle.std.specs.Prelude.{Result, Ok, Err}
+use Rattle.sheet.specs.declared.Counted.{Counted}
 use Prim.Native.Nat.{ℕ, ◌<◌}
 use native.Mathlib.Omega.{arith}
 use mathlib.Core.Path.{◌≡◌, refl, ap, sym, ◌∙◌, subst}
@@ -8,51 +12,29 @@ use mathlib.Core.List.{List, [], ◌∷◌}
 use lib.Dec.{leb}
 use lib.ListN.{length, get_or, replicate}
 use Rattle.rule.specs.Lists.{placed}
-use Rattle.rule.specs.Reasons.{Answer, is, refused, refused-with, guard, and_then, reason_number, guard-with, afterwards}
+use Rattle.rule.specs.Reasons.{said, Answer, is, refused, refused-with, guard, and_then, reason_number, guard-with, afterwards}
 use Rattle.rule.specs.declared.Reason.{Reason}
 use Rattle.rule.specs.declared.Reason.TheVariants.{NoSuchDay, BadWindow, FieldOutOfRange}
 use Rattle.dates.specs.declared.Date.{Date}
-use Rattle.dates.specs.declared.Dated.{Dated}
-use Rattle.dates.specs.declared.Dated.TheVariants as Dated'
-use Rattle.dates.specs.declared.DayTold.TheVariants as DayTold'
 use Rattle.dates.specs.Dates.{date_at, day_of_date}
-use Rattle.dates.specs.Promises.{said_date, said_day}
 use Rattle.moves.specs.Moves.{moved}
-use Rattle.facts.specs.declared.SolsticeYearTold.TheVariants as Solstice'
-use Rattle.facts.specs.declared.YearTold.TheVariants as Year'
-use Rattle.facts.specs.declared.MonthTold.TheVariants as Month'
 use Rattle.rule.specs.Rule.{year_term}
 use Rattle.rule.specs.Paper.{IsTerm}
 use Rattle.rule.specs.declared.Term.{Term}
-use Rattle.facts.specs.declared.QuarterTold.TheVariants as Quarter'
-use Rattle.facts.specs.declared.TermTold.TheVariants as Term'
 use Rattle.facts.specs.Facts.{solstice_year_at, year_facts_at, month_facts_at, quarter_at, term_at}
-use Rattle.facts.specs.Promises.{said_solstice_year, said_year, said_month, said_quarter, said_term}
 use Rattle.clerk.specs.declared.Clerk.{Clerk}
-use Rattle.clerk.specs.declared.ClerkTold.{ClerkTold}
-use Rattle.clerk.specs.declared.ClerkTold.TheVariants as Clerk'
-use Rattle.clerk.specs.Clerk.{step_at, start_at, walked, shown, said_clerk}
+use Rattle.clerk.specs.Clerk.{step_at, start_at, walked, shown}
 use Rattle.clerk.proofs.Paper as Clerks
-use Rattle.planets.specs.declared.ConjunctionTold.TheVariants as Conjunction'
-use Rattle.planets.specs.declared.NextTold.TheVariants as Next'
-use Rattle.planets.specs.declared.PairTold.TheVariants as Pair'
 use Rattle.planets.specs.Planets.{conjunction_at, next_at, pair_at}
-use Rattle.planets.specs.Promises.{said_conjunction, said_next, said_pair}
 use Rattle.planets.proofs.Reducing.{as-printed}
 use Rattle.reading.specs.declared.Reading.{Reading}
-use Rattle.reading.specs.declared.Found.{Found}
-use Rattle.reading.specs.declared.Found.TheVariants as Found'
 use Rattle.reading.specs.Readings.{in_ranges, window_days, window_holds, fitting}
 use Rattle.reading.specs.Search.{total, search_at, said_found}
 use Rattle.emending.specs.Emended.{filled_with}
 use Rattle.drawer.specs.Drawer.{days_from, drawer_at}
 use Rattle.sheet.specs.declared.Counted as Counts
-use Rattle.sheet.specs.declared.SheetCounts.{SheetCounts}
-use Rattle.sheet.specs.declared.SheetCounts.TheVariants as Counts'
-use Rattle.sheet.specs.declared.HowMany.{HowMany}
-use Rattle.sheet.specs.declared.HowMany.TheVariants as HowMany'
 use Rattle.sheet.specs.Sheet.{Lists, read_into}
-use Rattle.sheet.specs.Promises.{counted, said_counts, said_how_many}
+use Rattle.sheet.specs.Promises.{counted}
 use Rattle.sheet.proofs.Reading.{reading}
 use Rattle.sheet.proofs.Writing.{writing}
 use Rattle.penned.specs.Promises.{year_block_at, month_line_at, month_item_at, day_item_at, Printed}
@@ -248,17 +230,17 @@ module _ {a : Answer (List ℕ)} (s : Sound a) (r : CLength) where
   pub length-zero : r ≡ flat_length (length_of a) → (r.reason ≡ 0) ↔ ((n : ℕ) × (is n ≡ length_of a) × (r ≡ given_length n))
   length-zero e = is_zero (λ (x : CLength). x.reason) given_length no_length (λ x. refl) (λ k. refl) length-sound r e
 
-  pub length-said : (r ≡ flat_length (length_of a)) ↔ ((h : HowMany) × (said_how_many h ≡ length_of a) × (r ≡ flat_length (said_how_many h)))
-  length-said = as_said said_how_many HowMany'.Is HowMany'.Refused (λ x. refl) (λ w. refl) flat_length length-sound r
+  pub length-said : (r ≡ flat_length (length_of a)) ↔ ((h : Result ℕ Reason) × (said h ≡ length_of a) × (r ≡ flat_length (said h)))
+  length-said = as_said said Ok Err (λ x. refl) (λ w. refl) flat_length length-sound r
 
 module _ {a : Answer (List ℕ)} (s : Sound a) {o : List ℕ} {r : CLength} {o' : List ℕ} where
-  printed-zero : CPrinted a o r o' → (r.reason ≡ 0) ↔ ((n : ℕ) × Printed a o (HowMany'.Is n) o' × (r ≡ given_length n))
+  printed-zero : CPrinted a o r o' → (r.reason ≡ 0) ↔ ((n : ℕ) × Printed a o (Ok n) o' × (r ≡ given_length n))
   printed-zero p = (
     λ z. let w = (length-zero s r p.answer).0 z in (w.0, record { answer = w.1; buffer = p.buffer }, w.2),
     λ w. (length-zero s r p.answer).1 (w.0, w.1.answer, w.2),
   )
 
-  printed-said : CPrinted a o r o' ↔ ((h : HowMany) × Printed a o h o' × (r ≡ flat_length (said_how_many h)))
+  printed-said : CPrinted a o r o' ↔ ((h : Result ℕ Reason) × Printed a o h o' × (r ≡ flat_length (said h)))
   printed-said = (
     λ p. let w = (length-said s r).0 p.answer in (w.0, record { answer = w.1; buffer = p.buffer }, w.2),
     λ w. record { answer = (length-said s r).1 (w.0, w.1.answer, w.2); buffer = w.1.buffer },
@@ -283,8 +265,8 @@ module _ {a : Answer Lists} (s : Sound a) (r : CSheetCounts) where
   counts_zero : r ≡ flat_counts (counts_of a) → (r.reason ≡ 0) ↔ ((c : Counts.Counted) × (is c ≡ counts_of a) × (r ≡ given_counts c))
   counts_zero e = is_zero (λ (x : CSheetCounts). x.reason) given_counts no_counts (λ x. refl) (λ k. refl) counts-sound r e
 
-  counts-said : (r ≡ flat_counts (counts_of a)) ↔ ((c : SheetCounts) × (said_counts c ≡ counts_of a) × (r ≡ flat_counts (said_counts c)))
-  counts-said = as_said said_counts Counts'.Is Counts'.Refused (λ x. refl) (λ w. refl) flat_counts counts-sound r
+  counts-said : (r ≡ flat_counts (counts_of a)) ↔ ((c : Result Counted Reason) × (said c ≡ counts_of a) × (r ≡ flat_counts (said c)))
+  counts-said = as_said said Ok Err (λ x. refl) (λ w. refl) flat_counts counts-sound r
 
 -- a search, by its four tests
 abbrev row : Bool → Bool → Bool → Bool → ℕ → Answer ℕ
@@ -308,12 +290,12 @@ row_zero true true false t n a p z = absurd (omega (arith, z, ap (λ (x : CFound
 row_zero true true true true n a p z = (n, refl, p)
 row_zero true true true false n a p z = absurd (omega (arith, z, ap (λ (x : CFound). x.reason) p))
 
-row-found : (e w i t : Bool) (n : ℕ) → (f : Found) × (said_found f ≡ row e w i t n)
-row-found false w i t n = (Found'.Refused NoSuchDay, refl)
-row-found true false i t n = (Found'.Refused BadWindow, refl)
-row-found true true false t n = (Found'.Refused FieldOutOfRange, refl)
-row-found true true true true n = (Found'.Is n, refl)
-row-found true true true false n = (Found'.TooShort n, refl)
+row-found : (e w i t : Bool) (n : ℕ) → (f : Result ℕ SearchError) × (said_found f ≡ row e w i t n)
+row-found false w i t n = (Err (Refused NoSuchDay), refl)
+row-found true false i t n = (Err (Refused BadWindow), refl)
+row-found true true false t n = (Err (Refused FieldOutOfRange), refl)
+row-found true true true true n = (Ok n, refl)
+row-found true true true false n = (Err (TooShort n), refl)
 
 module _ (r : Reading) (first last n : ℕ) where
   search-bare :
@@ -331,7 +313,7 @@ module _ (r : Reading) (first last n : ℕ) where
   unfolding search_at
   search-zero = row_zero (leb first 14989859 && leb last 14989859) (window_holds first last) (in_ranges r) (leb (total r first last) n) (total r first last)
 
-  search-found : (f : Found) × (said_found f ≡ search_at r first last n)
+  search-found : (f : Result ℕ SearchError) × (said_found f ≡ search_at r first last n)
   unfolding search_at
   search-found = row-found (leb first 14989859 && leb last 14989859) (window_holds first last) (in_ranges r) (leb (total r first last) n) (total r first last)
 
@@ -343,8 +325,8 @@ clerk-zero : {a : Answer Clerk} → Sound a → (r : CClerk) → r ≡ flat_cler
 clerk-zero = is_zero (λ (x : CClerk). x.reason) given_clerk no_clerk (λ x. refl) (λ i. refl)
 
 clerk-said :
-    {a : Answer Clerk} → Sound a → (r : CClerk) → (r ≡ flat_clerk a) ↔ ((e : ClerkTold) × (said_clerk e ≡ a) × (r ≡ flat_clerk (said_clerk e)))
-clerk-said = as_said said_clerk Clerk'.Is Clerk'.Refused (λ x. refl) (λ w. refl) flat_clerk
+    {a : Answer Clerk} → Sound a → (r : CClerk) → (r ≡ flat_clerk a) ↔ ((e : Result Clerk Reason) × (said e ≡ a) × (r ≡ flat_clerk (said e)))
+clerk-said = as_said said Ok Err (λ x. refl) (λ w. refl) flat_clerk
 
 pub refusal-is-bare : Paper.RefusalIsBare
 refusal-is-bare =
@@ -412,8 +394,8 @@ reason-0-iff-answered =
       next = λ n d r. is_zero (λ (x : CNext). x.reason) given_next no_next (λ x. refl) (λ i. refl) (Sound.next-sound n d) r;
       pair = λ n r p.
           let z = is_zero (λ (x : CPair). x.reason) given_pair no_pair (λ x. refl) (λ i. refl) (Sound.pair-sound n) r p in (
-            λ e. let w = z.0 e in (w.0, (as-printed n (Pair'.Is w.0)).1 w.1, w.2),
-            λ w. z.1 (w.0, (as-printed n (Pair'.Is w.0)).0 w.1, w.2),
+            λ e. let w = z.0 e in (w.0, (as-printed n (Ok w.0)).1 w.1, w.2),
+            λ w. z.1 (w.0, (as-printed n (Ok w.0)).0 w.1, w.2),
           );
       search = λ r first last old a new p. (
         λ z. let w = search-zero (reading_of r) first last (length old) a p.answer z in (w.0, record { answered = w.1; lent = p.lent }, w.2),
@@ -445,21 +427,21 @@ pub says-what-the-call-says : Paper.SaysWhatTheCallSays
 says-what-the-call-says =
     record {
       date-of-day = λ d r. date-said (Sound.date-sound d) r;
-      day-of-date = λ y k l m r. as_said said_day DayTold'.Is DayTold'.Refused (λ x. refl) (λ w. refl) flat_day (Sound.day-sound y k l m) r;
+      day-of-date = λ y k l m r. as_said said Ok Err (λ x. refl) (λ w. refl) flat_day (Sound.day-sound y k l m) r;
       move-date = λ y k l m n r. date-said (Sound.move-sound y k l m n) r;
-      solstice-year = λ y r. as_said said_solstice_year Solstice'.Is Solstice'.Refused (λ x. refl) (λ w. refl) flat_solstice (Sound.solstice-sound y) r;
-      year-facts = λ y r. as_said said_year Year'.Is Year'.Refused (λ x. refl) (λ w. refl) flat_year (Sound.year-sound y) r;
-      month-facts = λ n r. as_said said_month Month'.Is Month'.Refused (λ x. refl) (λ w. refl) flat_month (Sound.month-sound n) r;
+      solstice-year = λ y r. as_said said Ok Err (λ x. refl) (λ w. refl) flat_solstice (Sound.solstice-sound y) r;
+      year-facts = λ y r. as_said said Ok Err (λ x. refl) (λ w. refl) flat_year (Sound.year-sound y) r;
+      month-facts = λ n r. as_said said Ok Err (λ x. refl) (λ w. refl) flat_month (Sound.month-sound n) r;
       clerk-start = λ b r. clerk-said (Sound.start-sound b) r;
       clerk-step = λ c r. clerk-said (Sound.step-sound c) r;
       clerk-walk = λ b k r. clerk-said (Sound.walk-sound b k) r;
       clerk-show = λ c r. (λ p. (shown c, refl, p), λ w. w.2 ∙ ap given_month w.1);
-      quarter = λ n q r. as_said said_quarter Quarter'.Is Quarter'.Refused (λ x. refl) (λ w. refl) flat_quarter (Sound.quarter-sound n q) r;
-      term = λ y k r. as_said said_term Term'.Is Term'.Refused (λ x. refl) (λ w. refl) flat_term (Sound.term-sound y k) r;
-      conjunction = λ n k r. as_said said_conjunction Conjunction'.Is Conjunction'.Refused (λ x. refl) (λ w. refl) flat_conjunction (Sound.conjunction-sound n k) r;
-      next = λ n d r. as_said said_next Next'.Is Next'.Refused (λ x. refl) (λ w. refl) flat_next (Sound.next-sound n d) r;
+      quarter = λ n q r. as_said said Ok Err (λ x. refl) (λ w. refl) flat_quarter (Sound.quarter-sound n q) r;
+      term = λ y k r. as_said said Ok Err (λ x. refl) (λ w. refl) flat_term (Sound.term-sound y k) r;
+      conjunction = λ n k r. as_said said Ok Err (λ x. refl) (λ w. refl) flat_conjunction (Sound.conjunction-sound n k) r;
+      next = λ n d r. as_said said Ok Err (λ x. refl) (λ w. refl) flat_next (Sound.next-sound n d) r;
       pair = λ n r.
-          let c = as_said said_pair Pair'.Is Pair'.Refused (λ x. refl) (λ w. refl) flat_pair (Sound.pair-sound n) r in (
+          let c = as_said said Ok Err (λ x. refl) (λ w. refl) flat_pair (Sound.pair-sound n) r in (
             λ p. let w = c.0 p in (w.0, (as-printed n w.0).1 w.1, w.2),
             λ w. c.1 (w.0, (as-printed n w.0).0 w.1, w.2),
           );
@@ -492,8 +474,8 @@ says-what-the-call-says =
     }
   where
     date-said :
-        {a : Answer Date} → Sound a → (r : CDate) → (r ≡ flat_date a) ↔ ((e : Dated) × (said_date e ≡ a) × (r ≡ flat_date (said_date e)))
-    date-said = as_said said_date Dated'.Is Dated'.Refused (λ x. refl) (λ w. refl) flat_date
+        {a : Answer Date} → Sound a → (r : CDate) → (r ≡ flat_date a) ↔ ((e : Result Date Reason) × (said e ≡ a) × (r ≡ flat_date (said e)))
+    date-said = as_said said Ok Err (λ x. refl) (λ w. refl) flat_date
 
 pub c-term-exactly : Paper.CTermExactly
 c-term-exactly y k r p e =
@@ -503,7 +485,7 @@ c-term-exactly y k r p e =
 pub c-term-as-before : Paper.CTermAsBefore
 c-term-as-before y k r p =
     let (a, t, e) = (says-what-the-call-says.term y k r).0 p in
-    sym (ap flat_day (Facts.term-as-before y k a t)) ∙ day-of (said_term a) ∙ ap (λ (x : CTerm). record { reason = x.reason; day = x.day }) (sym e)
+    sym (ap flat_day (Facts.term-as-before y k a t)) ∙ day-of (said a) ∙ ap (λ (x : CTerm). record { reason = x.reason; day = x.day }) (sym e)
   where
     day-of : (x : Answer Term) → flat_day (and_then x (λ t. is t.day)) ≡ record { reason = (flat_term x).reason; day = (flat_term x).day }
     day-of (is t) = refl

@@ -1,17 +1,17 @@
 -- The new form of the sheet for C: the statements of specs/Renewed, proved under their own names. Assumes nothing.
+use Rattle.std.specs.Prelude.{Result, Ok, Err}
+use Rattle.rule.specs.declared.Reason.{Reason}
 use Prim.Native.Nat.{ℕ}
 use native.Mathlib.Omega.{arith}
 use mathlib.Core.Path.{◌≡◌, refl, ap, sym, ◌∙◌}
 use mathlib.Core.Logic.{◌↔◌, ◌≢◌}
 use mathlib.Core.List.{List}
 use lib.ListN.{length}
-use Rattle.rule.specs.Reasons.{Answer, is, and_then, afterwards}
+use Rattle.rule.specs.Reasons.{said, Answer, is, and_then, afterwards}
 use Rattle.sheet.proofs.Places.{unlike}
 use Rattle.newsheet.specs.declared.FourCounts.{FourCounts}
-use Rattle.newsheet.specs.declared.NewCounts.{NewCounts}
-use Rattle.newsheet.specs.declared.NewCounts.TheVariants as NewCounts'
 use Rattle.newsheet.specs.New.{Four, eights, read_new_into}
-use Rattle.newsheet.specs.Promises.{said_new, counted_four}
+use Rattle.newsheet.specs.Promises.{counted_four}
 use Rattle.newstated.proofs.Wrong.{renewing}
 use Rattle.offered.specs.declared.CNewCounts.{CNewCounts}
 use Rattle.offered.specs.declared.CLength.{CLength}
@@ -57,8 +57,8 @@ module _ {a : Answer Four} (s : Sound a) (r : CNewCounts) where
   counts_zero : r ≡ flat_four (counts_of a) → (r.reason ≡ 0) ↔ ((c : FourCounts) × (is c ≡ counts_of a) × (r ≡ given_four c))
   counts_zero e = is_zero reason-of given_four no_four (λ x. refl) (λ k. refl) counts-sound r e
 
-  counts-said : (r ≡ flat_four (counts_of a)) ↔ ((c : NewCounts) × (said_new c ≡ counts_of a) × (r ≡ flat_four (said_new c)))
-  counts-said = as_said said_new NewCounts'.Is NewCounts'.Refused (λ x. refl) (λ w. refl) flat_four counts-sound r
+  counts-said : (r ≡ flat_four (counts_of a)) ↔ ((c : Result FourCounts Reason) × (said c ≡ counts_of a) × (r ≡ flat_four (said c)))
+  counts-said = as_said said Ok Err (λ x. refl) (λ w. refl) flat_four counts-sound r
 
 pub refusal-renewed : Renewed.RefusalRenewed
 refusal-renewed =

@@ -265,9 +265,9 @@ test-sound : (v : List ℕ) → Sound (tested v)
 unfolding tested
 test-sound v =
     guarded (leb (first_in v) 14989859 && leb (last_in v) 14989859) NoSuchDay
-    (guarded (window_holds (first_in v) (last_in v)) BadWindow (guarded (in_ranges (reading_in v)) FieldOutOfRange (given 0)))
+    (guarded (window_holds (first_in v) (last_in v)) BadWindow (guarded (in_ranges (reading_in v)) FieldOutOfRange (given tt)))
 
-by-test : {a : Answer ℕ} (x : ℕ) → Sound a → Sound (guard (is_given a) (reason_in a) (is x))
+by-test : {A : Type 0} {a : Answer A} (x : ℕ) → Sound a → Sound (guard (is_given a) (reason_in a) (is x))
 by-test x (given z) = given x
 by-test x (numbered why) = numbered why
 

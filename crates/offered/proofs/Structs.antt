@@ -1,17 +1,16 @@
 -- Proofs of the statements about answers laid flat. Assumes nothing.
+use Rattle.std.specs.Prelude.{Option, Some, None}
 use Prim.Native.Nat.{ℕ, zero, suc}
 use mathlib.Core.Path.{◌≡◌, refl, ap}
 use mathlib.Core.Bool.{Bool, true, false}
 use Rattle.rule.proofs.Leap.{month-again}
 use Rattle.rule.specs.Rule.{marked}
-use Rattle.rule.specs.Reasons.{Answer, is, refused, refused-with}
 use Rattle.rule.specs.declared.Quarter.{Quarter}
 use Rattle.rule.specs.declared.Term.{Term}
 use Rattle.rule.proofs.Answers.{one-to-one}
 use Rattle.dates.specs.declared.Date.{Date}
 use Rattle.facts.specs.declared.SolsticeYear.{SolsticeYear}
 use Rattle.facts.specs.declared.LeapMonth.{LeapMonth}
-use Rattle.facts.specs.declared.LeapMonth.TheVariants.{Without, With}
 use Rattle.facts.specs.declared.YearFacts.{YearFacts}
 use Rattle.facts.specs.declared.MonthFacts.{MonthFacts}
 use Rattle.planets.specs.declared.Phase.{Phase}
@@ -20,7 +19,6 @@ use Rattle.planets.specs.declared.Conjunction.{Conjunction}
 use Rattle.planets.specs.declared.Next.{Next}
 use Rattle.planets.specs.declared.Pair.{Pair}
 use Rattle.planets.specs.Planets.{phase_number}
-use Rattle.drawer.specs.Drawer.{to_fill}
 use Rattle.sheet.specs.declared.Counted.{Counted}
 use Rattle.offered.specs.declared.CDate.{CDate}
 use Rattle.offered.specs.declared.CDay.{CDay}
@@ -35,22 +33,7 @@ use Rattle.offered.specs.declared.CNext.{CNext}
 use Rattle.offered.specs.declared.CPair.{CPair}
 use Rattle.offered.specs.declared.CSheetCounts.{CSheetCounts}
 use Rattle.offered.specs.declared.CLength.{CLength}
-use Rattle.offered.specs.Flat.{
-  given_date,
-  given_solstice,
-  has_leap,
-  leap_number,
-  leap_count,
-  given_year,
-  given_month,
-  given_quarter,
-  given_term,
-  given_conjunction,
-  given_next,
-  given_pair,
-  given_counts,
-  flat_filled,
-}
+use Rattle.offered.specs.Flat.{given_date, given_solstice, has_leap, leap_number, leap_count, given_year, given_month, given_quarter, given_term, given_conjunction, given_next, given_pair, given_counts}
 use Rattle.offered.specs.Structs as Structs
 
 pub refusals-flat : Structs.RefusalsFlat
@@ -133,13 +116,13 @@ refusals-flat =
     }
 
 -- a month, and a leap month, from their parts
-abbrev leap_from : Bool → ℕ → ℕ → LeapMonth
-leap_from true k n = With k n
-leap_from false k n = Without
+abbrev leap_from : Bool → ℕ → ℕ → Option LeapMonth
+leap_from true k n = Some (record { number = k; month = n })
+leap_from false k n = None
 
-leap-back : (l : LeapMonth) → leap_from (has_leap l) (leap_number l) (leap_count l) ≡ l
-leap-back Without = refl
-leap-back (With k n) = refl
+leap-back : (l : Option LeapMonth) → leap_from (has_leap l) (leap_number l) (leap_count l) ≡ l
+leap-back None = refl
+leap-back (Some l) = refl
 
 -- a phase from its number
 abbrev phase_from : ℕ → Phase
@@ -239,9 +222,3 @@ nothing-lost =
       counts = one-to-one given_counts counts_from (λ c. refl);
       length = λ a b e. ap (λ (r : CLength). r.length) e;
     }
-
--- how many records an answer laid flat says
-pub count-is : (a : Answer ℕ) → (flat_filled a).count ≡ to_fill a
-count-is (is n) = refl
-count-is (refused k) = refl
-count-is (refused-with k i) = refl

@@ -1,4 +1,6 @@
 -- The statements of the yearbook's figures for C, proved, each under its name in small letters. Assumes nothing.
+use Rattle.std.specs.Prelude.{Result, Ok, Err}
+use Rattle.rule.specs.declared.Reason.{Reason}
 use Prim.Native.Nat.{ℕ}
 use mathlib.Core.Path.{◌≡◌, refl, ap, sym, ◌∙◌}
 use mathlib.Core.Logic.{◌≢◌}
@@ -6,34 +8,32 @@ use mathlib.Core.Bool.{Bool, true, false, ◌&&◌}
 use mathlib.Core.List.{List}
 use lib.Dec.{leb}
 use lib.ListN.{get_or}
-use Rattle.rule.specs.Reasons.{is, within, guard}
+use Rattle.rule.specs.Reasons.{said, is, within, guard}
 use Rattle.rule.specs.declared.Reason.TheVariants.{NoSuchYear, BadWindow}
 use Rattle.yearbook.specs.declared.Figures.{Figures}
-use Rattle.yearbook.specs.declared.Figured.{Figured}
-use Rattle.yearbook.specs.declared.Figured.TheVariants.{Are, Refused}
 use Rattle.yearbook.specs.Figures.{figures_of}
-use Rattle.yearbook.specs.Promise.{figures_at, said_figured, CountsFigures}
+use Rattle.yearbook.specs.Promise.{figures_at, CountsFigures}
 use Rattle.yearbook.proofs.Paper.{refusal-changes-nothing, year-8, year-47}
 use Rattle.offered.specs.declared.CFigures.{CFigures}
 use Rattle.offered.specs.Yearbook.{given_figures, flat_figures, CCountsFigures, BareFigures, FiguresExported, WrongFiguresExported}
 use Rattle.offered.proofs.Sound.{none-is-0}
 
 -- what is answered comes from one of the call's own answers
-said-by : (first last : ℕ) → (f : Figured) × (said_figured f ≡ figures_at first last)
+said-by : (first last : ℕ) → (f : Result Figures Reason) × (said f ≡ figures_at first last)
 unfolding figures_at
 said-by first last = go (within 1 41039 first && within 1 41039 last) (leb first last)
   where
-    go : (a b : Bool) → (f : Figured) × (said_figured f ≡ guard a 1 (guard b 13 (is (figures_of first last))))
-    go false b = (Refused NoSuchYear, refl)
-    go true false = (Refused BadWindow, refl)
-    go true true = (Are (figures_of first last), refl)
+    go : (a b : Bool) → (f : Result Figures Reason) × (said f ≡ guard a 1 (guard b 13 (is (figures_of first last))))
+    go false b = (Err NoSuchYear, refl)
+    go true false = (Err BadWindow, refl)
+    go true true = (Ok (figures_of first last), refl)
 
 -- by which of the call's own answers it is: bare where it is a refusal, and with reason 0 where figures are given
 module _ (first last : ℕ) (leaps names : List ℕ) (r : CFigures) (leaps' names' : List ℕ) where
-  bare : (f : Figured) → CountsFigures first last leaps names f leaps' names' → r ≡ flat_figures (said_figured f) → r.reason ≢ 0 →
+  bare : (f : Result Figures Reason) → CountsFigures first last leaps names f leaps' names' → r ≡ flat_figures (said f) → r.reason ≢ 0 →
       BareFigures r × (leaps' ≡ leaps) × (names' ≡ names)
-  bare (Are f) s e other = absurd (other (ap (λ (x : CFigures). x.reason) e))
-  bare (Refused why) s e other =
+  bare (Ok f) s e other = absurd (other (ap (λ (x : CFigures). x.reason) e))
+  bare (Err why) s e other =
       let k = refusal-changes-nothing first last leaps names leaps' names' why s in (
         record {
           big = ap (λ (x : CFigures). x.big) e;
@@ -45,14 +45,14 @@ module _ (first last : ℕ) (leaps names : List ℕ) (r : CFigures) (leaps' name
         k.1,
       )
 
-  zero : (f : Figured) → CountsFigures first last leaps names f leaps' names' → r ≡ flat_figures (said_figured f) → r.reason ≡ 0 →
-      (g : Figures) × CountsFigures first last leaps names (Are g) leaps' names' × (r ≡ given_figures g)
-  zero (Are f) s e z = (f, s, e)
-  zero (Refused why) s e z = absurd (none-is-0 why (sym (ap (λ (x : CFigures). x.reason) e) ∙ z))
+  zero : (f : Result Figures Reason) → CountsFigures first last leaps names f leaps' names' → r ≡ flat_figures (said f) → r.reason ≡ 0 →
+      (g : Figures) × CountsFigures first last leaps names (Ok g) leaps' names' × (r ≡ given_figures g)
+  zero (Ok f) s e z = (f, s, e)
+  zero (Err why) s e z = absurd (none-is-0 why (sym (ap (λ (x : CFigures). x.reason) e) ∙ z))
 
   -- one of them it is
   called : CCountsFigures first last leaps names r leaps' names' →
-      (f : Figured) × CountsFigures first last leaps names f leaps' names' × (r ≡ flat_figures (said_figured f))
+      (f : Result Figures Reason) × CountsFigures first last leaps names f leaps' names' × (r ≡ flat_figures (said f))
   called s =
       let w = said-by first last in (
         w.0,
@@ -86,7 +86,7 @@ of-year-8 : (r : CFigures) (l n l' n' : List ℕ) → CCountsFigures 8 8 l n r l
 of-year-8 r l n l' n' s =
     let w = called 8 8 l n r l' n' s in
     let y = year-8 l n l' n' w.0 w.1 in (
-      ap (λ (x : CFigures). x.reason) (w.2 ∙ ap (λ (f : Figured). flat_figures (said_figured f)) y.0),
+      ap (λ (x : CFigures). x.reason) (w.2 ∙ ap (λ (f : Result Figures Reason). flat_figures (said f)) y.0),
       ap (λ (m : List ℕ). get_or m 11 0) y.1,
       y.2,
     )
@@ -94,7 +94,7 @@ of-year-8 r l n l' n' s =
 of-year-47 : (r : CFigures) (l n l' n' : List ℕ) → CCountsFigures 47 47 l n r l' n' → r.pairs ≡ 1
 of-year-47 r l n l' n' s =
     let w = called 47 47 l n r l' n' s in
-    ap (λ (x : CFigures). x.pairs) (w.2 ∙ ap (λ (f : Figured). flat_figures (said_figured f)) (year-47 l n l' n' w.0 w.1))
+    ap (λ (x : CFigures). x.pairs) (w.2 ∙ ap (λ (f : Result Figures Reason). flat_figures (said f)) (year-47 l n l' n' w.0 w.1))
 
 pub wrong-figures-exported : WrongFiguresExported
 unfolding figures_at

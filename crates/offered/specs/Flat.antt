@@ -1,6 +1,8 @@
 -- An answer laid flat into one struct: the reason is 0 and the rest what is answered, or the reason is the paper's number and the
 -- rest is nought. Assumes nothing.
-use Rattle.std.specs.Prelude.{ℕ, Bool, true, false}
+use Rattle.emending.specs.declared.Emended.{Emended}
+use Rattle.emending.specs.declared.Emended.TheVariants.{Fits, Are}
+use Rattle.std.specs.Prelude.{Option, Some, None, ℕ, Bool, true, false}
 use Rattle.rule.specs.Rule.{number_of, leap_mark}
 use Rattle.rule.specs.Reasons.{Answer, is, refused, refused-with}
 use Rattle.rule.specs.declared.Quarter.{Quarter}
@@ -8,7 +10,6 @@ use Rattle.rule.specs.declared.Term.{Term}
 use Rattle.dates.specs.declared.Date.{Date}
 use Rattle.facts.specs.declared.SolsticeYear.{SolsticeYear}
 use Rattle.facts.specs.declared.LeapMonth.{LeapMonth}
-use Rattle.facts.specs.declared.LeapMonth.TheVariants.{Without, With}
 use Rattle.facts.specs.declared.YearFacts.{YearFacts}
 use Rattle.facts.specs.declared.MonthFacts.{MonthFacts}
 use Rattle.clerk.specs.declared.Clerk.{Clerk}
@@ -16,7 +17,6 @@ use Rattle.planets.specs.declared.Conjunction.{Conjunction}
 use Rattle.planets.specs.declared.Next.{Next}
 use Rattle.planets.specs.declared.Pair.{Pair}
 use Rattle.planets.specs.Planets.{phase_number}
-use Rattle.emending.specs.Emended.{Outcome, fit, emended}
 use Rattle.sheet.specs.declared.Counted.{Counted}
 use Rattle.offered.specs.declared.CDate.{CDate}
 use Rattle.offered.specs.declared.CDay.{CDay}
@@ -120,17 +120,17 @@ abbrev pub flat_solstice : Answer SolsticeYear → CSolstice
 flat_solstice = flat given_solstice no_solstice
 
 -- a leap month, if there is one: whether, its number, its count
-abbrev pub has_leap : LeapMonth → Bool
-has_leap Without = false
-has_leap (With k n) = true
+abbrev pub has_leap : Option LeapMonth → Bool
+has_leap None = false
+has_leap (Some l) = true
 
-abbrev pub leap_number : LeapMonth → ℕ
-leap_number Without = 0
-leap_number (With k n) = k
+abbrev pub leap_number : Option LeapMonth → ℕ
+leap_number None = 0
+leap_number (Some l) = l.number
 
-abbrev pub leap_count : LeapMonth → ℕ
-leap_count Without = 0
-leap_count (With k n) = n
+abbrev pub leap_count : Option LeapMonth → ℕ
+leap_count None = 0
+leap_count (Some l) = l.month
 
 -- a civil year's own
 abbrev pub given_year : YearFacts → CYear
@@ -281,9 +281,9 @@ flat_found (refused k) = record { reason = k; total = 0 }
 flat_found (refused-with k n) = record { reason = k; total = n }
 
 -- what an emendation says: whether days fit, how many of them or of the emendations; a refusal that says the true total keeps it
-abbrev pub flat_emended : Answer Outcome → CEmended
-flat_emended (is (fit n)) = record { reason = 0; fits = true; total = n }
-flat_emended (is (emended n)) = record { reason = 0; fits = false; total = n }
+abbrev pub flat_emended : Answer Emended → CEmended
+flat_emended (is (Fits n)) = record { reason = 0; fits = true; total = n }
+flat_emended (is (Are n)) = record { reason = 0; fits = false; total = n }
 flat_emended (refused k) = record { reason = k; fits = false; total = 0 }
 flat_emended (refused-with k n) = record { reason = k; fits = false; total = n }
 

@@ -1,75 +1,38 @@
 -- What holds of the calls for C, as statements. proofs/Paper.antt proves each under the same name in small letters.
 -- Assumes nothing.
-use Rattle.std.specs.Prelude.{ℕ, ◌+◌, ◌-◌, ◌*◌, ◌≤◌, ◌<◌, ◌≡◌, ◌↔◌, ◌≢◌, Bool, true, false, List, [], ◌∷◌, ◌++◌, ℤ, pos, length, get_or, replicate}
+use Rattle.emending.specs.declared.Emended.{Emended}
+use Rattle.emending.specs.declared.Emended.TheVariants.{Fits, Are}
+use Rattle.reading.specs.declared.SearchError.{SearchError}
+use Rattle.rule.specs.declared.Reason.{Reason}
+use Rattle.std.specs.Prelude.{Result, Ok, ℕ, ◌+◌, ◌-◌, ◌*◌, ◌≤◌, ◌<◌, ◌≡◌, ◌↔◌, ◌≢◌, Bool, true, false, List, [], ◌∷◌, ◌++◌, ℤ, pos, length, get_or, replicate}
 use Rattle.rule.specs.Rule.{InMonth}
-use Rattle.rule.specs.Reasons.{is}
+use Rattle.rule.specs.Reasons.{said, is}
 use Rattle.rule.specs.Paper.{IsTerm}
 use Rattle.rule.specs.declared.Quarter.{Quarter}
 use Rattle.rule.specs.declared.Term.{Term}
 use Rattle.dates.specs.declared.Date.{Date}
-use Rattle.dates.specs.declared.Dated.{Dated}
-use Rattle.dates.specs.declared.Dated.TheVariants as Dated'
-use Rattle.dates.specs.declared.DayTold.{DayTold}
-use Rattle.dates.specs.declared.DayTold.TheVariants as DayTold'
-use Rattle.dates.specs.Promises.{said_date, said_day, DateOfDay, DayOfDate}
+use Rattle.dates.specs.Promises.{DateOfDay, DayOfDate}
 use Rattle.dates.specs.Paper.{Besides, last_of_bu1, first_of_bu2}
 use Rattle.moves.specs.Moves.{MoveDate}
 use Rattle.facts.specs.declared.SolsticeYear.{SolsticeYear}
-use Rattle.facts.specs.declared.SolsticeYearTold.{SolsticeYearTold}
-use Rattle.facts.specs.declared.SolsticeYearTold.TheVariants as Solstice'
 use Rattle.facts.specs.declared.YearFacts.{YearFacts}
-use Rattle.facts.specs.declared.YearTold.{YearTold}
-use Rattle.facts.specs.declared.YearTold.TheVariants as Year'
 use Rattle.facts.specs.declared.MonthFacts.{MonthFacts}
-use Rattle.facts.specs.declared.MonthTold.{MonthTold}
-use Rattle.facts.specs.declared.MonthTold.TheVariants as Month'
-use Rattle.facts.specs.declared.QuarterTold.{QuarterTold}
-use Rattle.facts.specs.declared.QuarterTold.TheVariants as Quarter'
-use Rattle.facts.specs.declared.TermTold.{TermTold}
-use Rattle.facts.specs.declared.TermTold.TheVariants as Term'
 use Rattle.facts.specs.Paper.{term_before}
-use Rattle.facts.specs.Promises.{
-  said_solstice_year,
-  said_year,
-  said_month,
-  said_quarter,
-  said_term,
-  SolsticeYearFacts,
-  YearOwnFacts,
-  MonthByCount,
-  QuarterOfMonth,
-  TermOfYear,
-}
+use Rattle.facts.specs.Promises.{SolsticeYearFacts, YearOwnFacts, MonthByCount, QuarterOfMonth, TermOfYear}
 use Rattle.clerk.specs.declared.Clerk.{Clerk}
-use Rattle.clerk.specs.declared.ClerkTold.{ClerkTold}
-use Rattle.clerk.specs.declared.ClerkTold.TheVariants as Clerk'
-use Rattle.clerk.specs.Clerk.{said_clerk, StartsAt, StepsOn, WalksOn, Shows}
+use Rattle.clerk.specs.Clerk.{StartsAt, StepsOn, WalksOn, Shows}
 use Rattle.clerk.specs.Paper.{count_of}
 use Rattle.planets.specs.declared.Conjunction.{Conjunction}
-use Rattle.planets.specs.declared.ConjunctionTold.{ConjunctionTold}
-use Rattle.planets.specs.declared.ConjunctionTold.TheVariants as Conjunction'
 use Rattle.planets.specs.declared.Next.{Next}
-use Rattle.planets.specs.declared.NextTold.{NextTold}
-use Rattle.planets.specs.declared.NextTold.TheVariants as Next'
 use Rattle.planets.specs.declared.Pair.{Pair}
-use Rattle.planets.specs.declared.PairTold.{PairTold}
-use Rattle.planets.specs.declared.PairTold.TheVariants as Pair'
-use Rattle.planets.specs.Promises.{said_conjunction, said_next, said_pair, KthConjunction, NextConjunction, ReducedPair}
-use Rattle.reading.specs.declared.Found.{Found}
-use Rattle.reading.specs.declared.Found.TheVariants as Found'
+use Rattle.planets.specs.Promises.{KthConjunction, NextConjunction, ReducedPair}
 use Rattle.reading.specs.Search.{total, said_found, Searched}
-use Rattle.emending.specs.declared.Emended.{Emended}
-use Rattle.emending.specs.declared.Emended.TheVariants as Emended'
-use Rattle.emending.specs.Emended.{Outcome, fit, emended, emend_total, said_emended, EmendsReading}
-use Rattle.drawer.specs.declared.Filled.{Filled}
+use Rattle.emending.specs.Emended.{emend_total, EmendsReading}
+use Rattle.drawer.specs.declared.DrawerError.{DrawerError}
 use Rattle.drawer.specs.Drawer.{said_filled, to_fill, FillDates}
 use Rattle.drawer.specs.Paper.{NotTooMany, Roomy, AllInRange, FilledWith}
 use Rattle.sheet.specs.declared.Counted.{Counted}
-use Rattle.sheet.specs.declared.SheetCounts.{SheetCounts}
-use Rattle.sheet.specs.declared.SheetCounts.TheVariants as Counts'
-use Rattle.sheet.specs.declared.HowMany.{HowMany}
-use Rattle.sheet.specs.declared.HowMany.TheVariants as HowMany'
-use Rattle.sheet.specs.Promises.{said_counts, said_how_many, ReadSheet, WriteSheet}
+use Rattle.sheet.specs.Promises.{ReadSheet, WriteSheet}
 use Rattle.sheet.specs.Sheet.{empty_sheet, sheet_of11, sheet_of_twos}
 use Rattle.penned.specs.Promises.{PrintYear, PrintMonthLine, PrintMonth, PrintDay}
 use Rattle.fields.specs.Fields.{word}
@@ -251,67 +214,67 @@ pub record RefusalIsBare : Type 0 where
   pub judge-text : (s o : List ℕ) (r : CLength) (o' : List ℕ) → CJudgeText s o r o' → r.reason ≢ 0 → BareLength r × (o' ≡ o)
 
 -- what a call for C says is what the call says, laid flat, and lent memory is as the call leaves it
-abbrev pub PrintSaid : (ℕ → List ℕ → CLength → List ℕ → Type 0) → (ℕ → List ℕ → HowMany → List ℕ → Type 0) → Type 0
+abbrev pub PrintSaid : (ℕ → List ℕ → CLength → List ℕ → Type 0) → (ℕ → List ℕ → Result ℕ Reason → List ℕ → Type 0) → Type 0
 PrintSaid C P =
-    (x : ℕ) (o : List ℕ) (r : CLength) (o' : List ℕ) → C x o r o' ↔ ((a : HowMany) × P x o a o' × (r ≡ flat_length (said_how_many a)))
+    (x : ℕ) (o : List ℕ) (r : CLength) (o' : List ℕ) → C x o r o' ↔ ((a : Result ℕ Reason) × P x o a o' × (r ≡ flat_length (said a)))
 
 -- of a drawer, whose records have another form: the answer is that of the call, each record that the call fills is that of the call, laid
 -- flat, and the rest is as it was
-pub record SaysTheDrawer (old : List CDate) (r : CFilled) (new : List CDate) (a : Filled) (after : List Date) : Type 0 where
+pub record SaysTheDrawer (old : List CDate) (r : CFilled) (new : List CDate) (a : Result ℕ DrawerError) (after : List Date) : Type 0 where
   pub answer : r ≡ flat_filled (said_filled a)
   pub as_long : length new ≡ length old
   pub records : (i : ℕ) (none : CDate) (blank : Date) → i < to_fill (said_filled a) → get_or new i none ≡ given_date (get_or after i blank)
   pub rest : (i : ℕ) (none : CDate) → to_fill (said_filled a) ≤ i → get_or new i none ≡ get_or old i none
 
 pub record SaysWhatTheCallSays : Type 0 where
-  pub date-of-day : (d : ℕ) (r : CDate) → CDateOfDay d r ↔ ((a : Dated) × DateOfDay d a × (r ≡ flat_date (said_date a)))
+  pub date-of-day : (d : ℕ) (r : CDate) → CDateOfDay d r ↔ ((a : Result Date Reason) × DateOfDay d a × (r ≡ flat_date (said a)))
   pub day-of-date :
       (y k : ℕ) (l : Bool) (m : ℕ) (r : CDay) →
-      CDayOfDate y k l m r ↔ ((a : DayTold) × DayOfDate y k l m a × (r ≡ flat_day (said_day a)))
+      CDayOfDate y k l m r ↔ ((a : Result ℕ Reason) × DayOfDate y k l m a × (r ≡ flat_day (said a)))
   pub move-date :
       (y k : ℕ) (l : Bool) (m : ℕ) (n : ℤ) (r : CDate) →
-      CMoveDate y k l m n r ↔ ((a : Dated) × MoveDate y k l m n a × (r ≡ flat_date (said_date a)))
+      CMoveDate y k l m n r ↔ ((a : Result Date Reason) × MoveDate y k l m n a × (r ≡ flat_date (said a)))
   pub solstice-year :
       (y : ℕ) (r : CSolstice) →
-      CSolsticeYear y r ↔ ((a : SolsticeYearTold) × SolsticeYearFacts y a × (r ≡ flat_solstice (said_solstice_year a)))
-  pub year-facts : (y : ℕ) (r : CYear) → CYearFacts y r ↔ ((a : YearTold) × YearOwnFacts y a × (r ≡ flat_year (said_year a)))
-  pub month-facts : (n : ℕ) (r : CMonth) → CMonthFacts n r ↔ ((a : MonthTold) × MonthByCount n a × (r ≡ flat_month (said_month a)))
-  pub clerk-start : (b : ℕ) (r : CClerk) → CClerkStart b r ↔ ((a : ClerkTold) × StartsAt b a × (r ≡ flat_clerk (said_clerk a)))
-  pub clerk-step : (c : Clerk) (r : CClerk) → CClerkStep c r ↔ ((a : ClerkTold) × StepsOn c a × (r ≡ flat_clerk (said_clerk a)))
-  pub clerk-walk : (b k : ℕ) (r : CClerk) → CClerkWalk b k r ↔ ((a : ClerkTold) × WalksOn b k a × (r ≡ flat_clerk (said_clerk a)))
+      CSolsticeYear y r ↔ ((a : Result SolsticeYear Reason) × SolsticeYearFacts y a × (r ≡ flat_solstice (said a)))
+  pub year-facts : (y : ℕ) (r : CYear) → CYearFacts y r ↔ ((a : Result YearFacts Reason) × YearOwnFacts y a × (r ≡ flat_year (said a)))
+  pub month-facts : (n : ℕ) (r : CMonth) → CMonthFacts n r ↔ ((a : Result MonthFacts Reason) × MonthByCount n a × (r ≡ flat_month (said a)))
+  pub clerk-start : (b : ℕ) (r : CClerk) → CClerkStart b r ↔ ((a : Result Clerk Reason) × StartsAt b a × (r ≡ flat_clerk (said a)))
+  pub clerk-step : (c : Clerk) (r : CClerk) → CClerkStep c r ↔ ((a : Result Clerk Reason) × StepsOn c a × (r ≡ flat_clerk (said a)))
+  pub clerk-walk : (b k : ℕ) (r : CClerk) → CClerkWalk b k r ↔ ((a : Result Clerk Reason) × WalksOn b k a × (r ≡ flat_clerk (said a)))
   pub clerk-show : (c : Clerk) (r : CMonth) → CClerkShow c r ↔ ((f : MonthFacts) × Shows c f × (r ≡ given_month f))
   pub quarter :
-      (n q : ℕ) (r : CQuarter) → CQuarterOf n q r ↔ ((a : QuarterTold) × QuarterOfMonth n q a × (r ≡ flat_quarter (said_quarter a)))
-  pub term : (y k : ℕ) (r : CTerm) → CTermOf y k r ↔ ((a : TermTold) × TermOfYear y k a × (r ≡ flat_term (said_term a)))
+      (n q : ℕ) (r : CQuarter) → CQuarterOf n q r ↔ ((a : Result Quarter Reason) × QuarterOfMonth n q a × (r ≡ flat_quarter (said a)))
+  pub term : (y k : ℕ) (r : CTerm) → CTermOf y k r ↔ ((a : Result Term Reason) × TermOfYear y k a × (r ≡ flat_term (said a)))
   pub conjunction :
       (p k : ℕ) (r : CConjunction) →
-      CKthConjunction p k r ↔ ((a : ConjunctionTold) × KthConjunction p k a × (r ≡ flat_conjunction (said_conjunction a)))
-  pub next : (p d : ℕ) (r : CNext) → CNextConjunction p d r ↔ ((a : NextTold) × NextConjunction p d a × (r ≡ flat_next (said_next a)))
-  pub pair : (p : ℕ) (r : CPair) → CReducedPair p r ↔ ((a : PairTold) × ReducedPair p a × (r ≡ flat_pair (said_pair a)))
+      CKthConjunction p k r ↔ ((a : Result Conjunction Reason) × KthConjunction p k a × (r ≡ flat_conjunction (said a)))
+  pub next : (p d : ℕ) (r : CNext) → CNextConjunction p d r ↔ ((a : Result Next Reason) × NextConjunction p d a × (r ≡ flat_next (said a)))
+  pub pair : (p : ℕ) (r : CPair) → CReducedPair p r ↔ ((a : Result Pair Reason) × ReducedPair p a × (r ≡ flat_pair (said a)))
   pub search :
       (r : CReading) (first last : ℕ) (old : List ℕ) (a : CFound) (new : List ℕ) →
       CSearch r first last old a new
-      ↔ ((f : Found) × Searched (reading_of r) first last old f new × (a ≡ flat_found (said_found f)))
+      ↔ ((f : Result ℕ SearchError) × Searched (reading_of r) first last old f new × (a ≡ flat_found (said_found f)))
   pub emend :
       (r : CReading) (first last : ℕ) (old : List ℕ) (a : CEmended) (new : List ℕ) →
       CEmendsReading r first last old a new
-      ↔ ((f : Emended) × EmendsReading (reading_of r) first last old f new × (a ≡ flat_emended (said_emended f)))
+      ↔ ((f : Result Emended SearchError) × EmendsReading (reading_of r) first last old f new × (a ≡ flat_emended (said_found f)))
   pub fill-dates :
       (days : List ℕ) (old : List CDate) (r : CFilled) (new : List CDate) (held : List Date) → length held ≡ length old →
-      CFillDates days old r new ↔ ((a : Filled) × (after : List Date) × FillDates days held a after × SaysTheDrawer old r new a after)
+      CFillDates days old r new ↔ ((a : Result ℕ DrawerError) × (after : List Date) × FillDates days held a after × SaysTheDrawer old r new a after)
   pub read-sheet :
       (s y m d : List ℕ) (r : CSheetCounts) (y' m' d' : List ℕ) →
-      CReadSheet s y m d r y' m' d' ↔ ((a : SheetCounts) × ReadSheet s y m d a y' m' d' × (r ≡ flat_counts (said_counts a)))
+      CReadSheet s y m d r y' m' d' ↔ ((a : Result Counted Reason) × ReadSheet s y m d a y' m' d' × (r ≡ flat_counts (said a)))
   pub write-sheet :
       (y m d o : List ℕ) (r : CLength) (o' : List ℕ) →
-      CWriteSheet y m d o r o' ↔ ((a : HowMany) × WriteSheet y m d o a o' × (r ≡ flat_length (said_how_many a)))
+      CWriteSheet y m d o r o' ↔ ((a : Result ℕ Reason) × WriteSheet y m d o a o' × (r ≡ flat_length (said a)))
   pub print-year : PrintSaid CPrintYear PrintYear
   pub print-month-line : PrintSaid CPrintMonthLine PrintMonthLine
   pub print-month : PrintSaid CPrintMonth PrintMonth
   pub print-day : PrintSaid CPrintDay PrintDay
   pub judge-text :
       (s o : List ℕ) (r : CLength) (o' : List ℕ) →
-      CJudgeText s o r o' ↔ ((a : HowMany) × JudgeText s o a o' × (r ≡ flat_length (said_how_many a)))
+      CJudgeText s o r o' ↔ ((a : Result ℕ Reason) × JudgeText s o a o' × (r ≡ flat_length (said a)))
 
 -- W2: where a term is answered, day and parts are the one pair
 abbrev pub CTermExactly : Type 0
@@ -339,15 +302,15 @@ pub record CDatesAgree : Type 0 where
       CFillDates days old r new → r.reason ≡ 0 → i < length days → CAgrees (get_or days i 0) (get_or new i none)
 
 -- reason 0 says that the call answers, and nothing else does, since the paper's reasons start at 1; the struct is then that answer
-abbrev pub ZeroPrint : (ℕ → List ℕ → CLength → List ℕ → Type 0) → (ℕ → List ℕ → HowMany → List ℕ → Type 0) → Type 0
+abbrev pub ZeroPrint : (ℕ → List ℕ → CLength → List ℕ → Type 0) → (ℕ → List ℕ → Result ℕ Reason → List ℕ → Type 0) → Type 0
 ZeroPrint C P =
     (x : ℕ) (o : List ℕ) (r : CLength) (o' : List ℕ) →
-    C x o r o' → (r.reason ≡ 0) ↔ ((n : ℕ) × P x o (HowMany'.Is n) o' × (r ≡ given_length n))
+    C x o r o' → (r.reason ≡ 0) ↔ ((n : ℕ) × P x o (Ok n) o' × (r ≡ given_length n))
 
 -- of an emendation: what the call says then
-abbrev pub saying : Outcome → Emended
-saying (fit n) = Emended'.Fits n
-saying (emended n) = Emended'.Are n
+abbrev pub saying : Emended → Result Emended SearchError
+saying (Fits n) = Ok (Fits n)
+saying (Are n) = Ok (Are n)
 
 -- of a drawer: a good one, all of whose days have what the single call for C gives, as many as are said
 pub record GoodDrawer (days : List ℕ) (old : List CDate) (r : CFilled) (new : List CDate) : Type 0 where
@@ -358,65 +321,65 @@ pub record GoodDrawer (days : List ℕ) (old : List CDate) (r : CFilled) (new : 
   pub filled : FilledWith CDateOfDay days old new
 
 pub record Reason0IffAnswered : Type 0 where
-  pub date-of-day : (d : ℕ) (r : CDate) → CDateOfDay d r → (r.reason ≡ 0) ↔ ((x : Date) × DateOfDay d (Dated'.Is x) × (r ≡ given_date x))
+  pub date-of-day : (d : ℕ) (r : CDate) → CDateOfDay d r → (r.reason ≡ 0) ↔ ((x : Date) × DateOfDay d (Ok x) × (r ≡ given_date x))
   pub day-of-date :
       (y k : ℕ) (l : Bool) (m : ℕ) (r : CDay) →
-      CDayOfDate y k l m r → (r.reason ≡ 0) ↔ ((x : ℕ) × DayOfDate y k l m (DayTold'.Is x) × (r ≡ given_day x))
+      CDayOfDate y k l m r → (r.reason ≡ 0) ↔ ((x : ℕ) × DayOfDate y k l m (Ok x) × (r ≡ given_day x))
   pub move-date :
       (y k : ℕ) (l : Bool) (m : ℕ) (n : ℤ) (r : CDate) →
-      CMoveDate y k l m n r → (r.reason ≡ 0) ↔ ((x : Date) × MoveDate y k l m n (Dated'.Is x) × (r ≡ given_date x))
+      CMoveDate y k l m n r → (r.reason ≡ 0) ↔ ((x : Date) × MoveDate y k l m n (Ok x) × (r ≡ given_date x))
   pub solstice-year :
       (y : ℕ) (r : CSolstice) →
-      CSolsticeYear y r → (r.reason ≡ 0) ↔ ((x : SolsticeYear) × SolsticeYearFacts y (Solstice'.Is x) × (r ≡ given_solstice x))
+      CSolsticeYear y r → (r.reason ≡ 0) ↔ ((x : SolsticeYear) × SolsticeYearFacts y (Ok x) × (r ≡ given_solstice x))
   pub year-facts :
-      (y : ℕ) (r : CYear) → CYearFacts y r → (r.reason ≡ 0) ↔ ((x : YearFacts) × YearOwnFacts y (Year'.Is x) × (r ≡ given_year x))
+      (y : ℕ) (r : CYear) → CYearFacts y r → (r.reason ≡ 0) ↔ ((x : YearFacts) × YearOwnFacts y (Ok x) × (r ≡ given_year x))
   pub month-facts :
-      (n : ℕ) (r : CMonth) → CMonthFacts n r → (r.reason ≡ 0) ↔ ((x : MonthFacts) × MonthByCount n (Month'.Is x) × (r ≡ given_month x))
+      (n : ℕ) (r : CMonth) → CMonthFacts n r → (r.reason ≡ 0) ↔ ((x : MonthFacts) × MonthByCount n (Ok x) × (r ≡ given_month x))
   pub clerk-start :
-      (b : ℕ) (r : CClerk) → CClerkStart b r → (r.reason ≡ 0) ↔ ((c : Clerk) × StartsAt b (Clerk'.Is c) × (r ≡ given_clerk c))
+      (b : ℕ) (r : CClerk) → CClerkStart b r → (r.reason ≡ 0) ↔ ((c : Clerk) × StartsAt b (Ok c) × (r ≡ given_clerk c))
   pub clerk-step :
-      (c : Clerk) (r : CClerk) → CClerkStep c r → (r.reason ≡ 0) ↔ ((d : Clerk) × StepsOn c (Clerk'.Is d) × (r ≡ given_clerk d))
+      (c : Clerk) (r : CClerk) → CClerkStep c r → (r.reason ≡ 0) ↔ ((d : Clerk) × StepsOn c (Ok d) × (r ≡ given_clerk d))
   pub clerk-walk :
-      (b k : ℕ) (r : CClerk) → CClerkWalk b k r → (r.reason ≡ 0) ↔ ((c : Clerk) × WalksOn b k (Clerk'.Is c) × (r ≡ given_clerk c))
+      (b k : ℕ) (r : CClerk) → CClerkWalk b k r → (r.reason ≡ 0) ↔ ((c : Clerk) × WalksOn b k (Ok c) × (r ≡ given_clerk c))
   pub clerk-show : (c : Clerk) (r : CMonth) → CClerkShow c r → r.reason ≡ 0
   pub quarter :
       (n q : ℕ) (r : CQuarter) →
-      CQuarterOf n q r → (r.reason ≡ 0) ↔ ((x : Quarter) × QuarterOfMonth n q (Quarter'.Is x) × (r ≡ given_quarter x))
-  pub term : (y k : ℕ) (r : CTerm) → CTermOf y k r → (r.reason ≡ 0) ↔ ((x : Term) × TermOfYear y k (Term'.Is x) × (r ≡ given_term x))
+      CQuarterOf n q r → (r.reason ≡ 0) ↔ ((x : Quarter) × QuarterOfMonth n q (Ok x) × (r ≡ given_quarter x))
+  pub term : (y k : ℕ) (r : CTerm) → CTermOf y k r → (r.reason ≡ 0) ↔ ((x : Term) × TermOfYear y k (Ok x) × (r ≡ given_term x))
   pub conjunction :
       (p k : ℕ) (r : CConjunction) →
       CKthConjunction p k r →
-      (r.reason ≡ 0) ↔ ((x : Conjunction) × KthConjunction p k (Conjunction'.Is x) × (r ≡ given_conjunction x))
+      (r.reason ≡ 0) ↔ ((x : Conjunction) × KthConjunction p k (Ok x) × (r ≡ given_conjunction x))
   pub next :
       (p d : ℕ) (r : CNext) →
-      CNextConjunction p d r → (r.reason ≡ 0) ↔ ((x : Next) × NextConjunction p d (Next'.Is x) × (r ≡ given_next x))
-  pub pair : (p : ℕ) (r : CPair) → CReducedPair p r → (r.reason ≡ 0) ↔ ((x : Pair) × ReducedPair p (Pair'.Is x) × (r ≡ given_pair x))
+      CNextConjunction p d r → (r.reason ≡ 0) ↔ ((x : Next) × NextConjunction p d (Ok x) × (r ≡ given_next x))
+  pub pair : (p : ℕ) (r : CPair) → CReducedPair p r → (r.reason ≡ 0) ↔ ((x : Pair) × ReducedPair p (Ok x) × (r ≡ given_pair x))
   pub search :
       (r : CReading) (first last : ℕ) (old : List ℕ) (a : CFound) (new : List ℕ) →
       CSearch r first last old a new →
-      (a.reason ≡ 0) ↔ ((n : ℕ) × Searched (reading_of r) first last old (Found'.Is n) new × (a ≡ flat_found (is n)))
+      (a.reason ≡ 0) ↔ ((n : ℕ) × Searched (reading_of r) first last old (Ok n) new × (a ≡ flat_found (is n)))
   pub emend :
       (r : CReading) (first last : ℕ) (old : List ℕ) (a : CEmended) (new : List ℕ) →
       CEmendsReading r first last old a new →
-      (a.reason ≡ 0) ↔ ((o : Outcome) × EmendsReading (reading_of r) first last old (saying o) new × (a ≡ flat_emended (is o)))
+      (a.reason ≡ 0) ↔ ((o : Emended) × EmendsReading (reading_of r) first last old (saying o) new × (a ≡ flat_emended (is o)))
   pub fill-dates :
       (days : List ℕ) (old : List CDate) (r : CFilled) (new : List CDate) →
       CFillDates days old r new → (r.reason ≡ 0) ↔ GoodDrawer days old r new
   pub read-sheet :
       (s y m d : List ℕ) (r : CSheetCounts) (y' m' d' : List ℕ) →
       CReadSheet s y m d r y' m' d' →
-      (r.reason ≡ 0) ↔ ((c : Counted) × ReadSheet s y m d (Counts'.Is c) y' m' d' × (r ≡ given_counts c))
+      (r.reason ≡ 0) ↔ ((c : Counted) × ReadSheet s y m d (Ok c) y' m' d' × (r ≡ given_counts c))
   pub write-sheet :
       (y m d o : List ℕ) (r : CLength) (o' : List ℕ) →
       CWriteSheet y m d o r o' →
-      (r.reason ≡ 0) ↔ ((n : ℕ) × WriteSheet y m d o (HowMany'.Is n) o' × (r ≡ given_length n))
+      (r.reason ≡ 0) ↔ ((n : ℕ) × WriteSheet y m d o (Ok n) o' × (r ≡ given_length n))
   pub print-year : ZeroPrint CPrintYear PrintYear
   pub print-month-line : ZeroPrint CPrintMonthLine PrintMonthLine
   pub print-month : ZeroPrint CPrintMonth PrintMonth
   pub print-day : ZeroPrint CPrintDay PrintDay
   pub judge-text :
       (s o : List ℕ) (r : CLength) (o' : List ℕ) →
-      CJudgeText s o r o' → (r.reason ≡ 0) ↔ ((n : ℕ) × JudgeText s o (HowMany'.Is n) o' × (r ≡ given_length n))
+      CJudgeText s o r o' → (r.reason ≡ 0) ↔ ((n : ℕ) × JudgeText s o (Ok n) o' × (r ≡ given_length n))
 
 -- W3: what a walk leads to shows what the call for a month by its count gives; a step of it is the walk of one step more
 pub record CClerkExactly : Type 0 where

@@ -1,16 +1,12 @@
 -- The new form of the sheet for C: its counts laid flat, what reading it and the two conversions promise, and what is said of them, as statements.
 -- proofs/Renewed.antt proves each statement under the same name in small letters. Assumes nothing.
-use Rattle.std.specs.Prelude.{ℕ, ◌≡◌, ◌↔◌, ◌≢◌, List, [], ◌∷◌, ◌++◌, length, replicate}
-use Rattle.rule.specs.Reasons.{Answer, is, and_then, afterwards}
-use Rattle.sheet.specs.declared.HowMany.{HowMany}
-use Rattle.sheet.specs.declared.HowMany.TheVariants as HowMany'
+use Rattle.rule.specs.declared.Reason.{Reason}
+use Rattle.std.specs.Prelude.{Result, Ok, ℕ, ◌≡◌, ◌↔◌, ◌≢◌, List, [], ◌∷◌, ◌++◌, length, replicate}
+use Rattle.rule.specs.Reasons.{said, Answer, is, and_then, afterwards}
 use Rattle.sheet.specs.Sheet.{empty_sheet}
-use Rattle.sheet.specs.Promises.{said_how_many}
 use Rattle.newsheet.specs.declared.FourCounts.{FourCounts}
-use Rattle.newsheet.specs.declared.NewCounts.{NewCounts}
-use Rattle.newsheet.specs.declared.NewCounts.TheVariants as NewCounts'
 use Rattle.newsheet.specs.New.{eights, read_new_into, to_new, to_old}
-use Rattle.newsheet.specs.Promises.{said_new, counted_four, ReadNew, ToNew, ToOld}
+use Rattle.newsheet.specs.Promises.{counted_four, ReadNew, ToNew, ToOld}
 use Rattle.newstated.specs.Paper.{empty_new, sheet_of_reading, sheet_of_two_readings, known22, unread_bytes, month13-past, leap_byte}
 use Rattle.offered.specs.declared.CNewCounts.{CNewCounts}
 use Rattle.offered.specs.declared.CLength.{CLength}
@@ -70,25 +66,25 @@ pub record RefusalRenewed : Type 0 where
 pub record SaysTheRenewed : Type 0 where
   pub read-new :
       (s y m d n : List ℕ) (r : CNewCounts) (y' m' d' n' : List ℕ) →
-      CReadNew s y m d n r y' m' d' n' ↔ ((a : NewCounts) × ReadNew s y m d n a y' m' d' n' × (r ≡ flat_four (said_new a)))
+      CReadNew s y m d n r y' m' d' n' ↔ ((a : Result FourCounts Reason) × ReadNew s y m d n a y' m' d' n' × (r ≡ flat_four (said a)))
   pub to-new :
       (s o : List ℕ) (r : CLength) (o' : List ℕ) →
-      CToNew s o r o' ↔ ((a : HowMany) × ToNew s o a o' × (r ≡ flat_length (said_how_many a)))
+      CToNew s o r o' ↔ ((a : Result ℕ Reason) × ToNew s o a o' × (r ≡ flat_length (said a)))
   pub to-old :
       (s o : List ℕ) (r : CLength) (o' : List ℕ) →
-      CToOld s o r o' ↔ ((a : HowMany) × ToOld s o a o' × (r ≡ flat_length (said_how_many a)))
+      CToOld s o r o' ↔ ((a : Result ℕ Reason) × ToOld s o a o' × (r ≡ flat_length (said a)))
 
 -- reason 0 is said exactly where there is an answer
 pub record Reason0Renewed : Type 0 where
   pub read-new :
       (s y m d n : List ℕ) (r : CNewCounts) (y' m' d' n' : List ℕ) → CReadNew s y m d n r y' m' d' n' →
-      (r.reason ≡ 0) ↔ ((c : FourCounts) × ReadNew s y m d n (NewCounts'.Is c) y' m' d' n' × (r ≡ given_four c))
+      (r.reason ≡ 0) ↔ ((c : FourCounts) × ReadNew s y m d n (Ok c) y' m' d' n' × (r ≡ given_four c))
   pub to-new :
       (s o : List ℕ) (r : CLength) (o' : List ℕ) → CToNew s o r o' →
-      (r.reason ≡ 0) ↔ ((k : ℕ) × ToNew s o (HowMany'.Is k) o' × (r ≡ given_length k))
+      (r.reason ≡ 0) ↔ ((k : ℕ) × ToNew s o (Ok k) o' × (r ≡ given_length k))
   pub to-old :
       (s o : List ℕ) (r : CLength) (o' : List ℕ) → CToOld s o r o' →
-      (r.reason ≡ 0) ↔ ((k : ℕ) × ToOld s o (HowMany'.Is k) o' × (r ≡ given_length k))
+      (r.reason ≡ 0) ↔ ((k : ℕ) × ToOld s o (Ok k) o' × (r ≡ given_length k))
 
 -- wrong versions, each shut out at a named input
 pub record WrongRenewed : Type 0 where

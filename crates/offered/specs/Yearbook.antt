@@ -1,13 +1,13 @@
 -- The yearbook's figures for C: laid flat, what the call promises, and its statements. proofs/Yearbook.antt proves each under the same name
 -- in small letters. Assumes nothing.
-use Rattle.std.specs.Prelude.{ℕ, ◌+◌, ◌≡◌, ◌↔◌, ◌≢◌, List, get_or}
-use Rattle.rule.specs.Reasons.{Answer, is, refused, refused-with}
+use Rattle.rule.specs.declared.Reason.{Reason}
+use Rattle.std.specs.Prelude.{Result, Ok, ℕ, ◌+◌, ◌≡◌, ◌↔◌, ◌≢◌, List, get_or}
+use Rattle.rule.specs.Reasons.{said, Answer}
 use Rattle.yearbook.specs.declared.Figures.{Figures}
-use Rattle.yearbook.specs.declared.Figured.{Figured}
-use Rattle.yearbook.specs.declared.Figured.TheVariants as Figured'
 use Rattle.yearbook.specs.Figures.{leap_figures, name_figures}
-use Rattle.yearbook.specs.Promise.{figures_at, said_figured, wholly_after, CountsFigures}
+use Rattle.yearbook.specs.Promise.{figures_at, wholly_after, CountsFigures}
 use Rattle.offered.specs.declared.CFigures.{CFigures}
+use Rattle.offered.specs.Flat.{flat}
 
 abbrev pub given_figures : Figures → CFigures
 given_figures f = record { reason = 0; big = f.big; small = f.small; pairs = f.pairs; eclipses = f.eclipses }
@@ -16,9 +16,7 @@ abbrev pub no_figures : ℕ → CFigures
 no_figures k = record { reason = k; big = 0; small = 0; pairs = 0; eclipses = 0 }
 
 abbrev pub flat_figures : Answer Figures → CFigures
-flat_figures (is f) = given_figures f
-flat_figures (refused k) = no_figures k
-flat_figures (refused-with k n) = no_figures k
+flat_figures = flat given_figures no_figures
 
 -- the figures of a range of civil years: the answer, and what the two lent arrays hold then
 pub record CCountsFigures (first last : ℕ) (leaps names : List ℕ) (r : CFigures) (leaps' names' : List ℕ) : Type 0 where
@@ -45,11 +43,11 @@ pub record FiguresExported : Type 0 where
   pub says-what-the-call-says :
       (first last : ℕ) (leaps names : List ℕ) (r : CFigures) (leaps' names' : List ℕ) →
       CCountsFigures first last leaps names r leaps' names'
-      ↔ ((f : Figured) × CountsFigures first last leaps names f leaps' names' × (r ≡ flat_figures (said_figured f)))
+      ↔ ((f : Result Figures Reason) × CountsFigures first last leaps names f leaps' names' × (r ≡ flat_figures (said f)))
   pub reason-0-iff-answered :
       (first last : ℕ) (leaps names : List ℕ) (r : CFigures) (leaps' names' : List ℕ) →
       CCountsFigures first last leaps names r leaps' names' →
-      (r.reason ≡ 0) ↔ ((f : Figures) × CountsFigures first last leaps names (Figured'.Are f) leaps' names' × (r ≡ given_figures f))
+      (r.reason ≡ 0) ↔ ((f : Figures) × CountsFigures first last leaps names (Ok f) leaps' names' × (r ≡ given_figures f))
   pub nothing-lost : (f g : Figures) → given_figures f ≡ given_figures g → f ≡ g
 
 -- wrong versions, each shut out at a named input: one that refuses all; the pair that the last month of year 47 starts, lost; an array left as it

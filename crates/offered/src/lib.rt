@@ -1,6 +1,7 @@
 // What C is offered: one struct for each answer, with the reason in front, and one for a slip; in specs/ how an answer is laid flat into
 // its struct, what the twenty-nine calls promise, and statements with their proofs. No code: answers are laid flat in the crate `flat`, and
-// the calls are the crate `capi`. So an edit of a definition is refused without checking those again.
+// the calls are the crate `capi`. So an edit of a definition is refused without checking those again. The structs are C's: none is compared
+// or printed here, and they derive no more than C needs of them.
 #![tactic(auto)]
 
 use clerk::Clerk;

@@ -1,4 +1,7 @@
 -- What a turn of the loop does, over plain values: the reader after i lines, and what its step says. Assumes nothing.
+use Rattle.std.specs.Prelude.{Result}
+use Rattle.rule.specs.declared.Reason.{Reason}
+use Rattle.rule.specs.Reasons.{said}
 use Prim.Native.Nat.{ℕ, ◌+◌, ◌<◌, ◌≤◌}
 use native.Mathlib.Omega.{arith}
 use mathlib.Core.Path.{◌≡◌, refl, ap, ◌∙◌}
@@ -7,12 +10,9 @@ use lib.ListN.{length, get_or}
 use denote.Ref.{Bor}
 use Rattle.rule.specs.Lists.{placed}
 use Rattle.concordance.specs.Text.{lines_of, place_of}
-use Rattle.concordance.specs.Verdicts.{number_on, verdicts_of}
-use Rattle.concordance.specs.declared.LineTold.{LineTold}
+use Rattle.concordance.specs.Verdicts.{LineTold, number_on, verdicts_of}
 use Rattle.concordance.specs.Promises.{JudgeText}
 use Rattle.concordance.proofs.Places.{line-is}
-use Rattle.sheet.specs.declared.HowMany.{HowMany}
-use Rattle.sheet.specs.Promises.{said_how_many}
 use Rattle.offered.specs.Flat.{flat_length}
 use Rattle.offered.specs.Promises.{CJudgeText}
 use Rattle.reader.specs.Readers.{opened, NextLine}
@@ -42,5 +42,5 @@ all_said s ys n e h =
     ap (mid number_on (lines_of s) ys) e ∙ mid-ends number_on (lines_of s) ys (omega (arith, e, h))
 
 -- an answer of the call, laid flat
-pub for-c : (s : List ℕ) {o o' : List ℕ} {h : HowMany} → JudgeText s o h o' → CJudgeText s o (flat_length (said_how_many h)) o'
+pub for-c : (s : List ℕ) {o o' : List ℕ} {h : Result ℕ Reason} → JudgeText s o h o' → CJudgeText s o (flat_length (said h)) o'
 for-c s p = record { answer = ap flat_length p.answer; buffer = p.buffer }

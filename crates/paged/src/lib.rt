@@ -9,17 +9,19 @@ ghost use Rattle.concordance.specs.Verdicts.{verdicts_of};
 ghost use Rattle.offered.specs.Promises.{CJudgeText};
 ghost use Rattle.paged.specs.Paged.{said_number};
 
-use concordance::LineTold;
+use concordance::Verdict;
 use offered::CLength;
+use rule::Reason;
 
 // What a step says, as a number.
-fn said_number(v: LineTold) -> u8
-    ensures { result ≡ said_number v }
+// (No `From`: a Result is not of this crate.)
+fn said_number(step: Result<Option<Verdict>, Reason>) -> u8
+    ensures { result ≡ said_number step }
 {
-    match v {
-        LineTold::Line(w) => concordance::verdict_number(w),
-        LineTold::Ended => 8,
-        LineTold::Refused(_) => 9,
+    match step {
+        Ok(Some(verdict)) => concordance::verdict_number(verdict),
+        Ok(None) => 8,
+        Err(_) => 9,
     }
 }
 
@@ -29,10 +31,8 @@ fn read_through(text: &[u8], out: &mut [u8], n: usize)
     ensures { out.new ≡ placed (verdicts_of text.now) out.old }
 {
     let mut r = reader::start(text);
-    let mut i: usize = 0;
-    while i < n {
+    for i in 0..n {
         out[i] = said_number(reader::next_line(&mut r));
-        i += 1;
     }
 }
 

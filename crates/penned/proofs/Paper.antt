@@ -1,4 +1,6 @@
 -- The statements of specs/Paper, proved, each under its own name. Assumes nothing.
+use Rattle.std.specs.Prelude.{Result, Ok, Err}
+use Rattle.rule.proofs.Answers.{said-once}
 use Prim.Native.Nat.{ℕ, ◌≤◌, ◌<◌}
 use native.Mathlib.Omega.{arith}
 use mathlib.Core.Path.{◌≡◌, refl, ap, ap₂, sym, ◌∙◌, subst}
@@ -18,12 +20,10 @@ use Rattle.rule.proofs.Leap.{mark-at, number_at}
 use Rattle.rule.proofs.Answers.{reason-back, holds-all, at_most, two-given, two-first, two-second, given-not, two-only}
 use Rattle.dates.specs.Dates.{date_in, date_of}
 use Rattle.facts.specs.Facts.{month_facts, year_facts}
-use Rattle.sheet.specs.declared.HowMany.{HowMany}
-use Rattle.sheet.specs.declared.HowMany.TheVariants as HowMany'
 use Rattle.sheet.specs.Promises.{RestKept}
 use Rattle.sheet.proofs.Deciding.{made_of, refused-of}
 use Rattle.sheet.proofs.Reading.{reading}
-use Rattle.sheet.proofs.Places.{unlike, InFront, rest-kept, how-many-once}
+use Rattle.sheet.proofs.Places.{unlike, InFront, rest-kept}
 use Rattle.fields.specs.Fields.{followed, joined, each}
 use Rattle.penned.specs.Lines.{
   fields_of_year,
@@ -97,13 +97,13 @@ module _ (t : Bool) (k : ℕ) (text o : List ℕ) where
   abbrev in_room : Answer (List ℕ)
   in_room = guard t k (into_room (length o) text)
 
-  pub text-given : {n : ℕ} {o' : List ℕ} → Printed in_room o (HowMany'.Is n) o' → in_room ≡ is text
+  pub text-given : {n : ℕ} {o' : List ℕ} → Printed in_room o (Ok n) o' → in_room ≡ is text
   text-given {n} p =
       let w = made_of in_room length n p.answer in
       let r = (holds-all t k (into_room (length o) text) w.0).0 w.1 in
       w.1 ∙ sym ((holds-all (leb (length text) (length o)) 12 (is text) w.0).0 r.1).1
 
-  pub text_in-front : (o' : List ℕ) (n : ℕ) → Printed in_room o (HowMany'.Is n) o' → RestKept n o o'
+  pub text_in-front : (o' : List ℕ) (n : ℕ) → Printed in_room o (Ok n) o' → RestKept n o o'
   text_in-front o' n p =
       let g = text-given p in
       let r = (holds-all t k (into_room (length o) text) text).0 g in
@@ -128,7 +128,7 @@ rest-untouched =
     }
 
 -- each reason if and only if, of any call that refuses for one reason and then for want of room
-refusal : (a : Answer (List ℕ)) (o : List ℕ) (why : Reason) → Printed a o (HowMany'.Refused why) o ↔ (a ≡ refused (reason_number why))
+refusal : (a : Answer (List ℕ)) (o : List ℕ) (why : Reason) → Printed a o (Err why) o ↔ (a ≡ refused (reason_number why))
 refusal a o why = (λ p. refused-of a length (reason_number why) p.answer, printed-refused o why)
 
 pub of-text : {There : Type 0} (t : Bool) (why : Reason) → (reason_number why ≡ 12 → ⊥) → (text o : List ℕ) → ((t ≡ true) ↔ There) →
@@ -161,7 +161,7 @@ reasons-of-printing =
     to x {k} e = subst (λ (n : ℕ). (leb x k ≡ true) ↔ (x ≤ n)) e (at_most x k)
 
 -- whatever the answer is that was to be printed
-pub printed-kept : (a : Answer (List ℕ)) (o o' : List ℕ) (why : Reason) → Printed a o (HowMany'.Refused why) o' → o' ≡ o
+pub printed-kept : (a : Answer (List ℕ)) (o o' : List ℕ) (why : Reason) → Printed a o (Err why) o' → o' ≡ o
 printed-kept a o o' why p =
     p.buffer ∙ ap (λ (c : Answer (List ℕ)). afterwards c (λ b. b) o) (refused-of a length (reason_number why) p.answer)
 
@@ -175,9 +175,9 @@ refusal-changes-nothing =
     }
 
 pub printed-once :
-    (x : Answer (List ℕ)) (o : List ℕ) (a b : HowMany) (o₁ o₂ : List ℕ) →
+    (x : Answer (List ℕ)) (o : List ℕ) (a b : Result ℕ Reason) (o₁ o₂ : List ℕ) →
     Printed x o a o₁ → Printed x o b o₂ → (a ≡ b) × (o₁ ≡ o₂)
-printed-once x o a b o₁ o₂ p q = (how-many-once a b (p.answer ∙ sym q.answer), p.buffer ∙ sym q.buffer)
+printed-once x o a b o₁ o₂ p q = (said-once a b (p.answer ∙ sym q.answer), p.buffer ∙ sym q.buffer)
 
 pub unique-printing : Paper.UniquePrinting
 unique-printing =
@@ -189,10 +189,10 @@ unique-printing =
     }
 
 -- what is given at a named input: a refusal is shut out, and so is a buffer that differs from it at a place
-pub not-refused : {a : Answer (List ℕ)} {text o o' : List ℕ} {why : Reason} → a ≡ is text → Printed a o (HowMany'.Refused why) o' → ⊥
+pub not-refused : {a : Answer (List ℕ)} {text o o' : List ℕ} {why : Reason} → a ≡ is text → Printed a o (Err why) o' → ⊥
 not-refused {a} {text} {why = why} e p = given-not a text (reason_number why) e (refused-of a length (reason_number why) p.answer)
 
-pub not_so : {a : Answer (List ℕ)} {text o o' : List ℕ} {r : HowMany} (i x z : ℕ) → a ≡ is text → Printed a o r o' →
+pub not_so : {a : Answer (List ℕ)} {text o o' : List ℕ} {r : Result ℕ Reason} (i x z : ℕ) → a ≡ is text → Printed a o r o' →
     get_or o' i 0 ≡ x → get_or (placed text o) i 0 ≡ z → x < z → ⊥
 not_so {o = o} i x z e p f g l = unlike i x z (p.buffer ∙ ap (λ (c : Answer (List ℕ)). afterwards c (λ s. s) o) e) f g l
 

@@ -4,30 +4,7 @@ use Rattle.std.specs.Prelude.{ℕ, true, List, [], ◌∷◌, ◌++◌}
 use Rattle.rule.specs.Lists.{those}
 use Rattle.rule.specs.Rule.{number_of, leap_mark}
 use Rattle.rule.specs.Reasons.{Answer, is, refused, refused-with}
-use Rattle.rule.specs.declared.Reason.{Reason}
-use Rattle.rule.specs.declared.Reason.TheVariants.{
-  NoSuchYear,
-  NoSuchMonthNumber,
-  NoSuchDayOfMonth,
-  NoSuchLeapMonth,
-  NoThirtiethDay,
-  NoSuchDay,
-  NoSuchMonth,
-  MoveOutOfRange,
-  SheetEndsEarly,
-  CountTooLarge,
-  BytesAfterLast,
-  LentTooShort,
-  BadWindow,
-  FieldOutOfRange,
-  NoSuchTermOrQuarter,
-  NoSuchNumberInYear,
-  ReadingsPresent,
-  TextTooLong,
-  NoSuchPlanet,
-  NoConjunctionLeft,
-  NoSuchBu,
-}
+pub use Rattle.rule.specs.Words.{words_of}
 use Rattle.dates.specs.declared.Date.{Date}
 use Rattle.dates.specs.Dates.{date_of}
 use Rattle.facts.specs.declared.MonthFacts.{MonthFacts}
@@ -104,28 +81,3 @@ printed (refused-with k n) = refused_line k
 -- the listing of a sheet's bytes
 unfoldable pub listing : List ℕ → List ℕ
 listing s = printed (read_sheet s)
-
--- the words of the reasons: the paper's rows and those of W4, W9, W5, W11 and W3; 1, 10, 13 and 15 so worded that they are true wherever the reason
--- is given (docs/PAPER.md has the paper's own)
-abbrev pub words_of : Reason → List ℕ
-words_of NoSuchYear = word "year outside its range"
-words_of NoSuchMonthNumber = word "month number outside 1 to 12"
-words_of NoSuchDayOfMonth = word "day of month outside 1 to 30"
-words_of NoSuchLeapMonth = word "leap month asked and that year has none of that number"
-words_of NoThirtiethDay = word "day 30 of a 29-day month"
-words_of NoSuchDay = word "day count outside the range"
-words_of NoSuchMonth = word "month count outside the range"
-words_of MoveOutOfRange = word "a move ends outside the range"
-words_of SheetEndsEarly = word "sheet ends before a count or an item is whole"
-words_of CountTooLarge = word "a count above its most"
-words_of BytesAfterLast = word "bytes after the last section"
-words_of LentTooShort = word "a lent list or buffer too short for the whole answer"
-words_of BadWindow = word "last before first, or a window of more than 27,759 days"
-words_of FieldOutOfRange = word "a known field of a reading outside its range"
-words_of NoSuchTermOrQuarter = word "term, mid-term or quarter above its last"
-words_of NoSuchNumberInYear = word "no such month number in that year"
-words_of ReadingsPresent = word "going back to the old form with readings present"
-words_of TextTooLong = word "text too long"
-words_of NoSuchPlanet = word "planet outside 1 to 5"
-words_of NoConjunctionLeft = word "no conjunction falls from the given day to the end of the range"
-words_of NoSuchBu = word "bu outside 1 to 540"

@@ -1,14 +1,12 @@
 -- What the paper says of the printed lines, as statements. proofs/Paper.antt proves each under the same name in small letters.
 -- Assumes nothing.
-use Rattle.std.specs.Prelude.{ℕ, ◌+◌, ◌-◌, ◌≤◌, ◌≡◌, ◌↔◌, ◌⊎◌, true, List, [], ◌∷◌, ◌++◌, length, replicate}
+use Rattle.std.specs.Prelude.{Result, Ok, Err, ℕ, ◌+◌, ◌-◌, ◌≤◌, ◌≡◌, ◌↔◌, ◌⊎◌, true, List, [], ◌∷◌, ◌++◌, length, replicate}
 use Rattle.rule.specs.Counts.{CivilYearInRange, MonthInRange, DayInRange, day_name, year_name}
 use Rattle.rule.specs.Rule.{month_start, month_length, month_of_day, months_in_civil_year, civil_year_of_month, leap, month_number, eclipse}
 use Rattle.rule.specs.Civil.{civil_months_of}
 use Rattle.rule.specs.Reasons.{is, refused}
 use Rattle.rule.specs.declared.Reason.{Reason}
 use Rattle.rule.specs.declared.Reason.TheVariants.{NoSuchYear, NoSuchMonth, NoSuchDay, LentTooShort}
-use Rattle.sheet.specs.declared.HowMany.{HowMany}
-use Rattle.sheet.specs.declared.HowMany.TheVariants as HowMany'
 use Rattle.sheet.specs.Sheet.{Lists, read_sheet, empty_sheet, sheet_of11}
 use Rattle.sheet.specs.Promises.{RestKept}
 use Rattle.rule.specs.Lists.{placed}
@@ -114,11 +112,11 @@ TwoMonthsTwoLines = (n m : ℕ) → month_line n ≡ month_line m → n ≡ m
 
 -- each reason if and only if its row holds and no earlier one's does: what does not exist (1, 7 or 6), then "a lent list or
 -- buffer too short for the whole answer"; and no other
-pub record PrintReasons (There : Type 0) (why : Reason) (text o : List ℕ) (Call : HowMany → List ℕ → Type 0) : Type 0 where
-  pub absent : Call (HowMany'.Refused why) o ↔ (There → ⊥)
-  pub short : Call (HowMany'.Refused LentTooShort) o ↔ (There × (length text ≤ length o → ⊥))
-  pub only : (other : Reason) (o' : List ℕ) → Call (HowMany'.Refused other) o' → (other ≡ why) ⊎ (other ≡ LentTooShort)
-  pub given : Call (HowMany'.Is (length text)) (placed text o) ↔ (There × (length text ≤ length o))
+pub record PrintReasons (There : Type 0) (why : Reason) (text o : List ℕ) (Call : Result ℕ Reason → List ℕ → Type 0) : Type 0 where
+  pub absent : Call (Err why) o ↔ (There → ⊥)
+  pub short : Call (Err LentTooShort) o ↔ (There × (length text ≤ length o → ⊥))
+  pub only : (other : Reason) (o' : List ℕ) → Call (Err other) o' → (other ≡ why) ⊎ (other ≡ LentTooShort)
+  pub given : Call (Ok (length text)) (placed text o) ↔ (There × (length text ≤ length o))
 
 pub record ReasonsOfPrinting : Type 0 where
   pub year : (y : ℕ) (o : List ℕ) → PrintReasons (CivilYearInRange y) NoSuchYear (year_block y) o (PrintYear y o)
@@ -127,8 +125,8 @@ pub record ReasonsOfPrinting : Type 0 where
   pub day : (d : ℕ) (o : List ℕ) → PrintReasons (DayInRange d) NoSuchDay (day_item d) o (PrintDay d o)
 
 -- "All lent memory stays as before the call": a refused call changes nothing
-abbrev pub ChangesNothing : (ℕ → List ℕ → HowMany → List ℕ → Type 0) → Type 0
-ChangesNothing P = (x : ℕ) (o o' : List ℕ) (why : Reason) → P x o (HowMany'.Refused why) o' → o' ≡ o
+abbrev pub ChangesNothing : (ℕ → List ℕ → Result ℕ Reason → List ℕ → Type 0) → Type 0
+ChangesNothing P = (x : ℕ) (o o' : List ℕ) (why : Reason) → P x o (Err why) o' → o' ≡ o
 
 pub record RefusalChangesNothing : Type 0 where
   pub year : ChangesNothing PrintYear
@@ -137,8 +135,8 @@ pub record RefusalChangesNothing : Type 0 where
   pub day : ChangesNothing PrintDay
 
 -- places beyond the text are untouched
-abbrev pub KeepsRest : (ℕ → List ℕ → HowMany → List ℕ → Type 0) → Type 0
-KeepsRest P = (x : ℕ) (o o' : List ℕ) (n : ℕ) → P x o (HowMany'.Is n) o' → RestKept n o o'
+abbrev pub KeepsRest : (ℕ → List ℕ → Result ℕ Reason → List ℕ → Type 0) → Type 0
+KeepsRest P = (x : ℕ) (o o' : List ℕ) (n : ℕ) → P x o (Ok n) o' → RestKept n o o'
 
 pub record RestUntouched : Type 0 where
   pub year : KeepsRest PrintYear
@@ -147,8 +145,8 @@ pub record RestUntouched : Type 0 where
   pub day : KeepsRest PrintDay
 
 -- each promise leaves one answer and one state of the lent buffer
-abbrev pub Once : (ℕ → List ℕ → HowMany → List ℕ → Type 0) → Type 0
-Once P = (x : ℕ) (o : List ℕ) (a b : HowMany) (o₁ o₂ : List ℕ) → P x o a o₁ → P x o b o₂ → (a ≡ b) × (o₁ ≡ o₂)
+abbrev pub Once : (ℕ → List ℕ → Result ℕ Reason → List ℕ → Type 0) → Type 0
+Once P = (x : ℕ) (o : List ℕ) (a b : Result ℕ Reason) (o₁ o₂ : List ℕ) → P x o a o₁ → P x o b o₂ → (a ≡ b) × (o₁ ≡ o₂)
 
 pub record UniquePrinting : Type 0 where
   pub year : Once PrintYear
@@ -162,13 +160,13 @@ abbrev pub noughts : List ℕ
 noughts = replicate 300 0
 
 pub record WrongPrintings : Type 0 where
-  pub year-refused : (why : Reason) (o : List ℕ) → PrintYear 11 noughts (HowMany'.Refused why) o → ⊥
-  pub year-0-refused : (why : Reason) (o : List ℕ) → PrintYear 0 noughts (HowMany'.Refused why) o → ⊥
-  pub year-unwritten : (a : HowMany) → PrintYear 11 noughts a noughts → ⊥
-  pub header-alone : (a : HowMany) → PrintYear 11 noughts a (placed (in_lines (word "YEAR 11 NAME 27 MONTHS 13" ∷ [])) noughts) → ⊥
-  pub month-line-refused : (why : Reason) (o : List ℕ) → PrintMonthLine 134 noughts (HowMany'.Refused why) o → ⊥
-  pub month-line-unwritten : (a : HowMany) → PrintMonthLine 134 noughts a noughts → ⊥
-  pub month-refused : (why : Reason) (o : List ℕ) → PrintMonth 134 noughts (HowMany'.Refused why) o → ⊥
-  pub month-unwritten : (a : HowMany) → PrintMonth 134 noughts a noughts → ⊥
-  pub day-refused : (why : Reason) (o : List ℕ) → PrintDay 0 noughts (HowMany'.Refused why) o → ⊥
-  pub day-unwritten : (a : HowMany) → PrintDay 0 noughts a noughts → ⊥
+  pub year-refused : (why : Reason) (o : List ℕ) → PrintYear 11 noughts (Err why) o → ⊥
+  pub year-0-refused : (why : Reason) (o : List ℕ) → PrintYear 0 noughts (Err why) o → ⊥
+  pub year-unwritten : (a : Result ℕ Reason) → PrintYear 11 noughts a noughts → ⊥
+  pub header-alone : (a : Result ℕ Reason) → PrintYear 11 noughts a (placed (in_lines (word "YEAR 11 NAME 27 MONTHS 13" ∷ [])) noughts) → ⊥
+  pub month-line-refused : (why : Reason) (o : List ℕ) → PrintMonthLine 134 noughts (Err why) o → ⊥
+  pub month-line-unwritten : (a : Result ℕ Reason) → PrintMonthLine 134 noughts a noughts → ⊥
+  pub month-refused : (why : Reason) (o : List ℕ) → PrintMonth 134 noughts (Err why) o → ⊥
+  pub month-unwritten : (a : Result ℕ Reason) → PrintMonth 134 noughts a noughts → ⊥
+  pub day-refused : (why : Reason) (o : List ℕ) → PrintDay 0 noughts (Err why) o → ⊥
+  pub day-unwritten : (a : Result ℕ Reason) → PrintDay 0 noughts a noughts → ⊥

@@ -1,4 +1,5 @@
 -- What request W11 says of the five planets, proved, each statement under its name in small letters. Assumes nothing.
+use Rattle.std.specs.Prelude.{Err}
 use Prim.Native.Nat.{ℕ, zero, suc, ◌+◌, ◌*◌, ◌≤◌, ◌<◌}
 use native.Mathlib.Omega.{arith}
 use native.Mathlib.Nat.{eq-one_of_dvd-one, mod-eq-zero_of_dvd, dvd_of_mod-eq-zero}
@@ -13,7 +14,6 @@ use Rattle.rule.specs.Reasons.{Answer, is, refused, within, guard, reason_number
 use Rattle.rule.specs.declared.Reason.{Reason}
 use Rattle.rule.specs.declared.Reason.TheVariants.{NoSuchPlanet}
 use Rattle.rule.proofs.Answers.{
-  reason-back,
   within-true,
   at_most,
   holds-all,
@@ -26,8 +26,8 @@ use Rattle.rule.proofs.Answers.{
   two-second,
   test_iff,
   one-refused,
-  read_back,
-  once,
+  said-once,
+  reason-back,
   given-not,
   from-guard,
   two-only,
@@ -36,12 +36,6 @@ use Rattle.rule.proofs.Answers.{
 }
 use Rattle.planets.specs.declared.Numbers.{Numbers}
 use Rattle.planets.specs.declared.Phase.{Phase}
-use Rattle.planets.specs.declared.ConjunctionTold.{ConjunctionTold}
-use Rattle.planets.specs.declared.ConjunctionTold.TheVariants as Conjunction'
-use Rattle.planets.specs.declared.NextTold.{NextTold}
-use Rattle.planets.specs.declared.NextTold.TheVariants as Next'
-use Rattle.planets.specs.declared.PairTold.{PairTold}
-use Rattle.planets.specs.declared.PairTold.TheVariants as Pair'
 use Rattle.planets.specs.declared.Conjunction.{Conjunction}
 use Rattle.planets.specs.declared.Next.{Next}
 use Rattle.planets.specs.declared.Pair.{Pair}
@@ -60,7 +54,7 @@ use Rattle.planets.specs.Planets.{
   pair_of,
   pair_at,
 }
-use Rattle.planets.specs.Promises.{said_conjunction, said_next, said_pair, ReducedPair}
+use Rattle.planets.specs.Promises.{ReducedPair}
 use Rattle.planets.specs.Paper as Paper
 use Rattle.planets.specs.Paper.{IsConjunction, NoneLeft, IsNext, ConjunctionReasons, NextReasons, morning, mornings}
 use Rattle.planets.proofs.Moments
@@ -283,7 +277,7 @@ next-is-a-conjunction p d n e =
 pub reasons-of-planets : Paper.ReasonsOfPlanets
 reasons-of-planets = record { conjunctions = conjunctions; nexts = nexts; pair-nineteen = pair-refused }
   where
-    pair-refused : (p : ℕ) (why : Reason) → ReducedPair p (Pair'.Refused why) ↔ ((why ≡ NoSuchPlanet) × (Planet p → ⊥))
+    pair-refused : (p : ℕ) (why : Reason) → ReducedPair p (Err why) ↔ ((why ≡ NoSuchPlanet) × (Planet p → ⊥))
     pair-refused p why = (λ q. (sym (reason-back why) ∙ ap reason_of q.1, q.0), λ q. (q.1, ap reason_number q.0))
 
 pub figures-are-first : Paper.FiguresAreFirst
@@ -294,26 +288,12 @@ figures-are-first p c e =
     (Five.figures-are-first p q.0)
 
 pub unique-planets : Paper.UniquePlanets
-unfolding read_back
 unique-planets =
     record {
-      conjunction = λ p k a b x y. once said_conjunction Conjunction'.Is (λ j. Conjunction'.Refused (reason_of j)) conjunction a b (conjunction_at p k) x y;
-      next = λ p d a b x y. once said_next Next'.Is (λ j. Next'.Refused (reason_of j)) next a b (next_at p d) x y;
-      pair = λ p a b x y.
-          once said_pair Pair'.Is (λ j. Pair'.Refused (reason_of j)) pair a b (pair_at p) ((Reducing.as-printed p a).0 x) ((Reducing.as-printed p b).0 y);
+      conjunction = λ p k a b x y. said-once a b (x ∙ sym y);
+      next = λ p d a b x y. said-once a b (x ∙ sym y);
+      pair = λ p a b x y. said-once a b ((Reducing.as-printed p a).0 x ∙ sym ((Reducing.as-printed p b).0 y));
     }
-  where
-    conjunction : (e : ConjunctionTold) → read_back said_conjunction Conjunction'.Is (λ j. Conjunction'.Refused (reason_of j)) (said_conjunction e) ≡ e
-    conjunction (Conjunction'.Is r) = refl
-    conjunction (Conjunction'.Refused r) = ap Conjunction'.Refused (reason-back r)
-
-    next : (e : NextTold) → read_back said_next Next'.Is (λ j. Next'.Refused (reason_of j)) (said_next e) ≡ e
-    next (Next'.Is r) = refl
-    next (Next'.Refused r) = ap Next'.Refused (reason-back r)
-
-    pair : (e : PairTold) → read_back said_pair Pair'.Is (λ j. Pair'.Refused (reason_of j)) (said_pair e) ≡ e
-    pair (Pair'.Is r) = refl
-    pair (Pair'.Refused r) = ap Pair'.Refused (reason-back r)
 
 pub wrong-planets : Paper.WrongPlanets
 unfolding conjunction_at conjunction_of next_at next_of pair_at numbers_of conjunction_day next_count

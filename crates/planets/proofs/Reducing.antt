@@ -1,17 +1,17 @@
 -- The two long counts of each planet are 5,844 times its printed pair, and 5,844 is their common divisor. Assumes nothing.
+use Rattle.std.specs.Prelude.{Result, Ok, Err}
+use Rattle.rule.specs.declared.Reason.{Reason}
 use Prim.Native.Nat.{ℕ, ◌*◌, ◌<◌}
 use native.Mathlib.Omega.{arith}
 use native.Mathlib.Nat.{eq_of_mul-eq-mul_right}
 use mathlib.Core.Path.{◌≡◌, refl, ap, sym, subst, ◌∙◌}
 use mathlib.Core.Logic.{◌↔◌}
-use Rattle.rule.specs.Reasons.{is, refused, reason_number, within}
+use Rattle.rule.specs.Reasons.{said, is, refused, reason_number, within}
 use Rattle.rule.proofs.Answers.{within-true, same-given, holds-all, passes, one-refused}
 use Rattle.planets.specs.declared.Pair.{Pair}
-use Rattle.planets.specs.declared.PairTold.{PairTold}
-use Rattle.planets.specs.declared.PairTold.TheVariants as Pair'
 use Rattle.planets.specs.Planets.{Planet, numbers_of, planet_figures, long_days, long_circle, pair_of, pair_at}
 use Rattle.planets.specs.Divisors.{CommonDivisor, Reduced}
-use Rattle.planets.specs.Promises.{said_pair, ReducedPair}
+use Rattle.planets.specs.Promises.{ReducedPair}
 use Rattle.planets.specs.Paper.{CommonDivisorOf004, Reduction}
 use Rattle.planets.proofs.Divisors.{by_difference, one-divisor}
 use Rattle.planets.proofs.Five.{each-planet}
@@ -59,14 +59,14 @@ pub reduction : Reduction
 reduction p r = (λ q. (q.0, (reduced-to p q.0 r).0 q.1), λ q. (q.0, (reduced-to p q.0 r).1 q.1))
 
 -- so the promise is met by the printed pair, or by 19, and by nothing else
-pub as-printed : (p : ℕ) (a : PairTold) → ReducedPair p a ↔ (said_pair a ≡ pair_at p)
+pub as-printed : (p : ℕ) (a : Result Pair Reason) → ReducedPair p a ↔ (said a ≡ pair_at p)
 unfolding pair_at
-as-printed p (Pair'.Is r) = (
+as-printed p (Ok r) = (
   λ q. let e = (reduction p r).0 q in ap is e.1 ∙ sym (passes (within 1 5 p) 19 _ ((within-true 1 5 p).1 e.0)),
   λ e. let f = (holds-all (within 1 5 p) 19 (is (pair_of (numbers_of p))) r).0 (sym e) in
       (reduction p r).1 ((within-true 1 5 p).0 f.0, sym ((same-given (pair_of (numbers_of p)) r).0 f.1)),
 )
-as-printed p (Pair'.Refused why) = (
+as-printed p (Err why) = (
   λ q. ap refused q.1 ∙ sym ((one-refused (within 1 5 p) 19 (pair_of (numbers_of p)) (within-true 1 5 p)).1 q.0),
   λ e. let k = alone (within 1 5 p) 19 (reason_number why) (pair_of (numbers_of p)) (sym e) in
       ((one-refused (within 1 5 p) 19 (pair_of (numbers_of p)) (within-true 1 5 p)).0 (sym e ∙ ap refused k), k),

@@ -1,6 +1,6 @@
 -- What request W11 says of the five planets, as statements. proofs/Paper.antt proves each under the same name in small letters.
 -- Assumes nothing.
-use Rattle.std.specs.Prelude.{ℕ, zero, suc, ◌+◌, ◌*◌, ◌%◌, ◌≤◌, ◌<◌, ◌≡◌, ◌↔◌, ◌⊎◌}
+use Rattle.std.specs.Prelude.{Result, Ok, Err, ℕ, zero, suc, ◌+◌, ◌*◌, ◌%◌, ◌≤◌, ◌<◌, ◌≡◌, ◌↔◌, ◌⊎◌}
 use Rattle.rule.specs.Counts.{DayInRange}
 use Rattle.rule.specs.declared.Reason.TheVariants.{NoSuchDay, NoSuchPlanet, NoConjunctionLeft}
 use Rattle.rule.specs.declared.Reason.{Reason}
@@ -10,12 +10,6 @@ use Rattle.planets.specs.declared.Conjunction.{Conjunction}
 use Rattle.planets.specs.declared.Next.{Next}
 use Rattle.planets.specs.declared.Phase.{Phase}
 use Rattle.planets.specs.declared.Phase.TheVariants.{Morning, Evening, Neither}
-use Rattle.planets.specs.declared.ConjunctionTold.{ConjunctionTold}
-use Rattle.planets.specs.declared.ConjunctionTold.TheVariants as Conjunction'
-use Rattle.planets.specs.declared.NextTold.{NextTold}
-use Rattle.planets.specs.declared.NextTold.TheVariants as Next'
-use Rattle.planets.specs.declared.PairTold.{PairTold}
-use Rattle.planets.specs.declared.PairTold.TheVariants as Pair'
 use Rattle.planets.specs.Planets.{
   Planet,
   numbers_of,
@@ -97,10 +91,10 @@ pub record HalfAreMornings : Type 0 where
 
 -- "Refusals: a planet outside 1 to 5 is 19, then 6 for .. a k whose conjunction falls outside it, however large"
 pub record ConjunctionReasons (p k : ℕ) : Type 0 where
-  pub given : (c : Conjunction) → KthConjunction p k (Conjunction'.Is c) ↔ (Planet p × DayInRange c.day × IsConjunction p k c)
-  pub nineteen : KthConjunction p k (Conjunction'.Refused NoSuchPlanet) ↔ (Planet p → ⊥)
-  pub six : KthConjunction p k (Conjunction'.Refused NoSuchDay) ↔ (Planet p × (DayInRange (conjunction_day (numbers_of p) k) → ⊥))
-  pub only : (why : Reason) → KthConjunction p k (Conjunction'.Refused why) → (why ≡ NoSuchPlanet) ⊎ (why ≡ NoSuchDay)
+  pub given : (c : Conjunction) → KthConjunction p k (Ok c) ↔ (Planet p × DayInRange c.day × IsConjunction p k c)
+  pub nineteen : KthConjunction p k (Err NoSuchPlanet) ↔ (Planet p → ⊥)
+  pub six : KthConjunction p k (Err NoSuchDay) ↔ (Planet p × (DayInRange (conjunction_day (numbers_of p) k) → ⊥))
+  pub only : (why : Reason) → KthConjunction p k (Err why) → (why ≡ NoSuchPlanet) ⊎ (why ≡ NoSuchDay)
 
 -- what the first conjunction on or after day d holds: the least count, and the conjunction of that count, which is in range
 pub record IsNext (p d : ℕ) (n : Next) : Type 0 where
@@ -110,28 +104,28 @@ pub record IsNext (p d : ℕ) (n : Next) : Type 0 where
 
 -- no conjunction of planet p falls from day d to the end of the range: those that the other call gives fall before it
 abbrev pub NoneLeft : ℕ → ℕ → Type 0
-NoneLeft p d = (k : ℕ) (c : Conjunction) → KthConjunction p k (Conjunction'.Is c) → c.day < d
+NoneLeft p d = (k : ℕ) (c : Conjunction) → KthConjunction p k (Ok c) → c.day < d
 
 -- 19, "then 6 for a given day out of range ..; 20, last, means that no conjunction falls from the given day to the end of the range"
 pub record NextReasons (p d : ℕ) : Type 0 where
-  pub given : (n : Next) → NextConjunction p d (Next'.Is n) ↔ (Planet p × DayInRange d × IsNext p d n)
-  pub nineteen : NextConjunction p d (Next'.Refused NoSuchPlanet) ↔ (Planet p → ⊥)
-  pub six : NextConjunction p d (Next'.Refused NoSuchDay) ↔ (Planet p × (DayInRange d → ⊥))
-  pub twenty : NextConjunction p d (Next'.Refused NoConjunctionLeft) ↔ (Planet p × DayInRange d × NoneLeft p d)
+  pub given : (n : Next) → NextConjunction p d (Ok n) ↔ (Planet p × DayInRange d × IsNext p d n)
+  pub nineteen : NextConjunction p d (Err NoSuchPlanet) ↔ (Planet p → ⊥)
+  pub six : NextConjunction p d (Err NoSuchDay) ↔ (Planet p × (DayInRange d → ⊥))
+  pub twenty : NextConjunction p d (Err NoConjunctionLeft) ↔ (Planet p × DayInRange d × NoneLeft p d)
   pub only :
-      (why : Reason) → NextConjunction p d (Next'.Refused why) →
+      (why : Reason) → NextConjunction p d (Err why) →
       (why ≡ NoSuchPlanet) ⊎ ((why ≡ NoSuchDay) ⊎ (why ≡ NoConjunctionLeft))
 
 -- the one that is found is what the other call gives for its count, and it is not before the day
 abbrev pub NextIsAConjunction : Type 0
 NextIsAConjunction =
-    (p d : ℕ) (n : Next) → NextConjunction p d (Next'.Is n) →
-    KthConjunction p n.k (Conjunction'.Is n.conjunction) × (d ≤ n.conjunction.day)
+    (p d : ℕ) (n : Next) → NextConjunction p d (Ok n) →
+    KthConjunction p n.k (Ok n.conjunction) × (d ≤ n.conjunction.day)
 
 pub record ReasonsOfPlanets : Type 0 where
   pub conjunctions : (p k : ℕ) → ConjunctionReasons p k
   pub nexts : (p d : ℕ) → NextReasons p d
-  pub pair-nineteen : (p : ℕ) (why : Reason) → ReducedPair p (Pair'.Refused why) ↔ ((why ≡ NoSuchPlanet) × (Planet p → ⊥))
+  pub pair-nineteen : (p : ℕ) (why : Reason) → ReducedPair p (Err why) ↔ ((why ≡ NoSuchPlanet) × (Planet p → ⊥))
 
 -- two numbers have one common divisor
 abbrev pub OneCommonDivisor : Type 0
@@ -143,7 +137,7 @@ TakingRemainders = (a b d : ℕ) → Remainders a b d ↔ CommonDivisor a b d
 
 -- the figures of one conjunction, which the long counts are made of, are the call's k = 1
 abbrev pub FiguresAreFirst : Type 0
-FiguresAreFirst = (p : ℕ) (c : Conjunction) → KthConjunction p 1 (Conjunction'.Is c) → planet_figures p ≡ figures c.day c.parts c.divisor
+FiguresAreFirst = (p : ℕ) (c : Conjunction) → KthConjunction p 1 (Ok c) → planet_figures p ≡ figures c.day c.parts c.divisor
 
 -- 004's common divisor of the two long counts, the same for all five
 abbrev pub CommonDivisorOf004 : Type 0
@@ -152,22 +146,22 @@ CommonDivisorOf004 = (p : ℕ) → Planet p → CommonDivisor (long_days (planet
 -- "004 gets each pair by reducing two long counts against each other ..; show for all five that this yields the printed pair": the pair
 -- that the call promises, which its two long counts are reduced to, is the printed one
 abbrev pub Reduction : Type 0
-Reduction = (p : ℕ) (r : Pair) → ReducedPair p (Pair'.Is r) ↔ (Planet p × (r ≡ pair_of (numbers_of p)))
+Reduction = (p : ℕ) (r : Pair) → ReducedPair p (Ok r) ↔ (Planet p × (r ≡ pair_of (numbers_of p)))
 
 -- each promise leaves one answer
 pub record UniquePlanets : Type 0 where
-  pub conjunction : (p k : ℕ) (a b : ConjunctionTold) → KthConjunction p k a → KthConjunction p k b → a ≡ b
-  pub next : (p d : ℕ) (a b : NextTold) → NextConjunction p d a → NextConjunction p d b → a ≡ b
-  pub pair : (p : ℕ) (a b : PairTold) → ReducedPair p a → ReducedPair p b → a ≡ b
+  pub conjunction : (p k : ℕ) (a b : Result Conjunction Reason) → KthConjunction p k a → KthConjunction p k b → a ≡ b
+  pub next : (p d : ℕ) (a b : Result Next Reason) → NextConjunction p d a → NextConjunction p d b → a ≡ b
+  pub pair : (p : ℕ) (a b : Result Pair Reason) → ReducedPair p a → ReducedPair p b → a ≡ b
 
 -- wrong versions, each shut out at some input: refusing all; one fixed answer; a common divisor that is always 1, and one that is the
 -- first number
 pub record WrongPlanets : Type 0 where
-  pub conjunction-refused : (why : Reason) → KthConjunction 1 0 (Conjunction'.Refused why) → ⊥
-  pub next-refused : (why : Reason) → NextConjunction 1 0 (Next'.Refused why) → ⊥
-  pub pair-refused : (why : Reason) → ReducedPair 1 (Pair'.Refused why) → ⊥
-  pub conjunction-fixed : (c : ConjunctionTold) → KthConjunction 1 0 c → KthConjunction 1 1 c → ⊥
-  pub next-fixed : (n : NextTold) → NextConjunction 1 0 n → NextConjunction 1 1 n → ⊥
-  pub pair-fixed : (r : PairTold) → ReducedPair 1 r → ReducedPair 2 r → ⊥
+  pub conjunction-refused : (why : Reason) → KthConjunction 1 0 (Err why) → ⊥
+  pub next-refused : (why : Reason) → NextConjunction 1 0 (Err why) → ⊥
+  pub pair-refused : (why : Reason) → ReducedPair 1 (Err why) → ⊥
+  pub conjunction-fixed : (c : Result Conjunction Reason) → KthConjunction 1 0 c → KthConjunction 1 1 c → ⊥
+  pub next-fixed : (n : Result Next Reason) → NextConjunction 1 0 n → NextConjunction 1 1 n → ⊥
+  pub pair-fixed : (r : Result Pair Reason) → ReducedPair 1 r → ReducedPair 2 r → ⊥
   pub divisor-one : CommonDivisor 12 18 1 → ⊥
   pub divisor-first : CommonDivisor 12 18 12 → ⊥

@@ -1,17 +1,30 @@
 // The five planets: the k-th conjunction of a planet since the origin, the first one on or after a day, and the pair of numbers that
 // 004 gets by reducing two long counts against each other. One definition, and the planets' numbers are data.
+// A range is asked for in one word of a `requires` and by no type: rule's functions take plain numbers
+// (docs/DECISIONS.md, 263).
 #![tactic(auto)]
 
 ghost use Rattle.std.specs.Prelude.{◌≡◌, ◌≤◌, ◌<◌};
 ghost use Rattle.rule.specs.Counts.{DayInRange};
 ghost use Rattle.planets.specs.Planets.{numbers_of, planet_figures, conjunction_day, phase, conjunction_of, next_count, long_days, long_circle};
 ghost use Rattle.planets.specs.Divisors.{CommonDivisor, Reduced};
+ghost use Rattle.planets.specs.Five.{planet_number, IsPlanetOf};
 ghost use Rattle.planets.specs.Promises.{KthConjunction, NextConjunction, ReducedPair};
 
 use rule::Reason;
 
+// The planets, which are numbered 1 to 5 in this order.
+#[derive(Debug, Clone, Copy, PartialEq, Eq)]
+enum Planet {
+    Jupiter,
+    Mars,
+    Saturn,
+    Venus,
+    Mercury,
+}
+
 // A planet's numbers: so many conjunctions in so many years, and whether they are evening and morning ones by turns.
-#[derive(Clone, Copy)]
+#[derive(Debug, Clone, Copy, PartialEq, Eq)]
 pub struct Numbers {
     pub conjunctions: u16,
     pub years: u16,
@@ -19,7 +32,7 @@ pub struct Numbers {
 }
 
 // One conjunction's days, as 004 works them out: so many days, and parts of a divisor.
-#[derive(Clone, Copy)]
+#[derive(Debug, Clone, Copy, PartialEq, Eq)]
 struct PlanetFigures {
     pub days: u16,
     pub parts: u16,
@@ -27,7 +40,7 @@ struct PlanetFigures {
 }
 
 // Whether a conjunction is a morning or an evening one; of three planets it is neither.
-#[derive(Clone, Copy)]
+#[derive(Debug, Clone, Copy, PartialEq, Eq)]
 pub enum Phase {
     Morning,
     Evening,
@@ -35,7 +48,7 @@ pub enum Phase {
 }
 
 // A conjunction: its day, its remainder in parts, of how many they are, morning or evening.
-#[derive(Clone, Copy)]
+#[derive(Debug, Clone, Copy, PartialEq, Eq)]
 pub struct Conjunction {
     pub day: u32,
     pub parts: u32,
@@ -44,186 +57,168 @@ pub struct Conjunction {
 }
 
 // The first conjunction on or after a day, with its count.
-#[derive(Clone, Copy)]
+#[derive(Debug, Clone, Copy, PartialEq, Eq)]
 pub struct Next {
     pub k: u32,
     pub conjunction: Conjunction,
 }
 
 // 004's pair: so many years, and the conjunctions in them.
-#[derive(Clone, Copy)]
+#[derive(Debug, Clone, Copy, PartialEq, Eq)]
 pub struct Pair {
     pub years: u64,
     pub conjunctions: u64,
 }
 
-#[derive(Clone, Copy)]
-pub enum ConjunctionTold {
-    Is(Conjunction),
-    Refused(Reason),
-}
+impl TryFrom<u32> for Planet {
+    type Error = Reason;
 
-#[derive(Clone, Copy)]
-pub enum NextTold {
-    Is(Next),
-    Refused(Reason),
-}
+    ghost try_from_gives = { IsPlanetOf };
 
-#[derive(Clone, Copy)]
-pub enum PairTold {
-    Is(Pair),
-    Refused(Reason),
-}
-
-// The numbers of a planet, 1 to 5.
-fn numbers_of(planet: u32) -> Numbers
-    requires { (1 ≤ planet) × (planet ≤ 5) }
-    ensures { result ≡ numbers_of planet }
-{
-    match planet {
-        1 => Numbers {
-            conjunctions: 4327,
-            years: 4725,
-            by_turns: false,
-        },
-        2 => Numbers {
-            conjunctions: 879,
-            years: 1876,
-            by_turns: false,
-        },
-        3 => Numbers {
-            conjunctions: 9096,
-            years: 9415,
-            by_turns: false,
-        },
-        4 => Numbers {
-            conjunctions: 5830,
-            years: 4661,
-            by_turns: true,
-        },
-        _ => Numbers {
-            conjunctions: 11908,
-            years: 1889,
-            by_turns: true,
-        },
+    fn try_from(number: u32) -> Result<Planet, Reason> {
+        match number {
+            1 => Ok(Planet::Jupiter),
+            2 => Ok(Planet::Mars),
+            3 => Ok(Planet::Saturn),
+            4 => Ok(Planet::Venus),
+            5 => Ok(Planet::Mercury),
+            _ => Err(Reason::NoSuchPlanet),
+        }
     }
 }
 
-// The figures of one conjunction of a planet, 1 to 5.
-fn planet_figures(planet: u32) -> PlanetFigures
-    requires { (1 ≤ planet) × (planet ≤ 5) }
-    ensures { result ≡ planet_figures planet }
-{
-    match planet {
-        1 => PlanetFigures {
-            days: 398,
-            parts: 14641,
-            divisor: 17308,
-        },
-        2 => PlanetFigures {
-            days: 779,
-            parts: 1872,
-            divisor: 3516,
-        },
-        3 => PlanetFigures {
-            days: 378,
-            parts: 2163,
-            divisor: 36384,
-        },
-        4 => PlanetFigures {
-            days: 292,
-            parts: 281,
-            divisor: 23320,
-        },
-        _ => PlanetFigures {
-            days: 57,
-            parts: 44805,
-            divisor: 47632,
-        },
+impl Planet {
+    // Its numbers.
+    fn numbers(self) -> Numbers
+        ensures { result ≡ numbers_of (planet_number self) }
+    {
+        let (conjunctions, years, by_turns) = match self {
+            Planet::Jupiter => (4327, 4725, false),
+            Planet::Mars => (879, 1876, false),
+            Planet::Saturn => (9096, 9415, false),
+            Planet::Venus => (5830, 4661, true),
+            Planet::Mercury => (11908, 1889, true),
+        };
+        Numbers {
+            conjunctions,
+            years,
+            by_turns,
+        }
+    }
+
+    // The figures of one of its conjunctions.
+    fn figures(self) -> PlanetFigures
+        ensures { result ≡ planet_figures (planet_number self) }
+    {
+        let (days, parts, divisor) = match self {
+            Planet::Jupiter => (398, 14641, 17308),
+            Planet::Mars => (779, 1872, 3516),
+            Planet::Saturn => (378, 2163, 36384),
+            Planet::Venus => (292, 281, 23320),
+            Planet::Mercury => (57, 44805, 47632),
+        };
+        PlanetFigures {
+            days,
+            parts,
+            divisor,
+        }
     }
 }
 
-// The day of a conjunction, which may be beyond the range.
-fn conjunction_day(n: Numbers, k: u64) -> u64
-    requires { (0 < n.conjunctions) × (k ≤ 14989859) }
-    ensures { result ≡ conjunction_day n k }
-{
-    k * n.years as u64 * 1461 / (4 * n.conjunctions as u64)
+impl Numbers {
+    // The day of a conjunction, which may be beyond the range.
+    fn conjunction_day(self, k: u64) -> u64
+        requires { (0 < self.conjunctions) × (k ≤ 14989859) }
+        ensures { result ≡ conjunction_day self k }
+    {
+        k * self.years as u64 * 1461 / (4 * self.conjunctions as u64)
+    }
+
+    // Morning or evening.
+    fn phase(self, k: u64) -> Phase
+        ensures { result ≡ phase self k }
+    {
+        if !self.by_turns {
+            Phase::Neither
+        } else if k % 2 == 1 {
+            Phase::Morning
+        } else {
+            Phase::Evening
+        }
+    }
+
+    // A conjunction whose day is in range.
+    fn conjunction(self, k: u64) -> Conjunction
+        requires { (0 < self.conjunctions) × (k ≤ 14989859) × DayInRange (conjunction_day self k) }
+        ensures { result ≡ conjunction_of self k }
+    {
+        let divisor = 4 * self.conjunctions as u64;
+        Conjunction {
+            day: self.conjunction_day(k) as u32,
+            parts: (k * self.years as u64 * 1461 % divisor) as u32,
+            divisor: divisor as u32,
+            phase: self.phase(k),
+        }
+    }
+
+    // The least count whose conjunction is not before a day.
+    fn next_count(self, day: u32) -> u64
+        requires { (0 < self.years) × DayInRange day }
+        ensures { result ≡ next_count self day }
+    {
+        let step = 1461 * self.years as u64;
+        (day as u64 * (4 * self.conjunctions as u64) + (step - 1)) / step
+    }
 }
 
-// Morning or evening.
-fn phase_of(n: Numbers, k: u64) -> Phase
-    ensures { result ≡ phase n k }
-{
-    if !n.by_turns {
-        return Phase::Neither;
+impl PlanetFigures {
+    // One of the two long counts, four times one conjunction's parts.
+    fn long_days(self) -> u64
+        ensures { result ≡ long_days self }
+    {
+        4 * (self.days as u64 * self.divisor as u64 + self.parts as u64)
     }
-    if k % 2 == 1 {
-        Phase::Morning
-    } else {
-        Phase::Evening
-    }
-}
 
-// A conjunction whose day is in range.
-fn conjunction_of(n: Numbers, k: u64) -> Conjunction
-    requires { (0 < n.conjunctions) × (k ≤ 14989859) × DayInRange (conjunction_day n k) }
-    ensures { result ≡ conjunction_of n k }
-{
-    let divisor = 4 * n.conjunctions as u64;
-    Conjunction {
-        day: conjunction_day(n, k) as u32,
-        parts: (k * n.years as u64 * 1461 % divisor) as u32,
-        divisor: divisor as u32,
-        phase: phase_of(n, k),
+    // The other, 1,461 times the divisor.
+    fn long_circle(self) -> u64
+        ensures { result ≡ long_circle self }
+    {
+        1461 * self.divisor as u64
     }
 }
 
 // The k-th conjunction of a planet: reason 19, then 6. A conjunction's day is never before its count, so that a count beyond the days
 // needs no product.
-pub fn kth_conjunction(planet: u32, k: u64) -> ConjunctionTold
+// (A planet is asked for by a number of any size: `KthConjunction`, `NextConjunction` and `ReducedPair` refuse the
+// others with 19.)
+pub fn kth_conjunction(planet: u32, k: u64) -> Result<Conjunction, Reason>
     ensures { KthConjunction planet k result }
 {
-    if !rule::in_range(1, 5, planet) {
-        return ConjunctionTold::Refused(Reason::NoSuchPlanet);
-    }
+    let numbers = Planet::try_from(planet)?.numbers();
     if 14989859 < k {
-        return ConjunctionTold::Refused(Reason::NoSuchDay);
+        return Err(Reason::NoSuchDay);
     }
-    let n = numbers_of(planet);
-    if 14989859 < conjunction_day(n, k) {
-        return ConjunctionTold::Refused(Reason::NoSuchDay);
+    if 14989859 < numbers.conjunction_day(k) {
+        return Err(Reason::NoSuchDay);
     }
-    ConjunctionTold::Is(conjunction_of(n, k))
-}
-
-// The least count whose conjunction is not before a day.
-fn next_count(n: Numbers, day: u32) -> u64
-    requires { (0 < n.years) × DayInRange day }
-    ensures { result ≡ next_count n day }
-{
-    let step = 1461 * n.years as u64;
-    (day as u64 * (4 * n.conjunctions as u64) + (step - 1)) / step
+    Ok(numbers.conjunction(k))
 }
 
 // The first conjunction of a planet on or after a day: reason 19, then 6, then 20.
-pub fn next_conjunction(planet: u32, day: u32) -> NextTold
+pub fn next_conjunction(planet: u32, day: u32) -> Result<Next, Reason>
     ensures { NextConjunction planet day result }
 {
-    if !rule::in_range(1, 5, planet) {
-        return NextTold::Refused(Reason::NoSuchPlanet);
-    }
+    let numbers = Planet::try_from(planet)?.numbers();
     if 14989859 < day {
-        return NextTold::Refused(Reason::NoSuchDay);
+        return Err(Reason::NoSuchDay);
     }
-    let n = numbers_of(planet);
-    let k = next_count(n, day);
-    if 14989859 < conjunction_day(n, k) {
-        return NextTold::Refused(Reason::NoConjunctionLeft);
+    let k = numbers.next_count(day);
+    if 14989859 < numbers.conjunction_day(k) {
+        return Err(Reason::NoConjunctionLeft);
     }
-    NextTold::Is(Next {
+    Ok(Next {
         k: k as u32,
-        conjunction: conjunction_of(n, k),
+        conjunction: numbers.conjunction(k),
     })
 }
 
@@ -235,20 +230,6 @@ pub fn common_divisor(a: u64, b: u64) -> u64
         return a;
     }
     common_divisor(b, a % b)
-}
-
-// One of the two long counts, four times one conjunction's parts.
-fn long_days(f: PlanetFigures) -> u64
-    ensures { result ≡ long_days f }
-{
-    4 * (f.days as u64 * f.divisor as u64 + f.parts as u64)
-}
-
-// The other, 1,461 times the divisor.
-fn long_circle(f: PlanetFigures) -> u64
-    ensures { result ≡ long_circle f }
-{
-    1461 * f.divisor as u64
 }
 
 // Two long counts reduced against each other; the second is not 0.
@@ -264,12 +245,9 @@ fn reduced(a: u64, b: u64) -> Pair
 }
 
 // The pair of a planet, by reducing its two long counts: reason 19.
-pub fn reduced_pair(planet: u32) -> PairTold
+pub fn reduced_pair(planet: u32) -> Result<Pair, Reason>
     ensures { ReducedPair planet result }
 {
-    if !rule::in_range(1, 5, planet) {
-        return PairTold::Refused(Reason::NoSuchPlanet);
-    }
-    let f = planet_figures(planet);
-    PairTold::Is(reduced(long_days(f), long_circle(f)))
+    let figures = Planet::try_from(planet)?.figures();
+    Ok(reduced(figures.long_days(), figures.long_circle()))
 }

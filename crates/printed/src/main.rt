@@ -1,5 +1,5 @@
-// The printed list of a bu, which the desk reads against old print: 940 lines `place day name`. What it must write is made by
-// tools/expected.py.
+// The printed list of a bu, which the desk reads against old print: 940 lines `place day name`. What it must write is
+// made by tools/expected.py.
 #![tactic(auto)]
 
 ghost use Rattle.std.specs.Prelude.{◌<◌};
@@ -13,18 +13,13 @@ fn line<W: Write>(out: &mut Output<W>, k: u16)
     requires { k < 940 }
 {
     let day = rule::printed_day(k) as u32;
-    out.put_decimal(k as u64);
-    show::next(out, day as u64);
-    show::next(out, rule::day_name(day) as u64);
-    show::text(out, b"\n");
+    writeln!(out, "{k} {day} {}", rule::day_name(day));
 }
 
 fn main(rt: HostRuntime) -> io::Result<()> {
     let mut out = Output::new(rt.stdout());
-    let mut k: u16 = 0;
-    while k < 940 {
+    for k in 0..940 {
         line(&mut out, k);
-        k += 1;
     }
     out.end()
 }

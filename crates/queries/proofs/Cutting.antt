@@ -1,4 +1,6 @@
 -- Every answer is the same of numbers and of numbers cut down. Assumes nothing.
+use Rattle.std.specs.Prelude.{Option, Some, None}
+use Rattle.emending.specs.declared.Emended.TheVariants.{Are}
 use Prim.Native.Nat.{ℕ, zero, suc, ◌-◌, ◌*◌, ◌≤◌, ◌<◌}
 use native.Mathlib.Omega.{arith}
 use mathlib.Core.Path.{◌≡◌, refl, ap, ap₂, sym, ◌∙◌}
@@ -16,7 +18,7 @@ use Rattle.reading.specs.declared.Reading.{Reading}
 use Rattle.reading.specs.Readings.{window_days, fitting}
 use Rattle.reading.specs.Search.{total, where_good, search_at}
 use Rattle.emending.specs.Faults.{emendations}
-use Rattle.emending.specs.Emended.{emended, emend_total, where_none_fits, emend_at}
+use Rattle.emending.specs.Emended.{emend_total, where_none_fits, emend_at}
 use Rattle.fields.specs.Fields.{word, each}
 use Rattle.told.specs.Answers.{
   told,
@@ -57,8 +59,6 @@ use Rattle.yearbook.specs.Promise.{figures_at}
 use Rattle.capped.specs.Capped.{capped, capped_move, capped_field, capped_reading}
 use Rattle.capped.specs.Paper.{Settled, AlikeSearch, whole, both}
 use Rattle.capped.proofs.Paper.{at_most, capped-alike, capped-search, given-whole}
-use Rattle.forms.specs.declared.Mark.{Mark}
-use Rattle.forms.specs.declared.Mark.TheVariants.{Seen, Unseen}
 use Rattle.forms.specs.Forms.{fields_in, field_at, same, first_like, back, is_minus, move_of, slip_field_of, move_in, slip_field_in}
 use Rattle.fields.specs.Paper.{value_from}
 use Rattle.forms.proofs.Saying.{itself}
@@ -146,7 +146,7 @@ emend-capped =
     behind-capped (λ r first last. outcome_text (emendations r first (window_days first last))) (
     λ r first last.
     let n = emend_total r first last in
-    where_none_fits (total r first last) (guard-with (leb (4 * n) places) 12 n (is (emended n)))
+    where_none_fits (total r first last) (guard-with (leb (4 * n) places) 12 n (is (Are n)))
     )
 
 clerk-capped : (b k : ℕ) → clerk_text (capped b) (capped k) ≡ clerk_text b k
@@ -188,10 +188,10 @@ field_in fs k = go (same (word "?") (field_at fs k)) (value_from 0 (field_at fs 
     go true v = refl
     go false v = refl
 
-mark-kept : (m : Mark) → capped_field (mark_field m) ≡ mark_field m
-mark-kept (Seen true) = refl
-mark-kept (Seen false) = refl
-mark-kept Unseen = refl
+mark-kept : (m : Option Bool) → capped_field (mark_field m) ≡ mark_field m
+mark-kept (Some true) = refl
+mark-kept (Some false) = refl
+mark-kept None = refl
 
 slip-in : (fs : List (List ℕ)) → reading_of (slip_in capped fs) ≡ capped_reading (reading_of (slip_in itself fs))
 slip-in fs = rw (field_in fs 1, field_in fs 2, field_in fs 4, field_in fs 5, field_in fs 6, mark-kept (slip_in itself fs).leap_mark) refl
@@ -260,10 +260,12 @@ up_to x y n k h = rw (le-leb n k h) refl
 beyond : (x y : List ℕ) (n k : ℕ) → k < n → y ≡ cond (leb n k) x y
 beyond x y n k h = rw (lt-leb n k h) refl
 
-pub short-enough : (s : List ℕ) → length s ≤ 200 → answered s (read_by capped s) ≡ answer_to s
+pub short_enough : (s : List ℕ) → length s ≤ 200 → answer_to s ≡ answered s (read_by capped s)
 unfolding answer_to
-short-enough s h = same_answer s ∙ up_to (answered s (read s)) unreadable (length s) _ (omega (arith, h))
+short_enough s h = sym (same_answer s ∙ up_to (answered s (read s)) unreadable (length s) _ (omega (arith, h)))
 
-pub too_long : (s : List ℕ) → 200 < length s → unreadable ≡ answer_to s
+pub too_long : (s : List ℕ) → 200 < length s → answer_to s ≡ unreadable
 unfolding answer_to
-too_long s h = beyond (answered s (read s)) unreadable (length s) _ (omega (arith, h))
+too_long s h = sym (beyond (answered s (read s)) unreadable (length s) _ (omega (arith, h)))
+
+pub ruleset by_length = (short_enough, too_long)

@@ -1,4 +1,5 @@
 -- The statements of specs/Paper, proved, each under its own name. Assumes nothing.
+use Rattle.std.specs.Prelude.{Bool, Option, Some, None}
 use Prim.Native.Nat.{◌≤◌}
 use native.Mathlib.Omega.{arith}
 use native.Mathlib.Decide.{dec_le}
@@ -12,8 +13,6 @@ use borrow.Author.Tests.{le-leb}
 use Rattle.reading.specs.declared.Field.{Field}
 use Rattle.reading.specs.declared.Field.TheVariants.{Known, Unread}
 use Rattle.fields.specs.Fields.{followed}
-use Rattle.forms.specs.declared.Mark.{Mark}
-use Rattle.forms.specs.declared.Mark.TheVariants.{Seen, Unseen}
 use Rattle.forms.specs.Texts.{texts_of, line}
 use Rattle.asked.specs.declared.Slip.{Slip}
 use Rattle.asked.specs.declared.Query.{Query}
@@ -28,7 +27,7 @@ unfolding answer_to
 written-is-answered q h = rw (le-leb (length (written q)) 200 h) (ap (answered (written q)) (written-is-read q))
 
 -- a slip of six fields
-abbrev slip : Field → Field → Mark → Field → Field → Field → Slip
+abbrev slip : Field → Field → Option Bool → Field → Field → Field → Slip
 slip a b l c d e =
     record {
       year_name = a;
@@ -56,12 +55,12 @@ each-query-literally =
       leap-date = λ y k m. written-is-answered (Query.Date y k true m);
       move = λ y k m n. written-is-answered (Query.Move y k false m (pos n));
       move-back = λ y k m n. written-is-answered (Query.Move y k true m (negsuc n));
-      search = λ a b c d e first last. written-is-answered (Query.Search (slip (Known a) (Known b) (Seen true) (Known c) (Known d) (Known e)) first last);
-      ordinary-search = λ a first last. written-is-answered (Query.Search (slip (Known a) Unread (Seen false) Unread Unread Unread) first last);
-      unread-search = λ first last. written-is-answered (Query.Search (slip Unread Unread Unseen Unread Unread Unread) first last);
-      emend = λ a b c d e first last. written-is-answered (Query.Emend (slip (Known a) (Known b) (Seen true) (Known c) (Known d) (Known e)) first last);
-      ordinary-emend = λ a first last. written-is-answered (Query.Emend (slip (Known a) Unread (Seen false) Unread Unread Unread) first last);
-      unread-emend = λ first last. written-is-answered (Query.Emend (slip Unread Unread Unseen Unread Unread Unread) first last);
+      search = λ a b c d e first last. written-is-answered (Query.Search (slip (Known a) (Known b) (Some true) (Known c) (Known d) (Known e)) first last);
+      ordinary-search = λ a first last. written-is-answered (Query.Search (slip (Known a) Unread (Some false) Unread Unread Unread) first last);
+      unread-search = λ first last. written-is-answered (Query.Search (slip Unread Unread None Unread Unread Unread) first last);
+      emend = λ a b c d e first last. written-is-answered (Query.Emend (slip (Known a) (Known b) (Some true) (Known c) (Known d) (Known e)) first last);
+      ordinary-emend = λ a first last. written-is-answered (Query.Emend (slip (Known a) Unread (Some false) Unread Unread Unread) first last);
+      unread-emend = λ first last. written-is-answered (Query.Emend (slip Unread Unread None Unread Unread Unread) first last);
       clerk = λ b k. written-is-answered (Query.Clerk b k);
       figures = λ first last. written-is-answered (Query.Figures first last);
     }
@@ -71,7 +70,7 @@ unfolding answer_to
 note-as-it-stands t h = rw (le-leb (length (35 ∷ t)) 200 h) (ap (answered (35 ∷ t)) (note-is-read t))
 
 pub too_long : TooLong
-too_long s h = sym (cutting.too_long s h)
+too_long s h = cutting.too_long s h
 
 pub else-unreadable : ElseUnreadable
 unfolding answer_to

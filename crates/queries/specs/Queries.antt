@@ -1,12 +1,10 @@
 -- The answer to each query and to each line. All are lists of bytes. Assumes nothing.
-use Rattle.std.specs.Prelude.{ℕ, cond, List, [], ◌∷◌, ◌++◌, leb, length}
+use Rattle.std.specs.Prelude.{Option, Some, None, ℕ, Bool, cond, List, [], ◌∷◌, ◌++◌, leb, length}
 use Rattle.reading.specs.declared.Field.{Field}
 use Rattle.reading.specs.declared.Field.TheVariants.{Known, Unread}
 use Rattle.reading.specs.declared.Reading.{Reading}
 use Rattle.reading.specs.Readings.{mark_number}
 use Rattle.fields.specs.Fields.{word, lined}
-use Rattle.forms.specs.declared.Mark.{Mark}
-use Rattle.forms.specs.declared.Mark.TheVariants.{Seen, Unseen}
 use Rattle.asked.specs.declared.Slip.{Slip}
 use Rattle.asked.specs.declared.Query.{Query}
 use Rattle.asked.specs.Paper.{read}
@@ -33,9 +31,9 @@ unfoldable pub unreadable : List ℕ
 unreadable = lined (word "UNREADABLE" ∷ [])
 
 -- a mark as a field of a reading: 1 for ordinary and 2 for leap
-abbrev pub mark_field : Mark → Field
-mark_field (Seen l) = Known (mark_number l)
-mark_field Unseen = Unread
+abbrev pub mark_field : Option Bool → Field
+mark_field (Some l) = Known (mark_number l)
+mark_field None = Unread
 
 abbrev pub reading_of : Slip → Reading
 reading_of s =

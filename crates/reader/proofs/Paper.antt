@@ -1,4 +1,5 @@
 -- The statements of specs/Paper, proved, each under its own name. Assumes nothing.
+use Rattle.std.specs.Prelude.{Ok, Err, Some, None}
 use Prim.Native.Nat.{ℕ, zero, suc, ◌+◌, ◌-◌, ◌%◌, ◌≤◌, ◌<◌}
 use native.Mathlib.Omega.{arith}
 use native.Mathlib.Numerals.{add-one}
@@ -9,15 +10,17 @@ use lib.ListN.{length}
 use denote.Ref.{Bor}
 use Rattle.rule.specs.declared.Reason.{Reason}
 use Rattle.rule.specs.declared.Reason.TheVariants.{TextTooLong}
-use Rattle.sheet.specs.declared.HowMany.TheVariants as HowMany'
 use Rattle.concordance.specs.declared.Verdict.TheVariants.{Right, Wrong, Unreadable}
-use Rattle.concordance.specs.declared.LineTold.{LineTold}
-use Rattle.concordance.specs.declared.LineTold.TheVariants as LineTold'
+use Rattle.concordance.specs.declared.Verdict.{Verdict}
+use Rattle.concordance.specs.declared.LineField.TheVariants.{MonthCount, Number, LeapMark, FirstName, Length, EclipseMark}
 use Rattle.concordance.specs.declared.Step.{Step}
 use Rattle.concordance.specs.Text.{lines_of, line_length, place_of, advance}
-use Rattle.concordance.specs.Verdicts.{verdict_of, number_on, line_at, step_of}
+use Rattle.concordance.specs.Verdicts.{LineTold, field_counted, verdict_number, verdict_of, number_on, line_at, step_of}
+use Rattle.rule.proofs.Answers.{one-to-one}
+use mathlib.Core.Bool.{cond}
+use lib.Dec.{eqb}
 use Rattle.concordance.specs.Promises.{JudgeText}
-use Rattle.concordance.proofs.Saying.{wrong-in-six as six-fields}
+use Rattle.concordance.proofs.Saying.{in-six}
 use Rattle.concordance.proofs.Cases.{judging}
 use Rattle.concordance.proofs.Filling.{told}
 use Rattle.concordance.proofs.Places.{more_yes, more_no, lines-le, line-is}
@@ -52,39 +55,41 @@ reader-refuses =
     }
   where
     other :
-        (a b : Reader) (v : LineTold) (why : Reason) → NextLine a b v → length a.text.now ≤ 65536 → v ≡ LineTold'.Refused why →
+        (a b : Reader) (v : LineTold) (why : Reason) → NextLine a b v → length a.text.now ≤ 65536 → v ≡ Err why →
         Dec (length a.text.now ≤ a.place) → ⊥
     other a b v why h l i (yes k) =
-        let e : LineTold'.Refused why ≡ LineTold'.Ended = sym i ∙ says-that h _ (step-none a.text.now a.place a.line l k) in
+        let e : Err why ≡ Ok None = sym i ∙ says-that h _ (step-none a.text.now a.place a.line l k) in
         let o : ◌≡◌ {A = ℕ} 0 1 = cc in omega arith
     other a b v why h l i (no k) =
-        let e : LineTold'.Refused why ≡ LineTold'.Line (verdict_of (line_at a.text.now a.place)) =
+        let e : Err why ≡ Ok (Some (verdict_of (line_at a.text.now a.place))) =
         sym i ∙ says-that h _ (step_line a.text.now a.place a.line (told a.text.now a.place) _ l (omega (arith, k)) refl refl) in
         let o : ◌≡◌ {A = ℕ} 0 1 = cc in omega arith
 
-    the_one : (a b : Reader) (why : Reason) → NextLine a b (LineTold'.Refused why) → Dec (length a.text.now ≤ 65536) → why ≡ TextTooLong
-    the_one a b why h (yes l) = absurd (other a b (LineTold'.Refused why) why h l refl (dec_le (length a.text.now) a.place))
+    the_one : (a b : Reader) (why : Reason) → NextLine a b (Err why) → Dec (length a.text.now ≤ 65536) → why ≡ TextTooLong
+    the_one a b why h (yes l) = absurd (other a b (Err why) why h l refl (dec_le (length a.text.now) a.place))
     the_one a b why h (no l) =
-        let e : LineTold'.Refused why ≡ LineTold'.Refused TextTooLong = says-that h _ (step-long a.text.now a.place a.line (omega (arith, l))) in
+        let e : Err why ≡ Err TextTooLong = says-that h _ (step-long a.text.now a.place a.line (omega (arith, l))) in
         let w : why ≡ TextTooLong = cc in w
 
--- the verdict of a step is that on a line
 pub wrong-in-six : Paper.WrongInSix
-wrong-in-six a b k h = go (dec_le (length a.text.now) 65536) (dec_le (length a.text.now) a.place)
+wrong-in-six a b field h = in-six field
+
+-- the verdict of a number
+abbrev verdict_of_number : ℕ → Verdict
+verdict_of_number k = cond (eqb k 0) Right (cond (eqb k 7) Unreadable (Wrong (field_counted k)))
+
+pub one-verdict-a-number : Paper.OneVerdictANumber
+one-verdict-a-number = one-to-one verdict_number verdict_of_number back
   where
-    go : Dec (length a.text.now ≤ 65536) → Dec (length a.text.now ≤ a.place) → (1 ≤ k) × (k ≤ 6)
-    go (no l) d =
-        let e : LineTold'.Line (Wrong k) ≡ LineTold'.Refused TextTooLong = says-that h _ (step-long a.text.now a.place a.line (omega (arith, l))) in
-        absurd (let o : ◌≡◌ {A = ℕ} 0 1 = cc in omega arith)
-    go (yes l) (yes m) =
-        let e : LineTold'.Line (Wrong k) ≡ LineTold'.Ended = says-that h _ (step-none a.text.now a.place a.line l m) in
-        absurd (let o : ◌≡◌ {A = ℕ} 0 1 = cc in omega arith)
-    go (yes l) (no m) =
-        let line = line_at a.text.now a.place in
-        let e : LineTold'.Line (Wrong k) ≡ LineTold'.Line (verdict_of line) =
-        says-that h _ (step_line a.text.now a.place a.line (told a.text.now a.place) _ l (omega (arith, m)) refl refl) in
-        let w : verdict_of line ≡ Wrong k = cc in
-        six-fields line k w
+    back : (v : Verdict) → verdict_of_number (verdict_number v) ≡ v
+    back Right = refl
+    back Unreadable = refl
+    back (Wrong MonthCount) = refl
+    back (Wrong Number) = refl
+    back (Wrong LeapMark) = refl
+    back (Wrong FirstName) = refl
+    back (Wrong Length) = refl
+    back (Wrong EclipseMark) = refl
 
 -- a step of a started reader on line i
 pub any-before-end : (s : List ℕ) (i : ℕ) → i < length (lines_of s) → place_of s i < length s
@@ -96,7 +101,7 @@ any-before-end s i l = go (dec_le (length s) (place_of s i))
 
 pub on-any-line : (t : Bor (List ℕ)) → length t.now ≤ 65536 → (i : ℕ) → i < length (lines_of t.now) → (b : Reader) (v : LineTold) →
     NextLine (record { text = t; place = place_of t.now i; line = i }) b v →
-    (v ≡ LineTold'.Line (verdict_of (line_at t.now (place_of t.now i)))) × (b ≡ record { text = t; place = place_of t.now (i + 1); line = i + 1 })
+    (v ≡ Ok (Some (verdict_of (line_at t.now (place_of t.now i))))) × (b ≡ record { text = t; place = place_of t.now (i + 1); line = i + 1 })
 unfolding place_of
 on-any-line t short i l b v w =
     let s = t.now in
@@ -104,7 +109,7 @@ on-any-line t short i l b v w =
     let e = step_line s (place_of s i) i (told s (place_of s i)) (i + 1) short (any-before-end s i l) refl fits in
     (says-that w _ e, leads w _ e ∙ ap (λ (p : ℕ). record { text = t; place = p; line = i + 1 }) (ap (place_of s) {x = suc i} {y = i + 1} (sym (add-one i))))
 
-module _ (t : Bor (List ℕ)) (reader : ℕ → Reader) (says : ℕ → LineTold) (h : Steps t reader says) (o out : List ℕ) (n : ℕ) (g : JudgeText t.now o (HowMany'.Is n) out) where
+module _ (t : Bor (List ℕ)) (reader : ℕ → Reader) (says : ℕ → LineTold) (h : Steps t reader says) (o out : List ℕ) (n : ℕ) (g : JudgeText t.now o (Ok n) out) where
   abbrev s : List ℕ
   s = t.now
 
@@ -129,10 +134,10 @@ module _ (t : Bor (List ℕ)) (reader : ℕ → Reader) (says : ℕ → LineTold
       go (no k) = absurd (omega (arith, lines, more_yes s n (omega (arith, k))))
 
   -- a step on a line, and one where none is left
-  on_line : (i : ℕ) → i < n → (b : Reader) (v : LineTold) → NextLine (rd i) b v → (v ≡ LineTold'.Line (verdict_of (line_at s (place_of s i)))) × (b ≡ rd (i + 1))
+  on_line : (i : ℕ) → i < n → (b : Reader) (v : LineTold) → NextLine (rd i) b v → (v ≡ Ok (Some (verdict_of (line_at s (place_of s i))))) × (b ≡ rd (i + 1))
   on_line i l b v w = on-any-line t short i (omega (arith, l, lines)) b v w
 
-  none_left : (b : Reader) (v : LineTold) → NextLine (rd n) b v → (v ≡ LineTold'.Ended) × (b ≡ rd n)
+  none_left : (b : Reader) (v : LineTold) → NextLine (rd n) b v → (v ≡ Ok None) × (b ≡ rd n)
   none_left b v w = let e = step-none s (place_of s n) n short at-end in (says-that w _ e, leads w _ e)
 
   stands : (i : ℕ) → i ≤ n → reader i ≡ rd i
@@ -152,7 +157,7 @@ module _ (t : Bor (List ℕ)) (reader : ℕ → Reader) (says : ℕ → LineTold
   stands_on i l = ap reader {x = i} {y = n + (i - n)} (omega (arith, l)) ∙ stands-there (i - n)
 
   -- a step from there on
-  past : (i : ℕ) → n ≤ i → (says i ≡ LineTold'.Ended) × (reader (i + 1) ≡ rd n)
+  past : (i : ℕ) → n ≤ i → (says i ≡ Ok None) × (reader (i + 1) ≡ rd n)
   past i l = none_left (reader (i + 1)) (says i) (subst (λ (a : Reader). NextLine a (reader (i + 1)) (says i)) (stands_on i l) (h.step i))
 
   as-the-call : Paper.AsTheCall t n out reader says
@@ -175,11 +180,11 @@ pub reader-is-the-call : Paper.ReaderIsTheCall
 reader-is-the-call t reader says h o out n g = as-the-call t reader says h o out n g
 
 -- the first step at the named text
-first_step : step_of Paper.two_lines 0 0 ≡ record { said = LineTold'.Line Right; place = 16; line = 1 }
+first_step : step_of Paper.two_lines 0 0 ≡ record { said = Ok (Some Right); place = 16; line = 1 }
 unfolding judging step_of line_length advance
 first_step = refl
 
-at_named : (t : Bor (List ℕ)) → t.now ≡ Paper.two_lines → step_from (opened t) ≡ record { said = LineTold'.Line Right; place = 16; line = 1 }
+at_named : (t : Bor (List ℕ)) → t.now ≡ Paper.two_lines → step_from (opened t) ≡ record { said = Ok (Some Right); place = 16; line = 1 }
 at_named t e = ap (λ (x : List ℕ). step_of x 0 0) e ∙ first_step
 
 module _ (t : Bor (List ℕ)) (e : t.now ≡ Paper.two_lines) {b : Reader} {v : LineTold} (h : NextLine (opened t) b v) where
@@ -189,7 +194,7 @@ module _ (t : Bor (List ℕ)) (e : t.now ≡ Paper.two_lines) {b : Reader} {v : 
   counts : b.line ≡ 1
   counts = h.line ∙ ap (λ (u : Step). u.line) (at_named t e)
 
-  tells : v ≡ LineTold'.Line Right
+  tells : v ≡ Ok (Some Right)
   tells = h.said ∙ ap (λ (u : Step). u.said) (at_named t e)
 
 pub wrong-steps : Paper.WrongSteps
@@ -198,8 +203,8 @@ wrong-steps =
       stays = λ t e b v h l. omega (arith, l, goes t e h);
       too_far = λ t e b v h l. omega (arith, l, goes t e h);
       unnumbered = λ t e b v h l. omega (arith, l, counts t e h);
-      ends = λ t e b h. let q : LineTold'.Ended ≡ LineTold'.Line Right = tells t e h in let o : ◌≡◌ {A = ℕ} 0 1 = cc in omega arith;
-      refuses = λ t e b why h. let q : LineTold'.Refused why ≡ LineTold'.Line Right = tells t e h in let o : ◌≡◌ {A = ℕ} 0 1 = cc in omega arith;
-      unreadable = λ t e b h. let q : LineTold'.Line Unreadable ≡ LineTold'.Line Right = tells t e h in let o : ◌≡◌ {A = ℕ} 0 1 = cc in omega arith;
-      struck-out = λ t e b k h. let q : LineTold'.Line (Wrong k) ≡ LineTold'.Line Right = tells t e h in let o : ◌≡◌ {A = ℕ} 0 1 = cc in omega arith;
+      ends = λ t e b h. let q : Ok None ≡ Ok (Some Right) = tells t e h in let o : ◌≡◌ {A = ℕ} 0 1 = cc in omega arith;
+      refuses = λ t e b why h. let q : Err why ≡ Ok (Some Right) = tells t e h in let o : ◌≡◌ {A = ℕ} 0 1 = cc in omega arith;
+      unreadable = λ t e b h. let q : Ok (Some Unreadable) ≡ Ok (Some Right) = tells t e h in let o : ◌≡◌ {A = ℕ} 0 1 = cc in omega arith;
+      struck-out = λ t e b field h. let q : Ok (Some (Wrong field)) ≡ Ok (Some Right) = tells t e h in let o : ◌≡◌ {A = ℕ} 0 1 = cc in omega arith;
     }

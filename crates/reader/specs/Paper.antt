@@ -1,17 +1,15 @@
 -- "A reader over the text keeps its place and line number between lines": statements over the promises. proofs/Paper.antt proves each under
 -- the same name in small letters. Assumes nothing.
-use Rattle.std.specs.Prelude.{ℕ, ◌+◌, ◌≤◌, ◌<◌, ◌≡◌, List, [], ◌∷◌, ◌++◌, length, get_or}
+use Rattle.std.specs.Prelude.{Ok, Err, Some, None, ℕ, ◌+◌, ◌≤◌, ◌<◌, ◌≡◌, List, [], ◌∷◌, ◌++◌, length, get_or}
 use Rattle.std.specs.Borrow.{Bor}
 use Rattle.rule.specs.declared.Reason.{Reason}
 use Rattle.rule.specs.declared.Reason.TheVariants.{TextTooLong}
-use Rattle.sheet.specs.declared.HowMany.TheVariants as HowMany'
 use Rattle.fields.specs.Fields.{word}
+use Rattle.concordance.specs.declared.LineField.{LineField}
 use Rattle.concordance.specs.declared.Verdict.{Verdict}
 use Rattle.concordance.specs.declared.Verdict.TheVariants.{Wrong, Unreadable}
-use Rattle.concordance.specs.declared.LineTold.{LineTold}
-use Rattle.concordance.specs.declared.LineTold.TheVariants as LineTold'
 use Rattle.concordance.specs.Text.{lines_of, place_of}
-use Rattle.concordance.specs.Verdicts.{verdict_number, line_at}
+use Rattle.concordance.specs.Verdicts.{LineTold, field_number, verdict_number, line_at}
 use Rattle.concordance.specs.Promises.{JudgeText}
 use Rattle.reader.specs.declared.Reader.{Reader}
 use Rattle.reader.specs.Readers.{opened, NextLine}
@@ -28,28 +26,36 @@ pub record Steps (t : Bor (List ℕ)) (reader : ℕ → Reader) (says : ℕ → 
 -- the reader's i-th verdict and line number are the call's: where the call answers n, the first n steps give its n verdicts, in order, and
 -- the line numbers 1 to n, each from the place where its line starts; and every further step that none is left, and leaves the reader as it was
 pub record AsTheCall (t : Bor (List ℕ)) (n : ℕ) (out : List ℕ) (reader : ℕ → Reader) (says : ℕ → LineTold) : Type 0 where
-  pub verdicts : (i : ℕ) → i < n → (v : Verdict) × (says i ≡ LineTold'.Line v) × (verdict_number v ≡ get_or out i 0)
+  pub verdicts : (i : ℕ) → i < n → (v : Verdict) × (says i ≡ Ok (Some v)) × (verdict_number v ≡ get_or out i 0)
   pub numbers : (i : ℕ) → i ≤ n → (reader i).line ≡ i
   pub places : (i : ℕ) → i ≤ n → (reader i).place ≡ place_of t.now i
   pub lines : (i : ℕ) → i < n → line_at t.now (reader i).place ≡ get_or (lines_of t.now) i []
   pub to_the_end : length t.now ≤ (reader n).place
-  pub over : (i : ℕ) → n ≤ i → says i ≡ LineTold'.Ended
+  pub over : (i : ℕ) → n ≤ i → says i ≡ Ok None
   pub stays : (i : ℕ) → n ≤ i → reader (i + 1) ≡ reader i
 
 abbrev pub ReaderIsTheCall : Type 0
 ReaderIsTheCall =
     (t : Bor (List ℕ)) (reader : ℕ → Reader) (says : ℕ → LineTold) → Steps t reader says →
-    (o out : List ℕ) (n : ℕ) → JudgeText t.now o (HowMany'.Is n) out → AsTheCall t n out reader says
+    (o out : List ℕ) (n : ℕ) → JudgeText t.now o (Ok n) out → AsTheCall t n out reader says
 
 -- "text too long is 18": at every step exactly where the text is too long, and the reader stays as it was
 pub record ReaderRefuses : Type 0 where
-  pub long : (a b : Reader) (v : LineTold) → NextLine a b v → (length a.text.now ≤ 65536 → ⊥) → (v ≡ LineTold'.Refused TextTooLong) × (b ≡ a)
-  pub only : (a b : Reader) (v : LineTold) (why : Reason) → NextLine a b v → length a.text.now ≤ 65536 → (v ≡ LineTold'.Refused why → ⊥)
-  pub no_other : (a b : Reader) (why : Reason) → NextLine a b (LineTold'.Refused why) → why ≡ TextTooLong
+  pub long : (a b : Reader) (v : LineTold) → NextLine a b v → (length a.text.now ≤ 65536 → ⊥) →
+      (v ≡ Err TextTooLong) × (b ≡ a)
+  pub only : (a b : Reader) (v : LineTold) (why : Reason) → NextLine a b v → length a.text.now ≤ 65536 →
+      (v ≡ Err why → ⊥)
+  pub no_other : (a b : Reader) (why : Reason) → NextLine a b (Err why) → why ≡ TextTooLong
 
 -- "wrong with the first wrong field (1 to 6)"
 abbrev pub WrongInSix : Type 0
-WrongInSix = (a b : Reader) (k : ℕ) → NextLine a b (LineTold'.Line (Wrong k)) → (1 ≤ k) × (k ≤ 6)
+WrongInSix =
+    (a b : Reader) (field : LineField) → NextLine a b (Ok (Some (Wrong field))) →
+    (1 ≤ field_number field) × (field_number field ≤ 6)
+
+-- and no two verdicts have one number, so that a number never stands for two things
+abbrev pub OneVerdictANumber : Type 0
+OneVerdictANumber = (u v : Verdict) → verdict_number u ≡ verdict_number v → u ≡ v
 
 -- a step leaves one reader and says one thing
 abbrev pub UniqueStep : Type 0
@@ -61,7 +67,10 @@ pub record WrongSteps : Type 0 where
   pub stays : (t : Bor (List ℕ)) → t.now ≡ two_lines → (b : Reader) (v : LineTold) → NextLine (opened t) b v → b.place < 16 → ⊥
   pub too_far : (t : Bor (List ℕ)) → t.now ≡ two_lines → (b : Reader) (v : LineTold) → NextLine (opened t) b v → 16 < b.place → ⊥
   pub unnumbered : (t : Bor (List ℕ)) → t.now ≡ two_lines → (b : Reader) (v : LineTold) → NextLine (opened t) b v → b.line ≡ 0 → ⊥
-  pub ends : (t : Bor (List ℕ)) → t.now ≡ two_lines → (b : Reader) → NextLine (opened t) b LineTold'.Ended → ⊥
-  pub refuses : (t : Bor (List ℕ)) → t.now ≡ two_lines → (b : Reader) (why : Reason) → NextLine (opened t) b (LineTold'.Refused why) → ⊥
-  pub unreadable : (t : Bor (List ℕ)) → t.now ≡ two_lines → (b : Reader) → NextLine (opened t) b (LineTold'.Line Unreadable) → ⊥
-  pub struck-out : (t : Bor (List ℕ)) → t.now ≡ two_lines → (b : Reader) (k : ℕ) → NextLine (opened t) b (LineTold'.Line (Wrong k)) → ⊥
+  pub ends : (t : Bor (List ℕ)) → t.now ≡ two_lines → (b : Reader) → NextLine (opened t) b (Ok None) → ⊥
+  pub refuses : (t : Bor (List ℕ)) → t.now ≡ two_lines → (b : Reader) (why : Reason) →
+      NextLine (opened t) b (Err why) → ⊥
+  pub unreadable : (t : Bor (List ℕ)) → t.now ≡ two_lines → (b : Reader) →
+      NextLine (opened t) b (Ok (Some Unreadable)) → ⊥
+  pub struck-out : (t : Bor (List ℕ)) → t.now ≡ two_lines → (b : Reader) (field : LineField) →
+      NextLine (opened t) b (Ok (Some (Wrong field))) → ⊥

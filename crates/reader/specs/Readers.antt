@@ -1,9 +1,8 @@
 -- What the calls of a reader promise. Assumes nothing.
 use Rattle.std.specs.Prelude.{ℕ, ◌≡◌, List}
 use Rattle.std.specs.Borrow.{Bor}
-use Rattle.concordance.specs.declared.LineTold.{LineTold}
 use Rattle.concordance.specs.declared.Step.{Step}
-use Rattle.concordance.specs.Verdicts.{step_of}
+use Rattle.concordance.specs.Verdicts.{LineTold, step_of}
 use Rattle.reader.specs.declared.Reader.{Reader}
 
 -- a reader at the start of a text

@@ -5,9 +5,11 @@
 ghost use Rattle.std.specs.Prelude.{◌≡◌};
 ghost use Rattle.reader.specs.Readers.{opened, NextLine};
 
-use concordance::LineTold;
+use concordance::Verdict;
+use rule::Reason;
 
-// A text, the place where its next line starts, and how many lines were read.
+// A text, the place where its next line starts, and how many lines were read: the paper's form, which stays.
+// (It is neither compared nor printed.)
 #[derive(Clone, Copy)]
 pub struct Reader<'a> {
     text: &'a [u8],
@@ -27,7 +29,7 @@ pub fn start<'a>(text: &'a [u8]) -> Reader<'a>
 }
 
 // The verdict on the next line, past which the reader goes; or that none is left; or reason 18, where the text is too long.
-pub fn next_line<'s, 'a>(r: &'s mut Reader<'a>) -> LineTold
+pub fn next_line<'s, 'a>(r: &'s mut Reader<'a>) -> Result<Option<Verdict>, Reason>
     ensures { NextLine r.old r.new result }
 {
     let s = concordance::step_at(r.text, r.place, r.line);

@@ -1,4 +1,5 @@
 -- What a search answers at each return, over plain values. Assumes nothing.
+use Rattle.std.specs.Prelude.{Result, Ok, Err}
 use Prim.Native.Nat.{ℕ, ◌≤◌, ◌<◌}
 use native.Mathlib.Omega.{arith}
 use mathlib.Core.Path.{◌≡◌, refl, ap, sym, ◌∙◌}
@@ -9,14 +10,14 @@ use lib.Dec.{leb}
 use lib.ListN.{length}
 use borrow.Author.Tests.{leb-true, le-leb, lt-leb}
 use Rattle.rule.specs.Counts.{DayInRange}
-use Rattle.rule.specs.Reasons.{Answer, is, refused, refused-with, guard, reason_number, afterwards}
+use Rattle.rule.specs.Reasons.{Answer, said, is, refused, refused-with, guard, reason_number, reason_of, afterwards}
 use Rattle.rule.specs.declared.Reason.{Reason}
-use Rattle.rule.proofs.Answers.{both_true}
+use Rattle.rule.proofs.Answers.{both_true, reason-back, one-to-one}
 use Rattle.reading.specs.declared.Reading.{Reading}
-use Rattle.reading.specs.declared.Found.{Found}
-use Rattle.reading.specs.declared.Tested.TheVariants.{Holds, Fails}
+use Rattle.reading.specs.declared.SearchError.{SearchError}
+use Rattle.reading.specs.declared.SearchError.TheVariants.{Refused, TooShort}
 use Rattle.reading.specs.Readings.{in_ranges, window_days, window_holds, fitting}
-use Rattle.reading.specs.Search.{total, where_good, said_tested, search_at, said_found, Searched}
+use Rattle.reading.specs.Search.{total, where_good, search_at, said_found, Searched}
 
 -- a window: its last day is not before its first, and it has at most 27,759 days
 pub window-true : (first last : ℕ) → (window_holds first last ≡ true) ↔ ((first ≤ last) × (window_days first last ≤ 27759))
@@ -72,18 +73,18 @@ holding true false i x h = absurd (let o : ◌≡◌ {A = ℕ} 0 1 = cc in omega
 holding false w i x h = absurd (let o : ◌≡◌ {A = ℕ} 0 1 = cc in omega arith)
 
 module _ (r : Reading) (first last : ℕ) where
-  pub test-fails : {A : Type 0} (a : Answer A) (why : Reason) → said_tested (Fails why) ≡ where_good r first last (is 0) →
+  pub test-fails : {A : Type 0} (a : Answer A) (why : Reason) → said (Err why) ≡ where_good r first last (is (tt {0})) →
       where_good r first last a ≡ refused (reason_number why)
-  test-fails a why h = failing (leb first 14989859 && leb last 14989859) (window_holds first last) (in_ranges r) (reason_number why) 0 a h
+  test-fails a why h = failing (leb first 14989859 && leb last 14989859) (window_holds first last) (in_ranges r) (reason_number why) (tt {0}) a h
 
   -- the window is one in the range, and the known fields are in their ranges
-  pub test-holds : said_tested Holds ≡ where_good r first last (is 0) → Passed r first last
+  pub test-holds : said (Ok (tt {0})) ≡ where_good r first last (is (tt {0})) → Passed r first last
   test-holds h =
-      let t = holding (leb first 14989859 && leb last 14989859) (window_holds first last) (in_ranges r) 0 h in
+      let t = holding (leb first 14989859 && leb last 14989859) (window_holds first last) (in_ranges r) (tt {0}) h in
       record { ends = (ends-true first last).0 t.0; window = t.1; fields = t.2 }
 
 -- a search whose tests fail
-pub searched-good : (r : Reading) (first last room : ℕ) (why : Reason) → said_tested (Fails why) ≡ where_good r first last (is 0) →
+pub searched-good : (r : Reading) (first last room : ℕ) (why : Reason) → said (Err why) ≡ where_good r first last (is (tt {0})) →
     search_at r first last room ≡ refused (reason_number why)
 unfolding search_at
 searched-good r first last room why h = test-fails r first last _ why h
@@ -99,7 +100,7 @@ module _ (r : Reading) (first last room : ℕ) (g : Passed r first last) where
   room-enough n e h = all-good r first last _ g.ends.0 g.ends.1 g.window g.fields ∙ rw (← e, le-leb n room h)
 
 -- the promise, from what is answered
-pub made : {r : Reading} {first last : ℕ} {old : List ℕ} {x : Answer ℕ} (a : Found) {new : List ℕ} →
+pub made : {r : Reading} {first last : ℕ} {old : List ℕ} {x : Answer ℕ} (a : Result ℕ SearchError) {new : List ℕ} →
     search_at r first last (length old) ≡ x → said_found a ≡ x →
     new ≡ afterwards x (λ n. fitting r first (window_days first last)) old → Searched r first last old a new
 made {r} {first} {last} {old} a e f g =
@@ -107,3 +108,19 @@ made {r} {first} {last} {old} a e f g =
       answered = f ∙ sym e;
       lent = g ∙ ap (λ (y : Answer ℕ). afterwards y (λ n. fitting r first (window_days first last)) old) (sym e);
     }
+
+-- a result is the only one that says what it says
+module _ {A : Type 0} where
+  back-to-found : Answer A → Result A SearchError
+  back-to-found (is a) = Ok a
+  back-to-found (refused k) = Err (Refused (reason_of k))
+  back-to-found (refused-with k n) = Err (TooShort n)
+
+  found-back : (a : Result A SearchError) → back-to-found (said_found a) ≡ a
+  unfolding back-to-found
+  found-back (Ok a) = refl
+  found-back (Err (TooShort n)) = refl
+  found-back (Err (Refused why)) = ap (λ k. Err (Refused k)) (reason-back why)
+
+  pub found-once : (a b : Result A SearchError) → said_found a ≡ said_found b → a ≡ b
+  found-once = one-to-one said_found back-to-found found-back

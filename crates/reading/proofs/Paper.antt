@@ -1,4 +1,5 @@
 -- What the paper says of readings and the search, proved, each statement under its name in small letters. Assumes nothing.
+use Rattle.std.specs.Prelude.{Result, Ok, Err}
 use Prim.Native.Nat.{ℕ, zero, suc, ◌+◌, ◌-◌, ◌≤◌, ◌<◌}
 use native.Mathlib.Omega.{arith}
 use mathlib.Core.Path.{◌≡◌, refl, ap, ap₂, sym, ◌∙◌, subst}
@@ -20,8 +21,8 @@ use Rattle.dates.proofs.Laws.{dated}
 use Rattle.reading.specs.declared.Field.{Field}
 use Rattle.reading.specs.declared.Field.TheVariants.{Known, Unread}
 use Rattle.reading.specs.declared.Reading.{Reading}
-use Rattle.reading.specs.declared.Found.{Found}
-use Rattle.reading.specs.declared.Found.TheVariants.{Is, TooShort, Refused}
+use Rattle.reading.specs.declared.SearchError.{SearchError}
+use Rattle.reading.specs.declared.SearchError.TheVariants.{Refused, TooShort}
 use Rattle.reading.specs.Readings.{mark_number, six_of_date, six_of, field_fits, in_ranges, month_fits, day_fits, fits, window_days, fitting}
 use Rattle.reading.specs.Search.{total, search_at, said_found, Searched}
 use Rattle.reading.specs.Paper as Paper
@@ -38,6 +39,7 @@ use Rattle.reading.specs.Paper.{
   all_unread,
 }
 use Rattle.reading.proofs.Answered
+use Rattle.reading.proofs.Answered.{found-once}
 use Rattle.reading.proofs.Rows.{refuses, tells, gives, comes}
 
 -- a field, by its two cases
@@ -184,7 +186,7 @@ module _ (r : Reading) (first last : ℕ) (days : List ℕ) (e : ListsExactly r 
   the-total n h = sym (ap length the-days) ∙ h
 
 -- the list after the call, by what is said
-lent-after : (r : Reading) (first last : ℕ) (old new : List ℕ) (a : Found) → Searched r first last old a new →
+lent-after : (r : Reading) (first last : ℕ) (old new : List ℕ) (a : Result ℕ SearchError) → Searched r first last old a new →
     new ≡ afterwards (said_found a) (λ n. fitting r first (window_days first last)) old
 lent-after r first last old new a s = s.lent ∙ ap (λ (x : Answer ℕ). afterwards x (λ n. fitting r first (window_days first last)) old) (sym s.answered)
 
@@ -192,7 +194,7 @@ pub search-lists : Paper.SearchLists
 unfolding total
 search-lists r first last n old new = (there, λ h. back h.0 h.1)
   where
-    there : Searched r first last old (Is n) new → GoodSearch r first last × SearchAnswered r first last n old new
+    there : Searched r first last old (Ok n) new → GoodSearch r first last × SearchAnswered r first last n old new
     there s =
         let h = comes r first last (length old) (is n) s.answered in (
           h.0,
@@ -201,21 +203,21 @@ search-lists r first last n old new = (there, λ h. back h.0 h.1)
             exactly = lists-exactly r first last;
             counted = sym h.1;
             room = h.2;
-            filled = lent-after r first last old new (Is n) s;
+            filled = lent-after r first last old new (Ok n) s;
           },
         )
 
-    back : GoodSearch r first last → SearchAnswered r first last n old new → Searched r first last old (Is n) new
+    back : GoodSearch r first last → SearchAnswered r first last n old new → Searched r first last old (Ok n) new
     back g h =
         let t = the-total r first last h.days h.exactly n h.counted in
-        Answered.made (Is n) (gives r first last (length old) g (omega (arith, t, h.room)) ∙ ap is t) refl
+        Answered.made (Ok n) (gives r first last (length old) g (omega (arith, t, h.room)) ∙ ap is t) refl
         (h.filled ∙ ap (λ (l : List ℕ). placed l old) (the-days r first last h.days h.exactly))
 
 pub too-short-says-the-total : Paper.TooShortSaysTheTotal
 unfolding total
 too-short-says-the-total r first last n old new = (there, λ h. back h.0 h.1)
   where
-    there : Searched r first last old (TooShort n) new → GoodSearch r first last × SearchTooShort r first last n old new
+    there : Searched r first last old (Err (TooShort n)) new → GoodSearch r first last × SearchTooShort r first last n old new
     there s =
         let h = comes r first last (length old) (refused-with 12 n) s.answered in (
           h.0,
@@ -224,23 +226,23 @@ too-short-says-the-total r first last n old new = (there, λ h. back h.0 h.1)
             exactly = lists-exactly r first last;
             counted = sym h.1;
             short = h.2;
-            unchanged = lent-after r first last old new (TooShort n) s;
+            unchanged = lent-after r first last old new (Err (TooShort n)) s;
           },
         )
 
-    back : GoodSearch r first last → SearchTooShort r first last n old new → Searched r first last old (TooShort n) new
+    back : GoodSearch r first last → SearchTooShort r first last n old new → Searched r first last old (Err (TooShort n)) new
     back g h =
         let t = the-total r first last h.days h.exactly n h.counted in
-        Answered.made (TooShort n)
+        Answered.made (Err (TooShort n))
         (tells r first last (length old) g (omega (arith, t, h.short)) ∙ ap (refused-with 12) t) refl h.unchanged
 
 pub reasons-of-a-search : Paper.ReasonsOfASearch
 reasons-of-a-search r first last old new why = (
-  λ s. (there s, lent-after r first last old new (Refused why) s),
-  λ h. Answered.made (Refused why) (refuses r first last (length old) why h.0) refl h.1,
+  λ s. (there s, lent-after r first last old new (Err (Refused why)) s),
+  λ h. Answered.made (Err (Refused why)) (refuses r first last (length old) why h.0) refl h.1,
 )
   where
-    there : Searched r first last old (Refused why) new → SearchFault r first last why
+    there : Searched r first last old (Err (Refused why)) new → SearchFault r first last why
     there s =
         let h = comes r first last (length old) (refused (reason_number why)) s.answered in
         subst (SearchFault r first last) (one-to-one reason_number reason_of reason-back h.0 why h.1) h.2
@@ -248,25 +250,12 @@ reasons-of-a-search r first last old new why = (
 pub refusal-changes-nothing : Paper.RefusalChangesNothing
 refusal-changes-nothing =
     record {
-      refused-one = λ r first last old new why. lent-after r first last old new (Refused why);
-      too_short = λ r first last n old new. lent-after r first last old new (TooShort n);
+      refused-one = λ r first last old new why. lent-after r first last old new (Err (Refused why));
+      too_short = λ r first last n old new. lent-after r first last old new (Err (TooShort n));
     }
 
--- an answer can be read back from what it says
-back-to-found : Answer ℕ → Found
-back-to-found (is n) = Is n
-back-to-found (refused k) = Refused (reason_of k)
-back-to-found (refused-with k n) = TooShort n
-
 pub unique-search : Paper.UniqueSearch
-unfolding back-to-found
-unique-search r first last old a b new other p q =
-    (one-to-one said_found back-to-found again a b (p.answered ∙ sym q.answered), p.lent ∙ sym q.lent)
-  where
-    again : (a : Found) → back-to-found (said_found a) ≡ a
-    again (Is n) = refl
-    again (TooShort n) = refl
-    again (Refused w) = ap Refused (reason-back w)
+unique-search r first last old a b new other p q = (found-once a b (p.answered ∙ sym q.answered), p.lent ∙ sym q.lent)
 
 -- what stands at place i of the list after the call
 front : (r : Reading) (first last n : ℕ) (old new : List ℕ) (h : SearchAnswered r first last n old new) (i : ℕ) → i < n →
@@ -281,12 +270,12 @@ unread-lists-all = record { counted = number; each = at-place }
         h.days ≡ those (λ d. true) first (window_days first last)
     run first last n old new h = the-days all_unread first last h.days h.exactly ∙ all_fit first (window_days first last)
 
-    number : (first last n : ℕ) (old new : List ℕ) → Searched all_unread first last old (Is n) new → n ≡ window_days first last
+    number : (first last n : ℕ) (old new : List ℕ) → Searched all_unread first last old (Ok n) new → n ≡ window_days first last
     number first last n old new s =
         let h = ((search-lists all_unread first last n old new).0 s).1 in
         sym h.counted ∙ ap length (run first last n old new h) ∙ length-all first (window_days first last)
 
-    at-place : (first last n : ℕ) (old new : List ℕ) (i : ℕ) → Searched all_unread first last old (Is n) new → i < n → get_or new i 0 ≡ first + i
+    at-place : (first last n : ℕ) (old new : List ℕ) (i : ℕ) → Searched all_unread first last old (Ok n) new → i < n → get_or new i 0 ≡ first + i
     at-place first last n old new i s l =
         let h = ((search-lists all_unread first last n old new).0 s).1 in
         front all_unread first last n old new h i l
@@ -309,7 +298,7 @@ fewer r s d m h =
     }
 
 -- a fitting day of the window stands in the list after a call that is answered
-found : (r : Reading) (first last k : ℕ) (old new : List ℕ) (d : ℕ) → Searched r first last old (Is k) new →
+found : (r : Reading) (first last k : ℕ) (old new : List ℕ) (d : ℕ) → Searched r first last old (Ok k) new →
     first ≤ d → d ≤ last → ReadingFits r d → (i : ℕ) × (i < k) × (get_or new i 0 ≡ d)
 found r first last k old new d s h g e =
     let a = ((search-lists r first last k old new).0 s).1 in

@@ -1,25 +1,24 @@
 -- What the paper says of readings and the search, as statements. proofs/Paper.antt proves each under the same name in small
 -- letters. Assumes nothing.
-use Rattle.std.specs.Prelude.{ℕ, ◌+◌, ◌≤◌, ◌<◌, ◌≡◌, ◌↔◌, ◌⊎◌, ◌≢◌, true, List, [], ◌∷◌, length, get_or}
+use Rattle.std.specs.Prelude.{Result, Ok, Err, ℕ, ◌+◌, ◌≤◌, ◌<◌, ◌≡◌, ◌↔◌, ◌⊎◌, ◌≢◌, true, List, [], ◌∷◌, length, get_or}
 use Rattle.rule.specs.Counts.{DayInRange}
 use Rattle.rule.specs.Lists.{placed}
 use Rattle.rule.specs.Rule.{month_length, InMonth}
 use Rattle.rule.specs.declared.Reason.{Reason}
 use Rattle.rule.specs.declared.Reason.TheVariants.{NoSuchDay, BadWindow, FieldOutOfRange}
 use Rattle.dates.specs.declared.Date.{Date}
-use Rattle.dates.specs.declared.Dated.TheVariants as Dated'
 use Rattle.dates.specs.Promises.{DateOfDay}
 use Rattle.reading.specs.declared.Field.{Field}
 use Rattle.reading.specs.declared.Field.TheVariants.{Known, Unread}
 use Rattle.reading.specs.declared.Reading.{Reading}
-use Rattle.reading.specs.declared.Found.{Found}
-use Rattle.reading.specs.declared.Found.TheVariants.{Is, TooShort, Refused}
+use Rattle.reading.specs.declared.SearchError.{SearchError}
+use Rattle.reading.specs.declared.SearchError.TheVariants.{Refused, TooShort}
 use Rattle.reading.specs.Readings.{six_of_date, six_of, fits, window_days}
 use Rattle.reading.specs.Search.{Searched}
 
 -- the six values of a day are those of the date that the call answers for it, and the name of its month's first day
 abbrev pub SixOfTheDate : Type 0
-SixOfTheDate = (d n : ℕ) (r : Date) → DateOfDay d (Dated'.Is r) → InMonth n d → six_of d ≡ six_of_date n r
+SixOfTheDate = (d n : ℕ) (r : Date) → DateOfDay d (Ok r) → InMonth n d → six_of d ≡ six_of_date n r
 
 -- "A known field fits the days whose date has that value, an unread field fits every day"
 abbrev pub FieldFits : Field → ℕ → Type 0
@@ -119,29 +118,29 @@ pub record SearchTooShort (r : Reading) (first last n : ℕ) (old new : List ℕ
 abbrev pub SearchLists : Type 0
 SearchLists =
     (r : Reading) (first last n : ℕ) (old new : List ℕ) →
-    Searched r first last old (Is n) new ↔ (GoodSearch r first last × SearchAnswered r first last n old new)
+    Searched r first last old (Ok n) new ↔ (GoodSearch r first last × SearchAnswered r first last n old new)
 
 -- "a search refused with 12 also returns the true total"
 abbrev pub TooShortSaysTheTotal : Type 0
 TooShortSaysTheTotal =
     (r : Reading) (first last n : ℕ) (old new : List ℕ) →
-    Searched r first last old (TooShort n) new ↔ (GoodSearch r first last × SearchTooShort r first last n old new)
+    Searched r first last old (Err (TooShort n)) new ↔ (GoodSearch r first last × SearchTooShort r first last n old new)
 
 -- every other refusal: a reason if and only if its row holds and no earlier one's does, and the list stays as it was
 abbrev pub ReasonsOfASearch : Type 0
 ReasonsOfASearch =
     (r : Reading) (first last : ℕ) (old new : List ℕ) (why : Reason) →
-    Searched r first last old (Refused why) new ↔ (SearchFault r first last why × (new ≡ old))
+    Searched r first last old (Err (Refused why)) new ↔ (SearchFault r first last why × (new ≡ old))
 
 -- a refused call changes nothing in the list
 pub record RefusalChangesNothing : Type 0 where
-  pub refused-one : (r : Reading) (first last : ℕ) (old new : List ℕ) (why : Reason) → Searched r first last old (Refused why) new → new ≡ old
-  pub too_short : (r : Reading) (first last n : ℕ) (old new : List ℕ) → Searched r first last old (TooShort n) new → new ≡ old
+  pub refused-one : (r : Reading) (first last : ℕ) (old new : List ℕ) (why : Reason) → Searched r first last old (Err (Refused why)) new → new ≡ old
+  pub too_short : (r : Reading) (first last n : ℕ) (old new : List ℕ) → Searched r first last old (Err (TooShort n)) new → new ≡ old
 
 -- the promise leaves one answer and one list
 abbrev pub UniqueSearch : Type 0
 UniqueSearch =
-    (r : Reading) (first last : ℕ) (old : List ℕ) (a b : Found) (new other : List ℕ) →
+    (r : Reading) (first last : ℕ) (old : List ℕ) (a b : Result ℕ SearchError) (new other : List ℕ) →
     Searched r first last old a new → Searched r first last old b other → (a ≡ b) × (new ≡ other)
 
 -- "all six may be unread": then the whole window is listed
@@ -169,10 +168,10 @@ year_named name =
     }
 
 pub record UnreadListsAll : Type 0 where
-  pub counted : (first last n : ℕ) (old new : List ℕ) → Searched all_unread first last old (Is n) new → n ≡ window_days first last
+  pub counted : (first last n : ℕ) (old new : List ℕ) → Searched all_unread first last old (Ok n) new → n ≡ window_days first last
   pub each :
       (first last n : ℕ) (old new : List ℕ) (i : ℕ) →
-      Searched all_unread first last old (Is n) new → i < n → get_or new i 0 ≡ first + i
+      Searched all_unread first last old (Ok n) new → i < n → get_or new i 0 ≡ first + i
 
 -- s is read where r is, and maybe in more fields
 abbrev pub ReadToo : Field → Field → Type 0
@@ -190,7 +189,7 @@ pub record MoreKnown (r s : Reading) : Type 0 where
 abbrev pub MoreKnownNeverAdds : Type 0
 MoreKnownNeverAdds =
     (r s : Reading) (first last n m : ℕ) (old new old' new' : List ℕ) (i : ℕ) → MoreKnown r s →
-    Searched r first last old (Is n) new → Searched s first last old' (Is m) new' →
+    Searched r first last old (Ok n) new → Searched s first last old' (Ok m) new' →
     i < m → (j : ℕ) × (j < n) × (get_or new j 0 ≡ get_or new' i 0)
 
 -- a day of the second of two big months in a row is listed by every search that is answered, its window holding the day and its
@@ -199,7 +198,7 @@ abbrev pub SecondOfTwoBigListed : Type 0
 SecondOfTwoBigListed =
     (n d : ℕ) (r : Reading) (first last k : ℕ) (old new : List ℕ) →
     month_length n ≡ 30 → month_length (n + 1) ≡ 30 → InMonth (n + 1) d →
-    ReadingFits r d → first ≤ d → d ≤ last → Searched r first last old (Is k) new →
+    ReadingFits r d → first ≤ d → d ≤ last → Searched r first last old (Ok k) new →
     (i : ℕ) × (i < k) × (get_or new i 0 ≡ d)
 
 -- a slip on which all six values of day d are read
@@ -220,17 +219,17 @@ all_read d =
 -- left out ("months 128 and 129 are both big", and day 3,838 is the last of month 129); and day 0, whose civil year has name 16, found by
 -- the name of its solstice year
 pub record WrongSearches : Type 0 where
-  pub refusing-all : (why : Reason) (new : List ℕ) → Searched all_unread 0 0 (5 ∷ []) (Refused why) new → ⊥
-  pub short-for-all : (n : ℕ) (new : List ℕ) → Searched all_unread 0 0 (5 ∷ []) (TooShort n) new → ⊥
-  pub filling-none : (a : Found) → Searched all_unread 0 0 (5 ∷ []) a (5 ∷ []) → ⊥
-  pub filling-noughts : (a : Found) → Searched all_unread 3 4 (5 ∷ 5 ∷ []) a (0 ∷ 0 ∷ []) → ⊥
-  pub inventing : (n : ℕ) (new : List ℕ) → n ≢ 2 → Searched all_unread 0 1 (5 ∷ 5 ∷ []) (Is n) new → ⊥
-  pub inventing-at-12 : (n : ℕ) (new : List ℕ) → n ≢ 2 → Searched all_unread 0 1 [] (TooShort n) new → ⊥
-  pub copying-first : (a : Found) → Searched all_unread 3 4 (0 ∷ 0 ∷ []) a (3 ∷ 3 ∷ []) → ⊥
-  pub first_alone : (a : Found) → Searched all_unread 3 4 (0 ∷ 0 ∷ []) a (3 ∷ 0 ∷ []) → ⊥
-  pub in-one-place : (a : Found) → Searched all_unread 3 4 (0 ∷ 0 ∷ []) a (4 ∷ 0 ∷ []) → ⊥
-  pub one-place-on : (a : Found) → Searched all_unread 3 4 (0 ∷ 0 ∷ 5 ∷ []) a (0 ∷ 3 ∷ 4 ∷ []) → ⊥
-  pub written-before-refusal : (a : Found) (x : ℕ) → x ≢ 0 → Searched all_unread 3 4 (0 ∷ []) a (x ∷ []) → ⊥
-  pub tail-cleared : (a : Found) (x : ℕ) → x ≢ 5 → Searched all_unread 3 4 (0 ∷ 0 ∷ 5 ∷ []) a (3 ∷ 4 ∷ x ∷ []) → ⊥
-  pub by-the-solstice-year : (a : Found) → Searched (year_named 17) 0 0 (5 ∷ []) a (0 ∷ []) → ⊥
-  pub second-big-left-out : (a : Found) → Searched (all_read 3838) 3838 3838 (0 ∷ []) a (0 ∷ []) → ⊥
+  pub refusing-all : (why : Reason) (new : List ℕ) → Searched all_unread 0 0 (5 ∷ []) (Err (Refused why)) new → ⊥
+  pub short-for-all : (n : ℕ) (new : List ℕ) → Searched all_unread 0 0 (5 ∷ []) (Err (TooShort n)) new → ⊥
+  pub filling-none : (a : Result ℕ SearchError) → Searched all_unread 0 0 (5 ∷ []) a (5 ∷ []) → ⊥
+  pub filling-noughts : (a : Result ℕ SearchError) → Searched all_unread 3 4 (5 ∷ 5 ∷ []) a (0 ∷ 0 ∷ []) → ⊥
+  pub inventing : (n : ℕ) (new : List ℕ) → n ≢ 2 → Searched all_unread 0 1 (5 ∷ 5 ∷ []) (Ok n) new → ⊥
+  pub inventing-at-12 : (n : ℕ) (new : List ℕ) → n ≢ 2 → Searched all_unread 0 1 [] (Err (TooShort n)) new → ⊥
+  pub copying-first : (a : Result ℕ SearchError) → Searched all_unread 3 4 (0 ∷ 0 ∷ []) a (3 ∷ 3 ∷ []) → ⊥
+  pub first_alone : (a : Result ℕ SearchError) → Searched all_unread 3 4 (0 ∷ 0 ∷ []) a (3 ∷ 0 ∷ []) → ⊥
+  pub in-one-place : (a : Result ℕ SearchError) → Searched all_unread 3 4 (0 ∷ 0 ∷ []) a (4 ∷ 0 ∷ []) → ⊥
+  pub one-place-on : (a : Result ℕ SearchError) → Searched all_unread 3 4 (0 ∷ 0 ∷ 5 ∷ []) a (0 ∷ 3 ∷ 4 ∷ []) → ⊥
+  pub written-before-refusal : (a : Result ℕ SearchError) (x : ℕ) → x ≢ 0 → Searched all_unread 3 4 (0 ∷ []) a (x ∷ []) → ⊥
+  pub tail-cleared : (a : Result ℕ SearchError) (x : ℕ) → x ≢ 5 → Searched all_unread 3 4 (0 ∷ 0 ∷ 5 ∷ []) a (3 ∷ 4 ∷ x ∷ []) → ⊥
+  pub by-the-solstice-year : (a : Result ℕ SearchError) → Searched (year_named 17) 0 0 (5 ∷ []) a (0 ∷ []) → ⊥
+  pub second-big-left-out : (a : Result ℕ SearchError) → Searched (all_read 3838) 3838 3838 (0 ∷ []) a (0 ∷ []) → ⊥

@@ -1,26 +1,33 @@
 // Readings of slips, and the search: every day of a window that fits a reading, into a lent list.
+// A range is asked for in one word of a `requires` and by no type: rule's functions take plain numbers
+// (docs/DECISIONS.md, 263).
 #![tactic(auto)]
 
-ghost use Rattle.std.specs.Prelude.{◌≡◌, ◌+◌, ◌-◌, ◌≤◌, ◌<◌, min, length};
+ghost use Rattle.std.specs.Prelude.{◌≡◌, Some, ◌+◌, ◌-◌, ◌≤◌, ◌<◌, min, length};
 ghost use Rattle.std.proofs.lemmas.List.Edits.{sets};
 ghost use Rattle.rule.specs.Counts.{DayInRange, MonthInRange, day_name, year_name};
 ghost use Rattle.rule.specs.Lists.{those, placed};
 ghost use Rattle.rule.specs.Rule.{month_start, civil_year_of_month, month_number, leap};
 ghost use Rattle.reading.specs.Readings.{mark_number, field_fits, field_in_range, in_ranges, month_fits, day_fits, PartOfMonth, window_holds, fitting};
-ghost use Rattle.rule.specs.Reasons.{is};
-ghost use Rattle.reading.specs.Search.{where_good, said_tested, Searched};
+ghost use Rattle.rule.specs.Reasons.{is, said};
+ghost use Rattle.reading.specs.declared.SearchError.TheVariants.{Refused};
+ghost use Rattle.reading.specs.Search.{where_good, Searched};
 
 use rule::Reason;
+use std::error::Error;
+use std::fmt;
 
 // One of the six things that may be read on a slip: a number, or unread.
-#[derive(Clone, Copy)]
+// (An enum of its own and no Option: the paper names it so, and `FieldFits` of `SearchLists` is said of it.)
+#[derive(Debug, Clone, Copy, PartialEq)]
 pub enum Field {
     Known(u32),
     Unread,
 }
 
 // A reading, in the paper's order; a leap mark is 1 for ordinary and 2 for leap.
-#[derive(Clone, Copy)]
+// (A leap mark is 1 or 2, a number: another one is refused with 14.)
+#[derive(Debug, Clone, Copy, PartialEq)]
 pub struct Reading {
     pub year_name: Field,
     pub month_number: Field,
@@ -30,19 +37,38 @@ pub struct Reading {
     pub first_name: Field,
 }
 
-// The answer of a search: how many days fit; or that the lent list is too short for so many; or why it comes back.
-#[derive(Clone, Copy)]
-pub enum Found {
-    Is(u32),
-    TooShort(u32),
+// Why a search comes back: a reason; or the lent list is too short, and how many days fit.
+#[derive(Debug, Clone, Copy, PartialEq)]
+pub enum SearchError {
     Refused(Reason),
+    TooShort { total: u32 },
 }
 
-// Whether window and reading of a search are good, or why not.
-#[derive(Clone, Copy)]
-pub enum Tested {
-    Holds,
-    Fails(Reason),
+impl fmt::Display for SearchError {
+    ghost use Rattle.reading.specs.Search.{search_words};
+
+    ghost output = { λ e. Some (search_words e) };
+
+    fn fmt<W: fmt::Write>(&self, f: &mut fmt::Formatter<W>) -> fmt::Result {
+        match self {
+            SearchError::Refused(why) => write!(f, "{why}"),
+            SearchError::TooShort { total } => write!(
+                f,
+                "{}: {total} days fit",
+                Reason::LentTooShort
+            ),
+        }
+    }
+}
+
+impl Error for SearchError {}
+
+impl From<Reason> for SearchError {
+    ghost from_gives = { λ why e. e ≡ Refused why };
+
+    fn from(why: Reason) -> SearchError {
+        SearchError::Refused(why)
+    }
 }
 
 // Whether a field fits a value.
@@ -69,22 +95,17 @@ fn field_in_range(f: Field, most: u32) -> bool
 fn in_ranges(r: Reading) -> bool
     ensures { result ≡ in_ranges r }
 {
-    let f1 = r.year_name;
-    let f2 = r.month_number;
-    let f3 = r.leap_mark;
-    let f4 = r.day_of_month;
-    let f5 = r.day_name;
-    let f6 = r.first_name;
-    let a = field_in_range(f1, 60);
-    let b = field_in_range(f2, 12);
-    let c = field_in_range(f3, 2);
-    let d = field_in_range(f4, 30);
-    let e = field_in_range(f5, 60);
-    let f = field_in_range(f6, 60);
-    a & b & c & d & e & f
+    let year_name = field_in_range(r.year_name, 60);
+    let month_number = field_in_range(r.month_number, 12);
+    let leap_mark = field_in_range(r.leap_mark, 2);
+    let day_of_month = field_in_range(r.day_of_month, 30);
+    let day_name = field_in_range(r.day_name, 60);
+    let first_name = field_in_range(r.first_name, 60);
+    year_name & month_number & leap_mark & day_of_month & day_name & first_name
 }
 
 // 1 for ordinary, 2 for leap.
+// (A function by the name of docs/CALLS.md.)
 pub fn mark_number(leap: bool) -> u32
     ensures { result ≡ mark_number leap }
 {
@@ -92,6 +113,7 @@ pub fn mark_number(leap: bool) -> u32
 }
 
 // Whether a field fits the name of a month's civil year.
+// (One function a value, so that the next value is worked out only where the one before fits.)
 fn year_name_fits(f: Field, n: u32) -> bool
     requires { MonthInRange n }
     ensures { result ≡ field_fits f (year_name (civil_year_of_month n)) }
@@ -128,20 +150,16 @@ fn month_fits(r: Reading, n: u32) -> bool
     requires { MonthInRange n }
     ensures { result ≡ month_fits r n }
 {
-    let f1 = r.year_name;
-    let f2 = r.month_number;
-    let f3 = r.leap_mark;
-    let f6 = r.first_name;
-    if !year_name_fits(f1, n) {
+    if !year_name_fits(r.year_name, n) {
         return false;
     }
-    if !number_fits(f2, n) {
+    if !number_fits(r.month_number, n) {
         return false;
     }
-    if !mark_fits(f3, n) {
+    if !mark_fits(r.leap_mark, n) {
         return false;
     }
-    first_name_fits(f6, n)
+    first_name_fits(r.first_name, n)
 }
 
 // Whether a day's own two values fit, its month starting on a day.
@@ -149,36 +167,40 @@ fn day_fits(r: Reading, start: u32, day: u32) -> bool
     requires { (start ≤ day) × (day < start + 30) }
     ensures { result ≡ day_fits r start day }
 {
-    let f4 = r.day_of_month;
-    let f5 = r.day_name;
-    let a = field_fits(f4, day - start + 1);
-    let b = field_fits(f5, rule::day_name(day) as u32);
-    a & b
+    let of_month = field_fits(r.day_of_month, day - start + 1);
+    let name = field_fits(r.day_name, rule::day_name(day) as u32);
+    of_month & name
 }
 
-// How many days from `from` up to `to` fit by their own values, all in the month that starts on a day.
-fn count_days(r: Reading, start: u32, from: u32, to: u32) -> u32
-    requires { (start ≤ from) × (from ≤ to) × (to ≤ start + 30) }
-    ensures { result ≡ length (those (day_fits r start) from (to - from)) }
+// A month's part of a window: its days from `from` up to `to`.
+#[derive(Debug, Clone, Copy, PartialEq)]
+pub struct Part {
+    pub month: u32,
+    pub from: u32,
+    pub to: u32,
+    ghost of_month: { PartOfMonth month from to },
+}
+
+// How many days of a part fit by their own values.
+fn count_days(r: Reading, part: Part) -> u32
+    ensures { result ≡ length (those (day_fits r (month_start part.month)) part.from (part.to - part.from)) }
 {
+    let start = rule::month_start(part.month);
     let mut k: u32 = 0;
-    let mut day = from;
-    while day < to {
+    for day in part.from..part.to {
         if day_fits(r, start, day) {
             k += 1;
         }
-        day += 1;
     }
     k
 }
 
-// How many days of a month from `from` up to `to` fit; a month whose own values do not fit has none.
-fn count_month(r: Reading, n: u32, from: u32, to: u32) -> u32
-    requires { PartOfMonth n from to }
-    ensures { result ≡ length (fitting r from (to - from)) }
+// How many days of a part fit; a month whose own values do not fit has none.
+fn count_month(r: Reading, part: Part) -> u32
+    ensures { result ≡ length (fitting r part.from (part.to - part.from)) }
 {
-    if month_fits(r, n) {
-        return count_days(r, rule::month_start(n), from, to);
+    if month_fits(r, part.month) {
+        return count_days(r, part);
     }
     0
 }
@@ -192,7 +214,8 @@ pub fn part_end(n: u32, end: u32) -> u32
     if next < end { next } else { end }
 }
 
-// How many days from `first` up to `end` fit, month by month.
+// How many days from `first` up to `end` fit, month by month. This walk, fill_fitting's and emending's go on by what `part_end` answers, so that
+// no range has their turns; one function of the three would need a closure that holds the lent list and a contract for it, and is no plainer.
 pub fn count_window(r: Reading, first: u32, end: u32) -> u32
     requires { (first < end) × (end ≤ 14989860) }
     ensures { result ≡ length (fitting r first (end - first)) }
@@ -202,37 +225,41 @@ pub fn count_window(r: Reading, first: u32, end: u32) -> u32
     let mut n = rule::month_of_day(first);
     while day < end {
         let to = part_end(n, end);
-        k += count_month(r, n, day, to);
+        let part = Part {
+            month: n,
+            from: day,
+            to,
+        };
+        k += count_month(r, part);
         day = to;
         n += 1;
     }
     k
 }
 
-// The days from `from` up to `to` that fit by their own values, put into the list from a place on; the place after them.
-fn fill_days(r: Reading, start: u32, from: u32, to: u32, out: &mut [u32], at: usize) -> usize
-    requires { (start ≤ from) × (from ≤ to) × (to ≤ start + 30) × (at + length (those (day_fits r start) from (to - from)) ≤ length out.old) }
-    ensures { (result ≡ at + length (those (day_fits r start) from (to - from))) × (out.new ≡ sets out.old at (those (day_fits r start) from (to - from))) }
+// The days of a part that fit by their own values, put into the list from a place on; the place after them.
+fn fill_days(r: Reading, part: Part, out: &mut [u32], at: usize) -> usize
+    requires { at + length (those (day_fits r (month_start part.month)) part.from (part.to - part.from)) ≤ length out.old }
+    ensures { (result ≡ at + length (those (day_fits r (month_start part.month)) part.from (part.to - part.from))) × (out.new ≡ sets out.old at (those (day_fits r (month_start part.month)) part.from (part.to - part.from))) }
 {
+    let start = rule::month_start(part.month);
     let mut k = at;
-    let mut day = from;
-    while day < to {
+    for day in part.from..part.to {
         if day_fits(r, start, day) {
             out[k] = day;
             k += 1;
         }
-        day += 1;
     }
     k
 }
 
-// The days of a month from `from` up to `to` that fit, put into the list from a place on; the place after them.
-fn fill_month(r: Reading, n: u32, from: u32, to: u32, out: &mut [u32], at: usize) -> usize
-    requires { PartOfMonth n from to × (at + length (fitting r from (to - from)) ≤ length out.old) }
-    ensures { (result ≡ at + length (fitting r from (to - from))) × (out.new ≡ sets out.old at (fitting r from (to - from))) }
+// The days of a part that fit, put into the list from a place on; the place after them.
+fn fill_month(r: Reading, part: Part, out: &mut [u32], at: usize) -> usize
+    requires { at + length (fitting r part.from (part.to - part.from)) ≤ length out.old }
+    ensures { (result ≡ at + length (fitting r part.from (part.to - part.from))) × (out.new ≡ sets out.old at (fitting r part.from (part.to - part.from))) }
 {
-    if month_fits(r, n) {
-        return fill_days(r, rule::month_start(n), from, to, out, at);
+    if month_fits(r, part.month) {
+        return fill_days(r, part, out, at);
     }
     at
 }
@@ -247,7 +274,12 @@ fn fill_fitting(r: Reading, first: u32, end: u32, out: &mut [u32]) -> usize
     let mut n = rule::month_of_day(first);
     while day < end {
         let to = part_end(n, end);
-        k = fill_month(r, n, day, to, out, k);
+        let part = Part {
+            month: n,
+            from: day,
+            to,
+        };
+        k = fill_month(r, part, out, k);
         day = to;
         n += 1;
     }
@@ -266,39 +298,36 @@ fn window_holds(first: u32, last: u32) -> bool
 }
 
 // The tests that a search begins with, and an emendation: either end of the window, the window, the known fields.
-pub fn test_search(r: Reading, first: u32, last: u32) -> Tested
-    ensures { said_tested result ≡ where_good r first last (is 0) }
+pub fn test_search(r: Reading, first: u32, last: u32) -> Result<(), Reason>
+    ensures { said result ≡ where_good r first last (is tt) }
 {
     if 14989859 < first {
-        return Tested::Fails(Reason::NoSuchDay);
+        return Err(Reason::NoSuchDay);
     }
     if 14989859 < last {
-        return Tested::Fails(Reason::NoSuchDay);
+        return Err(Reason::NoSuchDay);
     }
     if !window_holds(first, last) {
-        return Tested::Fails(Reason::BadWindow);
+        return Err(Reason::BadWindow);
     }
     if !in_ranges(r) {
-        return Tested::Fails(Reason::FieldOutOfRange);
+        return Err(Reason::FieldOutOfRange);
     }
-    Tested::Holds
+    Ok(())
 }
 
 // Every day of the window that fits the reading: how many, and the days in rising order at the front of the lent list. Only a list
 // with fewer places than the window has days can be too short: then the fitting days are counted first, so that a refusal changes nothing.
-pub fn search(r: Reading, first: u32, last: u32, out: &mut [u32]) -> Found
+pub fn search(r: Reading, first: u32, last: u32, out: &mut [u32]) -> Result<u32, SearchError>
     ensures { Searched r first last out.old result out.new }
 {
-    let tested = test_search(r, first, last);
-    if let Tested::Fails(why) = tested {
-        return Found::Refused(why);
-    }
+    test_search(r, first, last)?;
     let end = last + 1;
     if out.len() < (end - first) as usize {
         let total = count_window(r, first, end);
         if out.len() < total as usize {
-            return Found::TooShort(total);
+            return Err(SearchError::TooShort { total });
         }
     }
-    Found::Is(fill_fitting(r, first, end, out) as u32)
+    Ok(fill_fitting(r, first, end, out) as u32)
 }

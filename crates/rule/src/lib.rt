@@ -1,9 +1,11 @@
 // The rule as arithmetic on counts: "Counts and names" and "The rule" of the paper, a function for each definition of specs/, and those
 // that share what a date is computed from, which say in their contracts what they give.
-// All of these are inner: what asks for a range in its `requires` is called where the range has been tested.
+// What asks for a range in its `requires` is called where the range has been tested. They stay functions of plain numbers, and no methods of a
+// day, a month or a year with its range: docs/CALLS.md names them so, a type would ask more of callers (docs/DECISIONS.md, 263).
 #![tactic(auto)]
 
-ghost use Rattle.std.specs.Prelude.{◌≡◌, ℕ, ◌+◌, ◌*◌, ◌/◌, ◌<◌, ◌≤◌};
+ghost use Rattle.std.specs.Prelude.{◌≡◌, ℕ, Some, ◌+◌, ◌*◌, ◌/◌, ◌<◌, ◌≤◌, length};
+ghost use Rattle.rule.specs.Words.{words_of};
 ghost use Rattle.rule.specs.Counts.{SolsticeYearInRange, CivilYearInRange, DayInRange, MonthInRange, day_name, year_name, ji, bu, year_in_bu, head_name};
 ghost use Rattle.rule.specs.Rule.{
   month_start,
@@ -37,16 +39,18 @@ ghost use Rattle.rule.specs.Reasons.{reason_number, within};
 mod printed;
 
 use printed::PRINTED;
+use std::error::Error;
+use std::fmt;
 
 // A month as a date holds it: ordinary or leap, with its number.
-#[derive(Clone, Copy)]
+#[derive(Debug, Clone, Copy, PartialEq, Eq)]
 pub enum Month {
     Ordinary(u8),
     Leap(u8),
 }
 
-// Why a query comes back, in the paper's order; `reason_number` gives its number.
-#[derive(Clone, Copy)]
+// Why a query comes back, in the paper's order.
+#[derive(Debug, Clone, Copy, PartialEq, Eq)]
 pub enum Reason {
     NoSuchYear,
     NoSuchMonthNumber,
@@ -71,8 +75,82 @@ pub enum Reason {
     NoSuchBu,
 }
 
+impl fmt::Display for Reason {
+    ghost use Rattle.rule.specs.Words.{words_of};
+
+    ghost output = { λ why. Some (words_of why) };
+
+    fn fmt<W: fmt::Write>(&self, f: &mut fmt::Formatter<W>) -> fmt::Result {
+        f.write_str(self.words())
+    }
+}
+
+impl Error for Reason {}
+
+impl Reason {
+    // Its words, true wherever it is given.
+    pub fn words(self) -> &'static str
+        ensures words { result.now ≡ words_of self }
+        ensures few { length result.now ≤ 64 }
+    {
+        match self {
+            Reason::NoSuchYear => "year outside its range",
+            Reason::NoSuchMonthNumber => "month number outside 1 to 12",
+            Reason::NoSuchDayOfMonth => "day of month outside 1 to 30",
+            Reason::NoSuchLeapMonth => "leap month asked and that year has none of that number",
+            Reason::NoThirtiethDay => "day 30 of a 29-day month",
+            Reason::NoSuchDay => "day count outside the range",
+            Reason::NoSuchMonth => "month count outside the range",
+            Reason::MoveOutOfRange => "a move ends outside the range",
+            Reason::SheetEndsEarly => "sheet ends before a count or an item is whole",
+            Reason::CountTooLarge => "a count above its most",
+            Reason::BytesAfterLast => "bytes after the last section",
+            Reason::LentTooShort => "a lent list or buffer too short for the whole answer",
+            Reason::BadWindow => "last before first, or a window of more than 27,759 days",
+            Reason::FieldOutOfRange => "a known field of a reading outside its range",
+            Reason::NoSuchTermOrQuarter => "term, mid-term or quarter above its last",
+            Reason::NoSuchNumberInYear => "no such month number in that year",
+            Reason::ReadingsPresent => "going back to the old form with readings present",
+            Reason::TextTooLong => "text too long",
+            Reason::NoSuchPlanet => "planet outside 1 to 5",
+            Reason::NoConjunctionLeft =>
+                "no conjunction falls from the given day to the end of the range",
+            Reason::NoSuchBu => "bu outside 1 to 540",
+        }
+    }
+
+    // The number that the paper gives it.
+    pub fn number(self) -> u8
+        ensures { result ≡ reason_number self }
+    {
+        match self {
+            Reason::NoSuchYear => 1,
+            Reason::NoSuchMonthNumber => 2,
+            Reason::NoSuchDayOfMonth => 3,
+            Reason::NoSuchLeapMonth => 4,
+            Reason::NoThirtiethDay => 5,
+            Reason::NoSuchDay => 6,
+            Reason::NoSuchMonth => 7,
+            Reason::MoveOutOfRange => 8,
+            Reason::SheetEndsEarly => 9,
+            Reason::CountTooLarge => 10,
+            Reason::BytesAfterLast => 11,
+            Reason::LentTooShort => 12,
+            Reason::BadWindow => 13,
+            Reason::FieldOutOfRange => 14,
+            Reason::NoSuchTermOrQuarter => 15,
+            Reason::NoSuchNumberInYear => 16,
+            Reason::ReadingsPresent => 17,
+            Reason::TextTooLong => 18,
+            Reason::NoSuchPlanet => 19,
+            Reason::NoConjunctionLeft => 20,
+            Reason::NoSuchBu => 21,
+        }
+    }
+}
+
 // The place of a solstice year: ji 1 to 3, bu 1 to 20, year in bu 1 to 76.
-#[derive(Clone, Copy)]
+#[derive(Debug, Clone, Copy, PartialEq, Eq)]
 pub struct Place {
     pub ji: u8,
     pub bu: u8,
@@ -80,28 +158,28 @@ pub struct Place {
 }
 
 // A quarter of a month: its day, and the rest in parts of 3,760.
-#[derive(Clone, Copy)]
+#[derive(Debug, Clone, Copy, PartialEq, Eq)]
 pub struct Quarter {
     pub day: u32,
     pub parts: u16,
 }
 
 // A term: its day, and the rest in parts of 32.
-#[derive(Clone, Copy)]
+#[derive(Debug, Clone, Copy, PartialEq, Eq)]
 pub struct Term {
     pub day: u32,
     pub parts: u8,
 }
 
 // A civil year, and the number of one of its months.
-#[derive(Clone, Copy)]
+#[derive(Debug, Clone, Copy, PartialEq, Eq)]
 pub struct YearMonth {
     pub year: u16,
     pub number: u8,
 }
 
 // What has gone by since the origin a part before a day's end: whole months, and the parts of 940 beyond them.
-#[derive(Clone, Copy)]
+#[derive(Debug, Clone, Copy, PartialEq, Eq)]
 struct Gone {
     pub months: u32,
     pub parts: u32,
@@ -109,40 +187,18 @@ struct Gone {
 
 // Where a day stands: its month, how many of the month's days are before it, and what was left of the month's first day at the new moon,
 // in parts of 940, less one.
-#[derive(Clone, Copy)]
+#[derive(Debug, Clone, Copy, PartialEq, Eq)]
 pub struct Standing {
     pub month: u32,
     pub passed: u32,
     pub left: u32,
 }
 
-// The number that the paper gives a reason.
+// The number that the paper gives a reason, by the name of docs/CALLS.md.
 pub fn reason_number(r: Reason) -> u8
     ensures { result ≡ reason_number r }
 {
-    match r {
-        Reason::NoSuchYear => 1,
-        Reason::NoSuchMonthNumber => 2,
-        Reason::NoSuchDayOfMonth => 3,
-        Reason::NoSuchLeapMonth => 4,
-        Reason::NoThirtiethDay => 5,
-        Reason::NoSuchDay => 6,
-        Reason::NoSuchMonth => 7,
-        Reason::MoveOutOfRange => 8,
-        Reason::SheetEndsEarly => 9,
-        Reason::CountTooLarge => 10,
-        Reason::BytesAfterLast => 11,
-        Reason::LentTooShort => 12,
-        Reason::BadWindow => 13,
-        Reason::FieldOutOfRange => 14,
-        Reason::NoSuchTermOrQuarter => 15,
-        Reason::NoSuchNumberInYear => 16,
-        Reason::ReadingsPresent => 17,
-        Reason::TextTooLong => 18,
-        Reason::NoSuchPlanet => 19,
-        Reason::NoConjunctionLeft => 20,
-        Reason::NoSuchBu => 21,
-    }
+    r.number()
 }
 
 // Whether a number lies within a range, both ends included.
@@ -387,6 +443,7 @@ pub fn leap_mark(m: Month) -> bool
 }
 
 // A month as a date holds it, from its mark and its number.
+// (A function by the name of docs/CALLS.md.)
 pub fn marked(leap: bool, number: u8) -> Month
     ensures { result ≡ marked leap number }
 {

@@ -6,8 +6,7 @@ use mathlib.Core.List.{List, [], ◌∷◌}
 use lib.ListN.{length, length-append}
 use lib.Seq.{sets}
 use Rattle.rule.proofs.Stores.{sets-append}
-use Rattle.octets.specs.Bytes.{lay, lay_all}
-use Rattle.octets.proofs.Numbers.{length-lay}
+use Rattle.octets.specs.Bytes.{lay, lay_all, length-lay}
 use Rattle.octets.proofs.Filling.{length-lay_all}
 use Rattle.sheet.specs.Sheet.{
   Section,

@@ -2,19 +2,13 @@
 use Prim.Native.Nat.{ℕ, zero, suc, ◌+◌, ◌*◌, ◌≤◌, ◌<◌}
 use native.Mathlib.Nat.{mul-suc, mul-zero}
 use native.Mathlib.Omega.{arith}
-use mathlib.Core.Path.{◌≡◌, refl, ap, sym, ◌∙◌}
+use mathlib.Core.Path.{◌≡◌, ap, sym, ◌∙◌}
 use mathlib.Core.List.{List}
 use lib.ListN.{length, get_or, take, drop, length-append, length-drop, get_or-append}
 use lib.Seq.{take_at, drop_at, drop-drop}
 use Rattle.rule.specs.Lists.{placed}
-use Rattle.rule.specs.Reasons.{reason_of}
-use Rattle.rule.proofs.Answers.{reason-back, read_back, once}
-use Rattle.sheet.specs.declared.SheetCounts.{SheetCounts}
-use Rattle.sheet.specs.declared.SheetCounts.TheVariants as Counts'
-use Rattle.sheet.specs.declared.HowMany.{HowMany}
-use Rattle.sheet.specs.declared.HowMany.TheVariants as HowMany'
-use Rattle.octets.specs.Bytes.{number, numbers}
-use Rattle.sheet.specs.Promises.{said_counts, said_how_many, RestKept}
+use Rattle.octets.specs.Bytes.{number, numbers, read_all}
+use Rattle.sheet.specs.Promises.{RestKept}
 
 -- two lists that differ at a place
 pub unlike : {xs ys : List ℕ} (i a b : ℕ) → xs ≡ ys → get_or xs i 0 ≡ a → get_or ys i 0 ≡ b → a < b → ⊥
@@ -43,26 +37,9 @@ front xs old n new e h = ap (take n) e ∙ take_at xs (drop (length xs) old) n (
 
 -- item j of the numbers in s
 pub number_at : (w n j : ℕ) (s : List ℕ) → j < n → get_or (numbers w n s) j 0 ≡ number w (drop (w * j) s)
-unfolding numbers
+unfolding read_all
 number_at w zero j s h = absurd (omega arith)
 number_at w (suc n) zero s h = ap (λ (i : ℕ). number w (drop i s)) (sym (mul-zero w))
 number_at w (suc n) (suc j) s h =
     let e : w + w * j ≡ w * suc j = omega (arith, mul-suc w j) in
     number_at w n j (drop w s) (omega arith) ∙ ap (number w) (drop-drop (w * j) w s ∙ ap (λ (i : ℕ). drop i s) e)
-
--- an answer can be read back from what it says
-pub counts-once : (a b : SheetCounts) → said_counts a ≡ said_counts b → a ≡ b
-unfolding read_back
-counts-once a b e = once said_counts Counts'.Is (λ k. Counts'.Refused (reason_of k)) again a b (said_counts b) e refl
-  where
-    again : (a : SheetCounts) → read_back said_counts Counts'.Is (λ k. Counts'.Refused (reason_of k)) (said_counts a) ≡ a
-    again (Counts'.Is c) = refl
-    again (Counts'.Refused r) = ap Counts'.Refused (reason-back r)
-
-pub how-many-once : (a b : HowMany) → said_how_many a ≡ said_how_many b → a ≡ b
-unfolding read_back
-how-many-once a b e = once said_how_many HowMany'.Is (λ k. HowMany'.Refused (reason_of k)) again a b (said_how_many b) e refl
-  where
-    again : (a : HowMany) → read_back said_how_many HowMany'.Is (λ k. HowMany'.Refused (reason_of k)) (said_how_many a) ≡ a
-    again (HowMany'.Is c) = refl
-    again (HowMany'.Refused r) = ap HowMany'.Refused (reason-back r)

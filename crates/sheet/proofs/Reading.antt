@@ -6,17 +6,17 @@ use native.Mathlib.Omega.{arith}
 use mathlib.Core.Path.{◌≡◌, refl, ap, sym, ◌∙◌, subst}
 use mathlib.Core.Logic.Iff
 use mathlib.Core.Logic.{◌↔◌}
-use mathlib.Core.Bool.{true, false, ◌&&◌}
+use mathlib.Core.Bool.{Bool, true, false, ◌&&◌}
 use mathlib.Core.List.{List, [], ◌∷◌, ◌++◌}
 use lib.Dec.{leb}
 use lib.ListN.{length, take, drop, length-drop}
 use lib.Seq.{drop-append-le, drop-drop}
 use borrow.Author.Tests.{le-leb, lt-leb}
 use Rattle.rule.specs.Reasons.{Answer, is, refused, refused-with, guard, and_then}
-use Rattle.rule.proofs.Answers.{both_true, at_most}
+use Rattle.rule.proofs.Answers.{both_true, at_most, given-not}
 use Rattle.rule.proofs.Stores.{part-all}
 use Rattle.sheet.specs.declared.Counted.{Counted}
-use Rattle.octets.specs.Bytes.{number, numbers}
+use Rattle.octets.specs.Bytes.{number, numbers, read_all}
 use Rattle.sheet.specs.Sheet.{
   Section,
   item_read,
@@ -60,7 +60,7 @@ use Rattle.sheet.specs.Faults.{
   SheetFault,
 }
 use Rattle.sheet.specs.Promises.{counts_are, counts_in}
-use Rattle.sheet.specs.Steps.{front_read, left_over, GoodFront, bytes_of, FewOf}
+use Rattle.sheet.specs.Steps.{item_tested, front_read, left_over, GoodFront, bytes_of, FewOf}
 use Rattle.octets.proofs.Numbers.{number_append}
 use Rattle.sheet.proofs.Deciding.{
   Decides,
@@ -78,7 +78,7 @@ use Rattle.sheet.proofs.Deciding.{
 
 -- what reading is computed with: on an `unfolding` line this name brings all that its own line names
 unfoldable pub reading : ℕ
-unfolding number numbers item_read items_read count_read section_read items_of left_after lists_of sections_read lists_in read_sheet read_into
+unfolding number read_all item_read items_read count_read section_read items_of left_after lists_of sections_read lists_in read_sheet read_into
 reading = 0
 
 -- each reason comes from the first fault, and what is given from there being none
@@ -90,7 +90,7 @@ module _ (k : Section) where
       (asks (k.good (number k.width s)) (k.reason (number k.width s)) Iff.rfl (number k.width s))
 
   items-decided : (n : ℕ) (s : List ℕ) → Decides (items_read k n s) (numbers k.width n s) (ItemsFault k n s) (GoodItems k n s)
-  unfolding items_read numbers ItemsFault GoodItems
+  unfolding items_read read_all ItemsFault GoodItems
   items-decided zero s = asks_nothing []
   items-decided (suc n) s =
       and-then (item-decided s) (λ x. and_then (items_read k n (drop k.width s)) (λ xs. is (x ∷ xs)))
@@ -129,21 +129,31 @@ into-decided s y m d =
     and-then (sheet-decided s) (λ l. guard (room l y m d) 12 (is l))
     (asks (room l y m d) 12 (room-iff (length l.years) (length l.months) (length l.days) y m d) l)
 
+-- a guard before nothing more: it is passed, or not
+guard-out : (b : Bool) (k r : ℕ) → guard b k (is (tt {0})) ≡ refused r → (b ≡ false) × (k ≡ r)
+guard-out true k r h = absurd (given-not (is (tt {0})) (tt {0}) r refl h)
+guard-out false k r h = (refl, cc)
+
+guard-in : (b : Bool) (k : ℕ) → guard b k (is (tt {0})) ≡ is (tt {0}) → b ≡ true
+guard-in true k h = refl
+guard-in false k h = absurd (given-not (is (tt {0})) (tt {0}) k refl (sym h))
+
 -- the next of m items: not whole, not good, or good; only whether all are good is asked
 module _ {A : Type 0} (k : Section) (m j : ℕ) (e : m ≡ suc j) (t : List ℕ) (z : A) where
   pub item-cut : leb k.width (length t) ≡ false → and_then (items_read k m t) (λ xs. is z) ≡ refused 9
   unfolding items_read item_read
   item-cut h = rw (e, h)
 
-  pub item_out : leb k.width (length t) ≡ true → k.good (number k.width t) ≡ false →
-      and_then (items_read k m t) (λ xs. is z) ≡ refused (k.reason (number k.width t))
+  pub item_out : leb k.width (length t) ≡ true → (r : ℕ) → item_tested k t ≡ refused r → and_then (items_read k m t) (λ xs. is z) ≡ refused r
   unfolding items_read item_read
-  item_out h o = rw (e, h, o)
+  item_out h r o = let f = guard-out (k.good (number k.width t)) (k.reason (number k.width t)) r o in rw (e, h, f.0, f.1)
 
-  pub item-good : leb k.width (length t) ≡ true → k.good (number k.width t) ≡ true →
+  pub item-good : leb k.width (length t) ≡ true → item_tested k t ≡ is (tt {0}) →
       and_then (items_read k m t) (λ xs. is z) ≡ and_then (items_read k j (drop k.width t)) (λ xs. is z)
   unfolding items_read item_read
-  item-good h o = rw (e, h, o) (then-made (items_read k j (drop k.width t)) (λ xs. number k.width t ∷ xs) (λ xs. is z))
+  item-good h o =
+      rw (e, h, guard-in (k.good (number k.width t)) (k.reason (number k.width t)) o)
+      (then-made (items_read k j (drop k.width t)) (λ xs. number k.width t ∷ xs) (λ xs. is z))
 
 pub no_item : {A : Type 0} (k : Section) (m : ℕ) → m ≡ 0 → (t : List ℕ) (z : A) → and_then (items_read k m t) (λ xs. is z) ≡ is z
 unfolding items_read
@@ -202,36 +212,28 @@ found k s t n e h =
     let a = if-given (made-into (section-decided k s) (λ xs. count_of s)) n (rw (e) at h) in
     found-good k s t n e a.1 a.0
 
--- the counts of a sheet, of which three are known and more are to come from the sections of t: each new one moves those before it
-unfoldable counts_from : List Section → List ℕ → ℕ → ℕ → ℕ → Counted
-counts_from [] t y m d = counts_are y m d
-counts_from (k ∷ ks) t y m d = counts_from ks (left_after k t) m d (count_of t)
+-- the section at the front stops the reading, or it goes on with what is left
+module _ {A : Type 0} (k : Section) (ks : List Section) (t : List ℕ) (z : A) where
+  pub front-stops : (r : ℕ) → and_then (section_read k t) (λ xs. is (count_of t)) ≡ refused r → and_then (front_read (k ∷ ks) t) (λ l. is z) ≡ refused r
+  unfolding front_read
+  front-stops r h = stops-there (section_read k t) (front_read ks (left_after k t)) (λ xs l. (xs, l)) (count_of t) z r h
 
--- what the sections ks of t come to, y, m and d being the last counts before them
-pub checked : List Section → List ℕ → ℕ → ℕ → ℕ → Answer Counted
-checked ks t y m d = and_then (front_read ks t) (λ l. is (counts_from ks t y m d))
+  pub front-passes : (n : ℕ) → and_then (section_read k t) (λ xs. is (count_of t)) ≡ is n →
+      and_then (front_read (k ∷ ks) t) (λ l. is z)
+      ≡ and_then (front_read ks (take (length t - (2 + k.width * n)) (drop (2 + k.width * n) t))) (λ l. is z)
+  unfolding front_read
+  front-passes n h =
+      goes_on (section_read k t) (front_read ks (left_after k t)) (λ xs l. (xs, l)) (count_of t) z n h
+      ∙ ap (λ (u : List ℕ). and_then (front_read ks u) (λ l. is z)) (sym (found k t t n refl h).next)
 
-pub all-to-check : (s : List ℕ) (y m d : ℕ) → checked sheet_sections s y m d ≡ and_then (front_read sheet_sections s) (λ l. is (counts_in s))
-unfolding checked counts_from
-all-to-check s y m d = refl
+pub front-ends : {A : Type 0} (t : List ℕ) (z : A) → and_then (front_read [] t) (λ l. is z) ≡ is z
+unfolding front_read
+front-ends t z = refl
 
-module _ (k : Section) (ks all : List Section) (e : all ≡ k ∷ ks) (t : List ℕ) (y m d : ℕ) where
-  pub stops_at : (r : ℕ) → and_then (section_read k t) (λ xs. is (count_of t)) ≡ refused r → checked all t y m d ≡ refused r
-  unfolding checked front_read
-  stops_at r h = rw (e) (stops-there (section_read k t) (front_read ks (left_after k t)) (λ xs l. (xs, l)) (count_of t) _ r h)
-
-  pub passes_at : (n : ℕ) → and_then (section_read k t) (λ xs. is (count_of t)) ≡ is n →
-      checked ks (take (length t - (2 + k.width * n)) (drop (2 + k.width * n) t)) m d n ≡ checked all t y m d
-  unfolding checked front_read counts_from
-  passes_at n h =
-      let f = found k t t n refl h in
-      rw (e, f.next, ← f.count)
-      (sym (goes_on (section_read k t) (front_read ks (left_after k t)) (λ xs l. (xs, l)) (count_of t) _ n h))
-
--- no section more
-pub all-checked : (all : List Section) → all ≡ [] → (t : List ℕ) (y m d : ℕ) → checked all t y m d ≡ is (counts_are y m d)
-unfolding checked front_read counts_from
-all-checked all e t y m d = rw (e)
+-- the counts of the three sections of s, of which the second is found at t and the third at u
+pub counts-found : (s t u : List ℕ) (y m d : ℕ) → Found (ranged year_items) s s y → t ≡ months_part s →
+    Found (ranged month_items) t t m → u ≡ left_after (ranged month_items) t → Found (ranged day_items) u u d → counts_in s ≡ counts_are y m d
+counts-found s t u y m d a e b f c = rw (← e, ← f, a.count, b.count, c.count)
 
 -- sections at the front of more: what decides them
 unfoldable FrontFault : List Section → List ℕ → ℕ → Type 0

@@ -1,4 +1,5 @@
 -- Laws of the whole sheet, read and written: what each answer of the calls comes to. Assumes nothing.
+use Rattle.std.specs.Prelude.{Ok, Err}
 use Prim.Native.Nat.{ℕ, zero, suc, ◌≤◌, ◌<◌}
 use native.Mathlib.Omega.{arith}
 use mathlib.Core.Path.{◌≡◌, refl, ap, sym, ◌∙◌}
@@ -14,9 +15,7 @@ use Rattle.rule.specs.declared.Reason.{Reason}
 use Rattle.rule.proofs.Answers.{fails}
 use Rattle.rule.proofs.Stores.{from_front}
 use Rattle.sheet.specs.declared.Counted.{Counted}
-use Rattle.sheet.specs.declared.SheetCounts.TheVariants as Counts'
-use Rattle.sheet.specs.declared.HowMany.TheVariants as HowMany'
-use Rattle.octets.specs.Bytes.{numbers}
+use Rattle.octets.specs.Bytes.{numbers, read_all}
 use Rattle.sheet.specs.Sheet.{
   Section,
   count_of,
@@ -59,13 +58,13 @@ use Rattle.sheet.proofs.Laying.{length-sheet}
 use Rattle.sheet.proofs.Writing.{lists-decided, buffer-decided}
 
 pub length-numbers : (w n : ℕ) (s : List ℕ) → length (numbers w n s) ≡ n
-unfolding numbers
+unfolding read_all
 length-numbers w zero s = refl
 length-numbers w (suc n) s = ap suc (length-numbers w n (drop w s))
 
 -- what stands in a good sheet is good
 values-read : (k : Section) (n : ℕ) (s : List ℕ) → GoodItems k n s → GoodValues k (numbers k.width n s)
-unfolding GoodItems GoodValues numbers
+unfolding GoodItems GoodValues read_all
 values-read k zero s g = tt
 values-read k (suc n) s g = (g.0.1, values-read k n (drop k.width s) g.1)
 
@@ -117,11 +116,11 @@ module _ {s : List ℕ} {y m d : ℕ} {c : Counted} (a : ToFill s y m d c) where
 
 -- what is read, and what is refused
 pub read-refused : (s y m d : List ℕ) (r : Reason) → read_into s (length y) (length m) (length d) ≡ refused (reason_number r) →
-    ReadSheet s y m d (Counts'.Refused r) y m d
+    ReadSheet s y m d (Err r) y m d
 read-refused s y m d r h = record { answer = rw (h); years = rw (h); months = rw (h); days = rw (h) }
 
 pub read-given : (s y m d : List ℕ) (l : Lists) (c : Counted) → c ≡ counted l → read_into s (length y) (length m) (length d) ≡ is l →
-    ReadSheet s y m d (Counts'.Is c) (placed l.years y) (placed l.months m) (placed l.days d)
+    ReadSheet s y m d (Ok c) (placed l.years y) (placed l.months m) (placed l.days d)
 read-given s y m d l c e h = record { answer = rw (h) (ap is e); years = rw (h); months = rw (h); days = rw (h) }
 
 -- the room that lent lists have for counts
@@ -153,7 +152,7 @@ module _ (s y m d : List ℕ) where
     pub to_fill : b ≡ true → ToFill s (length y) (length m) (length d) c
     to_fill o = record { counts = sym found_all.1; good = ((front-and-rest sheet_sections [] s found_all.0).0, has_room.0 (sym e ∙ o)) }
 
-    pub read-filled : b ≡ true → (y' m' d' : List ℕ) → Filled s y m d y' m' d' → ReadSheet s y m d (Counts'.Is c) y' m' d'
+    pub read-filled : b ≡ true → (y' m' d' : List ℕ) → Filled s y m d y' m' d' → ReadSheet s y m d (Ok c) y' m' d'
     read-filled o y' m' d' w =
         let g = (to_fill o).good in
         let l : Lists = lists_in s in
@@ -166,10 +165,10 @@ module _ (s y m d : List ℕ) where
 
 -- what is written, and what is refused
 pub write-refused : (y m d o : List ℕ) (r : Reason) → write_into (three_lists y m d) (length o) ≡ refused (reason_number r) →
-    WriteSheet y m d o (HowMany'.Refused r) o
+    WriteSheet y m d o (Err r) o
 write-refused y m d o r h = record { answer = rw (h); buffer = rw (h) }
 
-pub write-given : (y m d o b : List ℕ) → write_into (three_lists y m d) (length o) ≡ is b → WriteSheet y m d o (HowMany'.Is (length b)) (placed b o)
+pub write-given : (y m d o b : List ℕ) → write_into (three_lists y m d) (length o) ≡ is b → WriteSheet y m d o (Ok (length b)) (placed b o)
 write-given y m d o b h = record { answer = rw (h); buffer = rw (h) }
 
 module _ (y m d o : List ℕ) where
@@ -196,7 +195,7 @@ module _ (y m d o : List ℕ) where
         let g = all-good.0 in
         record { years = g.0.0; months = g.1.0.0; days = g.1.1.0.0; room = omega (arith, l, all-good.1, length-sheet the-lists) }
 
-    pub write-laid : n ≤ length o → (o' : List ℕ) → o' ≡ sets o 0 (sheet_of the-lists) → WriteSheet y m d o (HowMany'.Is n) o'
+    pub write-laid : n ≤ length o → (o' : List ℕ) → o' ≡ sets o 0 (sheet_of the-lists) → WriteSheet y m d o (Ok n) o'
     write-laid l o' w =
         let r : length (sheet_of the-lists) ≤ length o = omega (arith, l, all-good.1) in
         rw (← all-good.1, w ∙ from_front (sheet_of the-lists) o r)

@@ -12,7 +12,7 @@ use lib.Seq.{drop-cons}
 use borrow.Author.Tests.{le-leb, lt-leb}
 use Rattle.rule.specs.Reasons.{is, refused, and_then, into_room}
 use Rattle.rule.proofs.Answers.{at_most}
-use Rattle.octets.specs.Bytes.{lay, lay_all}
+use Rattle.octets.specs.Bytes.{lay, lay_all, lay_each}
 use Rattle.sheet.specs.Sheet.{
   Section,
   ListsFor,
@@ -44,13 +44,13 @@ use Rattle.sheet.proofs.Deciding.{
 
 -- what writing is computed with: on an `unfolding` line this name brings all that its own line names
 unfoldable pub writing : ℕ
-unfolding lay lay_all items_written section_written sections_written lay_section lay_sections sheet_of write_sheet write_into
+unfolding lay lay_each items_written section_written sections_written lay_section lay_sections sheet_of write_sheet write_into
 writing = 0
 
 -- each reason comes from the first fault, and what is given from there being none
 module _ (k : Section) where
   values-decided : (xs : List ℕ) → Decides (items_written k xs) (lay_all k.width xs) (ValuesFault k xs) (GoodValues k xs)
-  unfolding items_written lay_all ValuesFault GoodValues
+  unfolding items_written lay_each ValuesFault GoodValues
   values-decided [] = asks_nothing []
   values-decided (x ∷ xs) = asks-first (k.good x) (k.reason x) Iff.rfl (made-into (values-decided xs) (λ b. lay k.width x ++ b))
 

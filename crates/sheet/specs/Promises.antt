@@ -1,21 +1,10 @@
 -- What reading and writing a sheet promise: the paper's number and values for each case of an answer, and every lent list.
 -- Assumes nothing.
-use Rattle.std.specs.Prelude.{ℕ, ◌≡◌, List, length, drop}
-use Rattle.rule.specs.Reasons.{Answer, is, refused, reason_number, and_then, afterwards}
+use Rattle.rule.specs.declared.Reason.{Reason}
+use Rattle.std.specs.Prelude.{Result, ℕ, ◌≡◌, List, length, drop}
+use Rattle.rule.specs.Reasons.{is, said, and_then, afterwards}
 use Rattle.sheet.specs.declared.Counted.{Counted}
-use Rattle.sheet.specs.declared.SheetCounts.{SheetCounts}
-use Rattle.sheet.specs.declared.SheetCounts.TheVariants as Counts'
-use Rattle.sheet.specs.declared.HowMany.{HowMany}
-use Rattle.sheet.specs.declared.HowMany.TheVariants as HowMany'
 use Rattle.sheet.specs.Sheet.{Lists, count_of, months_part, days_part, read_into, write_into}
-
-abbrev pub said_counts : SheetCounts → Answer Counted
-said_counts (Counts'.Is c) = is c
-said_counts (Counts'.Refused r) = refused (reason_number r)
-
-abbrev pub said_how_many : HowMany → Answer ℕ
-said_how_many (HowMany'.Is n) = is n
-said_how_many (HowMany'.Refused r) = refused (reason_number r)
 
 -- "gives the three counts"
 abbrev pub counted : Lists → Counted
@@ -30,15 +19,15 @@ abbrev pub counts_in : List ℕ → Counted
 counts_in s = counts_are (count_of s) (count_of (months_part s)) (count_of (days_part s))
 
 -- reading the bytes s into lent lists that held y, m and d: the answer r, and what they hold then
-pub record ReadSheet (s y m d : List ℕ) (r : SheetCounts) (y' m' d' : List ℕ) : Type 0 where
-  pub answer : said_counts r ≡ and_then (read_into s (length y) (length m) (length d)) (λ l. is (counted l))
+pub record ReadSheet (s y m d : List ℕ) (r : Result Counted Reason) (y' m' d' : List ℕ) : Type 0 where
+  pub answer : said r ≡ and_then (read_into s (length y) (length m) (length d)) (λ l. is (counted l))
   pub years : y' ≡ afterwards (read_into s (length y) (length m) (length d)) (λ l. l.years) y
   pub months : m' ≡ afterwards (read_into s (length y) (length m) (length d)) (λ l. l.months) m
   pub days : d' ≡ afterwards (read_into s (length y) (length m) (length d)) (λ l. l.days) d
 
 -- writing the lists y, m and d into a lent buffer that held o: the answer r, and what it holds then
-pub record WriteSheet (y m d o : List ℕ) (r : HowMany) (o' : List ℕ) : Type 0 where
-  pub answer : said_how_many r ≡ and_then (write_into (record { years = y; months = m; days = d }) (length o)) (λ b. is (length b))
+pub record WriteSheet (y m d o : List ℕ) (r : Result ℕ Reason) (o' : List ℕ) : Type 0 where
+  pub answer : said r ≡ and_then (write_into (record { years = y; months = m; days = d }) (length o)) (λ b. is (length b))
   pub buffer : o' ≡ afterwards (write_into (record { years = y; months = m; days = d }) (length o)) (λ b. b) o
 
 -- "Both leave places beyond what they fill untouched", where n places are filled

@@ -1,18 +1,23 @@
--- What the inner functions ask and give: sections at the front of more, the section in a place, filling lists from sections that are good,
+-- What the inner functions ask and give: sections at the front of more, a whole item tested, filling lists from sections that are good,
 -- laying lists that are good. Assumes nothing.
-use Rattle.std.specs.Prelude.{ℕ, ◌+◌, ◌*◌, ◌≤◌, ◌≡◌, List, [], ◌∷◌, drop}
+use Rattle.rule.specs.Reasons.{said}
+use Rattle.rule.specs.declared.Reason.{Reason}
+use Rattle.std.specs.Prelude.{Result, ℕ, ◌+◌, ◌*◌, ◌≤◌, ◌≡◌, List, [], ◌∷◌}
 use Rattle.std.proofs.lemmas.List.Edits.{sets}
-use Rattle.rule.specs.Reasons.{Answer, is, and_then}
-use Rattle.sheet.specs.declared.Items.{Items}
+use Rattle.rule.specs.Reasons.{Answer, is, guard, and_then}
+use Rattle.octets.specs.Bytes.{number}
 use Rattle.sheet.specs.declared.Counted.{Counted}
-use Rattle.sheet.specs.declared.HowMany.{HowMany}
-use Rattle.sheet.specs.Sheet.{Section, count_read, section_read, left_after, ListsFor, ranged, sheet_sections, lists_in}
+use Rattle.sheet.specs.Sheet.{Section, count_read, section_read, left_after, ListsFor, sheet_sections, lists_in}
 use Rattle.sheet.specs.Faults.{GoodSection, HasRoom}
-use Rattle.sheet.specs.Promises.{said_how_many, counts_in}
+use Rattle.sheet.specs.Promises.{counts_in}
 
 -- the count of any section that has so many items at most, at the front of s
-abbrev pub CountRead : ℕ → List ℕ → HowMany → Type 0
-CountRead most s r = (k : Section) → k.items ≡ most → said_how_many r ≡ count_read k s
+abbrev pub CountRead : ℕ → List ℕ → Result ℕ Reason → Type 0
+CountRead most s r = (k : Section) → k.items ≡ most → said r ≡ count_read k s
+
+-- a whole item at the front of s: its own reason where it is not good
+abbrev pub item_tested : Section → List ℕ → Answer (Unit {0})
+item_tested k s = guard (k.good (number k.width s)) (k.reason (number k.width s)) (is tt)
 
 -- reading sections in order, whatever comes after them; what comes after them; and that they are good
 unfoldable pub front_read : (ks : List Section) → List ℕ → Answer (ListsFor ks)
@@ -36,12 +41,6 @@ pub record FewOf (c : Counted) : Type 0 where
   pub years : c.years ≤ 1000
   pub months : c.months ≤ 1000
   pub days : c.days ≤ 1000
-
--- the items k are those of the section in place j
-pub record SectionAt (j : ℕ) (k : Items) : Type 0 where
-  pub there : drop j sheet_sections ≡ ranged k ∷ drop (j + 1) sheet_sections
-  pub width : k.width ≤ 4
-  pub items : k.items ≤ 1000
 
 -- the three sections at the front of s are good, with room in lists of y, m and d places, and c are their counts
 pub record ToFill (s : List ℕ) (y m d : ℕ) (c : Counted) : Type 0 where

@@ -1,5 +1,5 @@
-// Many sheets from data/, each named by an argument, through the listing program's own code: the name of each, and what is
-// printed for it. What it must write is made by tools/sheets.py.
+// Many sheets from data/, each named by an argument, through the listing program's own code: the name of each, and what
+// is printed for it. What it must write is made by tools/sheets.py.
 #![tactic(auto)]
 
 use std::env::{Env, FillError};
@@ -16,40 +16,37 @@ fn say<W: Write>(name: &[u8], to: &mut W) -> io::Result<()> {
 
 // The file of that name, where std can open it: it opens none whose name is not UTF-8.
 fn open_named<R: Files>(rt: &R, name: &[u8]) -> io::Result<R::File> {
-    match std::str::from_utf8(name) {
-        Ok(text) => File::open(rt, text),
-        Err(_) => Err(io::Error::from(ErrorKind::InvalidInput)),
-    }
+    let Ok(text) = std::str::from_utf8(name) else {
+        return Err(io::Error::from(ErrorKind::InvalidInput));
+    };
+    File::open(rt, text)
 }
 
 // The sheet of that name, listed.
 fn list_named<R: Files, W: Write>(rt: &R, name: &[u8], to: &mut W) -> io::Result<()> {
     say(name, to)?;
-    match open_named(rt, name) {
-        Ok(file) => {
-            let mut file = file;
-            listed::list_from(&mut file, to)
-        }
-        Err(_) => to.write_all(b"is not there\n"),
-    }
+    let Ok(mut file) = open_named(rt, name) else {
+        return to.write_all(b"is not there\n");
+    };
+    listed::list_from(&mut file, to)
 }
 
-// The sheet that an argument names, and whether there is such an argument.
-fn list_one<R: Env + Files, W: Write>(rt: &R, i: usize, to: &mut W) -> io::Result<bool> {
-    let mut name = [0u8; 4096];
-    match rt.arg(i, &mut name) {
-        Ok(n) => list_named(rt, &name[..n], to)?,
-        Err(FillError::NotPresent) => return Ok(false),
-        Err(FillError::TooLong) => list_named(rt, b"", to)?,
+// The name that an argument gives, where there is such an argument; one that is too long is no name.
+fn name_given<'a, R: Env>(rt: &R, i: usize, room: &'a mut [u8]) -> Option<&'a [u8]> {
+    match rt.arg(i, room) {
+        Ok(n) => Some(&room[..n]),
+        Err(FillError::NotPresent) => None,
+        Err(FillError::TooLong) => Some(&room[..0]),
     }
-    Ok(true)
 }
 
 fn main(rt: HostRuntime) -> io::Result<()> {
+    let mut room = [0u8; 4096];
     for i in 1..usize::MAX {
-        if !list_one(&rt, i, &mut rt.stdout())? {
+        let Some(name) = name_given(&rt, i, &mut room) else {
             break;
-        }
+        };
+        list_named(&rt, name, &mut rt.stdout())?;
     }
     Ok(())
 }

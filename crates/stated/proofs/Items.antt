@@ -6,9 +6,8 @@ use mathlib.Core.Path.{◌≡◌, ap, sym, ◌∙◌}
 use mathlib.Core.List.{List, [], ◌∷◌, ◌++◌, append_assoc}
 use lib.ListN.{length, get_or, take, drop}
 use lib.Seq.{take_at, drop_at, drop-drop}
-use Rattle.octets.specs.Bytes.{number, lay, lay_all}
+use Rattle.octets.specs.Bytes.{number, lay, lay_all, lay_each, length-lay}
 use Rattle.sheet.specs.Sheet.{Section, count_of, items_of, lay_section}
-use Rattle.octets.proofs.Numbers.{length-lay}
 use Rattle.sheet.proofs.Places.{InFront, item-in-front, number_at}
 use Rattle.stated.specs.Paper.{StandsAt, LaidAt}
 
@@ -32,7 +31,7 @@ stands_at k s t old new from n e c a =
 
 -- item j of a list that is laid before t
 all-laid-at : (w : ℕ) (xs t : List ℕ) (j : ℕ) → j < length xs → take w (drop (w * j) (lay_all w xs ++ t)) ≡ lay w (get_or xs j 0)
-unfolding lay_all
+unfolding lay_each
 all-laid-at w [] t j h = absurd (omega arith)
 all-laid-at w (x ∷ xs) t zero h = rw (mul-zero w, append_assoc (lay w x) (lay_all w xs) t) (take_at (lay w x) (lay_all w xs ++ t) w (length-lay w x))
 all-laid-at w (x ∷ xs) t (suc j) h =

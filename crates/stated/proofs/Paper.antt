@@ -1,4 +1,5 @@
 -- What the paper says of the sheet, proved, each statement under its name in small letters. Assumes nothing.
+use Rattle.std.specs.Prelude.{Ok}
 use Prim.Native.Nat.{ℕ, zero, suc, ◌+◌, ◌*◌, ◌≤◌}
 use native.Mathlib.Omega.{arith}
 use mathlib.Core.Path.{◌≡◌, refl, ap, sym, ◌∙◌, subst}
@@ -9,10 +10,8 @@ use lib.Seq.{drop_at, drop-drop}
 use Rattle.rule.specs.Lists.{placed}
 use Rattle.rule.specs.Reasons.{Answer, is, refused, and_then, reason_number, afterwards}
 use Rattle.rule.specs.declared.Reason.TheVariants.{SheetEndsEarly, BytesAfterLast}
-use Rattle.rule.proofs.Answers.{within-true}
+use Rattle.rule.proofs.Answers.{within-true, said-once}
 use Rattle.sheet.specs.declared.Counted.{Counted}
-use Rattle.sheet.specs.declared.SheetCounts.TheVariants as Counts'
-use Rattle.sheet.specs.declared.HowMany.TheVariants as HowMany'
 use Rattle.octets.specs.Bytes.{number, lay}
 use Rattle.sheet.specs.Sheet.{
   Section,
@@ -46,7 +45,7 @@ use Rattle.sheet.proofs.Reading.{reading, section-long, sheet-decided, into-deci
 use Rattle.sheet.proofs.Writing.{writing, buffer-decided}
 use Rattle.sheet.proofs.Laying.{length-section, length-sheet}
 use Rattle.sheet.proofs.Sheets.{lists-read, counted-lists, read-refused, read-given, write-refused, write-given}
-use Rattle.sheet.proofs.Places.{unlike, InFront, rest-kept, front, counts-once, how-many-once}
+use Rattle.sheet.proofs.Places.{unlike, InFront, rest-kept, front}
 use Rattle.stated.specs.Paper as Paper
 use Rattle.stated.specs.Paper.{AreBytes, months_from, days_from, IsSheetOf}
 use Rattle.stated.proofs.RoundTrip.{bytes-laid, AllFit, fit-each, sections-back, sections-again}
@@ -55,10 +54,10 @@ use Rattle.stated.proofs.Items.{stands_at, laid-at}
 
 pub unique-read-sheet : Paper.UniqueReadSheet
 unique-read-sheet s y m d a b y₁ m₁ d₁ y₂ m₂ d₂ p q =
-    (counts-once a b (p.answer ∙ sym q.answer), p.years ∙ sym q.years, p.months ∙ sym q.months, p.days ∙ sym q.days)
+    (said-once a b (p.answer ∙ sym q.answer), p.years ∙ sym q.years, p.months ∙ sym q.months, p.days ∙ sym q.days)
 
 pub unique-write-sheet : Paper.UniqueWriteSheet
-unique-write-sheet y m d o a b o₁ o₂ p q = (how-many-once a b (p.answer ∙ sym q.answer), p.buffer ∙ sym q.buffer)
+unique-write-sheet y m d o a b o₁ o₂ p q = (said-once a b (p.answer ∙ sym q.answer), p.buffer ∙ sym q.buffer)
 
 pub least-byte-first : Paper.LeastByteFirst
 unfolding number lay
@@ -111,7 +110,7 @@ record ReadAs (s y m d : List ℕ) (c : Counted) (y' m' d' : List ℕ) : Type 0 
   months : InFront c.months (lists_in s).months m m'
   days : InFront c.days (lists_in s).days d d'
 
-read_as_lem : (s y m d y' m' d' : List ℕ) (c : Counted) → ReadSheet s y m d (Counts'.Is c) y' m' d' → ReadAs s y m d c y' m' d'
+read_as_lem : (s y m d y' m' d' : List ℕ) (c : Counted) → ReadSheet s y m d (Ok c) y' m' d' → ReadAs s y m d c y' m' d'
 read_as_lem s y m d y' m' d' c p =
     let w = made_of (read_into s (length y) (length m) (length d)) counted c p.answer in
     let a = if-given (into-decided s (length y) (length m) (length d)) w.0 w.1 in
@@ -145,7 +144,7 @@ record WrittenAs (y m d o : List ℕ) (n : ℕ) (o' : List ℕ) : Type 0 where
   good : GoodLists (three_lists y m d)
   bytes : InFront n (sheet_of (three_lists y m d)) o o'
 
-written_as : (y m d o o' : List ℕ) (n : ℕ) → WriteSheet y m d o (HowMany'.Is n) o' → WrittenAs y m d o n o'
+written_as : (y m d o o' : List ℕ) (n : ℕ) → WriteSheet y m d o (Ok n) o' → WrittenAs y m d o n o'
 written_as y m d o o' n p =
     let l : Lists = three_lists y m d in
     let w = made_of (write_into l (length o)) length n p.answer in
@@ -185,7 +184,7 @@ calls-back-and-there s y₀ m₀ d₀ y' m' d' o o' c r bytes p q h =
     (buffer-decided l (length o)).given (b.0, omega (arith, h, ap length b.1)) ∙ ap is b.1
     in
     let e : write_into (three_lists (take c.years y') (take c.months m') (take c.days d')) (length o) ≡ is s = rw (y, m, d) w in
-    unique-write-sheet _ _ _ o r (HowMany'.Is (length s)) o' (placed s o) q
+    unique-write-sheet _ _ _ o r (Ok (length s)) o' (placed s o) q
     (write-given (take c.years y') (take c.months m') (take c.days d') o s e)
 
 pub rest-untouched : Paper.RestUntouched
@@ -399,7 +398,7 @@ pub empty-sheet : Paper.EmptySheet
 empty-sheet y m d y' m' d' r p =
     let a = if-given (sheet-decided empty_sheet) (three_lists [] [] []) empty-read in
     let g = read-with-room empty_sheet _ (length y) (length m) (length d) a.0 a.1 (omega arith, omega arith, omega arith) in
-    counts-once r (Counts'.Is (counts_are 0 0 0)) (p.answer ∙ ap (λ (a : Answer Lists). and_then a (λ l. is (counted l))) g)
+    said-once r (Ok (counts_are 0 0 0)) (p.answer ∙ ap (λ (a : Answer Lists). and_then a (λ l. is (counted l))) g)
 
 pub wrong-sheets : Paper.WrongSheets
 unfolding reading

@@ -7,10 +7,9 @@ use mathlib.Core.Bool.{true}
 use mathlib.Core.List.{List, [], ◌∷◌, ◌++◌, append_assoc}
 use lib.ListN.{length, drop, length-append}
 use lib.Seq.{drop_at, drop-drop, get_or-drop}
-use Rattle.octets.specs.Bytes.{number, lay, numbers, lay_all}
+use Rattle.octets.specs.Bytes.{number, lay, numbers, lay_all, lay_each, length-lay, read_all}
 use Rattle.sheet.specs.Sheet.{Section, items_of, left_after, ListsFor, lists_of, lay_section, lay_sections}
 use Rattle.sheet.specs.Faults.{GoodItems, GoodSection, GoodSections, GoodValues, GoodList, GoodEach}
-use Rattle.octets.proofs.Numbers.{length-lay}
 use Rattle.octets.proofs.Filling.{length-lay_all}
 use Rattle.sheet.proofs.Sheets.{length-numbers}
 use Rattle.stated.specs.Paper.{AreBytes}
@@ -50,7 +49,7 @@ bytes-lay (suc w) x zero = omega arith
 bytes-lay (suc w) x (suc i) = bytes-lay w (x / 256) i
 
 bytes-all : (w : ℕ) (xs : List ℕ) → AreBytes (lay_all w xs)
-unfolding lay_all
+unfolding lay_each
 bytes-all w [] i = omega arith
 bytes-all w (x ∷ xs) i = bytes-append (lay w x) (lay_all w xs) (bytes-lay w x) (bytes-all w xs) i
 
@@ -94,7 +93,7 @@ module _ (k : Section) where
   -- good items that fit, laid before t
   items_back : (xs t : List ℕ) → GoodValues k xs → SmallItems k xs →
       GoodItems k (length xs) (lay_all k.width xs ++ t) × (numbers k.width (length xs) (lay_all k.width xs ++ t) ≡ xs)
-  unfolding GoodValues SmallItems GoodItems numbers lay_all
+  unfolding GoodValues SmallItems GoodItems read_all lay_each
   items_back [] t g f = (tt, refl)
   items_back (z ∷ xs) t g f =
       let w = k.width in
@@ -137,7 +136,7 @@ sections-back (k ∷ ks) l g f =
 module _ (k : Section) where
   -- good items that were read, laid again before what is left
   items-again : (n : ℕ) (t : List ℕ) → AreBytes t → GoodItems k n t → lay_all k.width (numbers k.width n t) ++ drop (k.width * n) t ≡ t
-  unfolding GoodItems numbers lay_all
+  unfolding GoodItems read_all lay_each
   items-again zero t b g = ap (λ (m : ℕ). drop m t) (mul-zero k.width)
   items-again (suc n) t b g =
       let w = k.width in

@@ -1,29 +1,40 @@
 // How the programs read and write, over any reader and any writer.
 #![tactic(auto)]
 
-ghost use Rattle.std.specs.Prelude.{◌≤◌, length, take};
-ghost use Rattle.std.specs.Io.KnownBytes.{Consumes};
+ghost use Rattle.std.specs.Prelude.{◌≤◌, ◌≡◌, length, take, Ok, is_ok, OnOk, OnErr, IfSome};
+ghost use Rattle.std.specs.Fmt.{decimal};
+ghost use Rattle.std.specs.Io.{ReadsAtMost};
+ghost use Rattle.std.specs.Io.KnownBytes.{Appends, Consumes, ReadConsumes};
 
+use std::fmt::Display;
 use std::io;
 use std::io::{ErrorKind, Read, Write};
 
-// The next bytes of an input, as many as come: none at its end, and none where it cannot be read. What came is at the front of `bytes`, and
-// where it is known what an input has, nothing of it is lost.
-pub fn read_some<R: Read>(from: &mut R, bytes: &mut [u8]) -> usize
-    ensures bound { result ≤ length bytes.new }
-    ensures consumes { Consumes (R.remaining from.old) (R.remaining from.new) (take result bytes.new) }
+// The next bytes of an input, as many as come. A read that was interrupted is tried again.
+fn read_next<R: Read>(from: &mut R, bytes: &mut [u8]) -> io::Result<usize>
+    ensures bound { ReadsAtMost result bytes.new }
+    ensures consumes { ReadConsumes (R.remaining from.old) (R.remaining from.new) result bytes.new }
 {
     for _ in 0..u64::MAX {
         match from.read(bytes) {
-            Ok(n) => return n,
+            Ok(n) => return Ok(n),
             Err(e) => {
                 if e.kind() != ErrorKind::Interrupted {
-                    return 0;
+                    return Err(e);
                 }
             }
         }
     }
-    0
+    Err(io::Error::from(ErrorKind::Interrupted))
+}
+
+// The next bytes of an input, as many as come: none at its end, and none where it cannot be read. What came is at the
+// front of `bytes`, and where it is known what an input has, nothing of it is lost.
+pub fn read_some<R: Read>(from: &mut R, bytes: &mut [u8]) -> usize
+    ensures bound { result ≤ length bytes.new }
+    ensures consumes { Consumes (R.remaining from.old) (R.remaining from.new) (take result bytes.new) }
+{
+    read_next(from, bytes).unwrap_or(0)
 }
 
 // An input, read until the room is full or nothing more comes. How many bytes came.
@@ -32,6 +43,7 @@ pub fn read_full<R: Read>(from: &mut R, bytes: &mut [u8]) -> usize
     ensures consumes { Consumes (R.remaining from.old) (R.remaining from.new) (take result bytes.new) }
 {
     let mut done = 0;
+    // A `while`: what each read gave says how far it has come, and no list is gone over.
     while done < bytes.len() {
         let n = read_some(from, &mut bytes[done..]);
         if n == 0 {
@@ -50,26 +62,46 @@ pub struct Output<W> {
 }
 
 impl<W: Write> Output<W> {
-    pub fn new(to: W) -> Output<W> {
+    pub fn new(to: W) -> Output<W>
+        ensures to { result.to ≡ to }
+        ensures so_far { result.so_far ≡ Ok tt }
+    {
         Output { to, so_far: Ok(()) }
     }
 
     // All of the bytes.
-    pub fn put(&mut self, bytes: &[u8]) {
-        if self.so_far.is_ok() {
+    pub fn put(&mut self, bytes: &[u8])
+        ensures stops { OnErr self.old.so_far (self.new ≡ self.old) }
+        ensures puts { OnOk self.new.so_far (Appends (W.contents self.old.to) (W.contents self.new.to) bytes.now) }
+    {
+        if self.is_ok() {
             self.so_far = self.to.write_all(bytes);
         }
     }
 
-    // A number in decimal.
-    pub fn put_decimal(&mut self, n: u64) {
-        if self.so_far.is_ok() {
-            self.so_far = write!(self.to, "{n}");
+    // A text, as `write!` and `writeln!` make it.
+    pub fn write_fmt<D: Display + Drop>(&mut self, text: D)
+        ensures stops { OnErr self.old.so_far (self.new ≡ self.old) }
+        ensures puts { OnOk self.new.so_far (IfSome (D.output text)
+            (Appends (W.contents self.old.to) (W.contents self.new.to))) }
+    {
+        if self.is_ok() {
+            self.so_far = self.to.write_fmt(text);
         }
     }
 
+    // A number in decimal.
+    pub fn put_decimal(&mut self, n: u64)
+        ensures stops { OnErr self.old.so_far (self.new ≡ self.old) }
+        ensures puts { OnOk self.new.so_far (Appends (W.contents self.old.to) (W.contents self.new.to) (decimal n)) }
+    {
+        write!(self, "{n}")
+    }
+
     // Whether nothing has failed so far.
-    pub fn is_ok(&self) -> bool {
+    pub fn is_ok(&self) -> bool
+        ensures { result ≡ is_ok self.now.so_far }
+    {
         self.so_far.is_ok()
     }
 
@@ -77,6 +109,7 @@ impl<W: Write> Output<W> {
     pub fn end(self) -> io::Result<()>
     where
         W: Drop,
+        ensures { result ≡ self.so_far }
     {
         self.so_far
     }

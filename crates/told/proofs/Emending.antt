@@ -1,4 +1,8 @@
 -- Laws of an emendation into a list with places enough for the longest window, and of its lines. Assumes nothing.
+use Rattle.std.specs.Prelude.{Result, Ok}
+use Rattle.emending.specs.declared.Emended.{Emended}
+use Rattle.emending.specs.declared.Emended.TheVariants.{Fits, Are}
+use Rattle.reading.specs.declared.SearchError.{SearchError}
 use Prim.Native.Nat.{ℕ, zero, suc, ◌+◌, ◌*◌, ◌≤◌}
 use native.Mathlib.Omega.{arith}
 use mathlib.Core.Path.{◌≡◌, refl, ap, sym, ◌∙◌}
@@ -14,24 +18,22 @@ use Rattle.told.proofs.Finding.{alike-behind, never-behind, twelve-behind, has_r
 use Rattle.sheet.proofs.Places.{front}
 use Rattle.reading.specs.declared.Reading.{Reading}
 use Rattle.reading.specs.Readings.{window_days}
-use Rattle.reading.specs.Search.{total}
+use Rattle.reading.specs.Search.{said_found, total}
 use Rattle.reading.specs.Paper.{IsWindow, GoodSearch}
-use Rattle.emending.specs.declared.Emended.{Emended}
-use Rattle.emending.specs.declared.Emended.TheVariants.{Are}
 use Rattle.emending.specs.Faults.{emendations}
-use Rattle.emending.specs.Emended.{Outcome, fit, emended, emend_total, where_none_fits, emend_at, said_emended, filled_with, EmendsReading}
+use Rattle.emending.specs.Emended.{emend_total, where_none_fits, emend_at, filled_with, EmendsReading}
 use Rattle.emending.proofs.Passing.{emended-four, emended-few}
 use Rattle.emending.proofs.Rows.{comes}
 
 -- an answer, where n days fit
-other : (n : ℕ) (a : Answer Outcome) → (n ≡ 0 → ⊥) → where_none_fits n a ≡ is (fit n)
+other : (n : ℕ) (a : Answer Emended) → (n ≡ 0 → ⊥) → where_none_fits n a ≡ is (Fits n)
 other n a h = rw (ne_eqb n 0 h) refl
 
-outcome : ℕ → Outcome → Outcome
+outcome : ℕ → Emended → Emended
 outcome zero o = o
-outcome (suc n) o = fit (suc n)
+outcome (suc n) o = Fits (suc n)
 
-by_fits : (n : ℕ) (o : Outcome) → where_none_fits n (is o) ≡ is (outcome n o)
+by_fits : (n : ℕ) (o : Emended) → where_none_fits n (is o) ≡ is (outcome n o)
 unfolding outcome
 by_fits zero o = refl
 by_fits (suc n) o = other (suc n) (is o) (λ z. omega (arith, z))
@@ -42,21 +44,21 @@ unfolding emend_total
 emendings-few r first last w = omega (arith, w.1, emended-few r first (window_days first last))
 
 module _ (r : Reading) (first last : ℕ) where
-  emendings : Outcome
-  emendings = outcome (total r first last) (emended (emend_total r first last))
+  emendings : Emended
+  emendings = outcome (total r first last) (Are (emend_total r first last))
 
-  behind-tests : ℕ → Answer Outcome
+  behind-tests : ℕ → Answer Emended
   behind-tests room =
       where_none_fits (total r first last)
-      (guard-with (leb (4 * emend_total r first last) room) 12 (emend_total r first last) (is (emended (emend_total r first last))))
+      (guard-with (leb (4 * emend_total r first last) room) 12 (emend_total r first last) (is (Are (emend_total r first last))))
 
   -- so it is answered, whatever room there is above so many places
   emended-is : (room : ℕ) → places ≤ room → IsWindow first last → behind-tests room ≡ is emendings
   unfolding emendings behind-tests
   emended-is room h w =
       ap (where_none_fits (total r first last))
-      (has_room (emended (emend_total r first last)) (4 * emend_total r first last) (emend_total r first last) room (omega (arith, emendings-few r first last w)))
-      ∙ by_fits (total r first last) (emended (emend_total r first last))
+      (has_room (Are (emend_total r first last)) (4 * emend_total r first last) (emend_total r first last) room (omega (arith, emendings-few r first last w)))
+      ∙ by_fits (total r first last) (Are (emend_total r first last))
 
   -- more make no difference
   pub emended-alike : (room : ℕ) → places ≤ room → emend_at r first last room ≡ emend_at r first last places
@@ -75,15 +77,15 @@ module _ (r : Reading) (first last : ℕ) where
   emended-not-twelve = twelve-behind r first last (behind-tests places) emendings (emended-is places (omega arith))
 
 -- the list after n emendations: its first 4 × n places hold them
-module _ {r : Reading} {first last : ℕ} {old new : List ℕ} {a : Emended} (s : EmendsReading r first last old a new) {n : ℕ} (e : a ≡ Are n) where
+module _ {r : Reading} {first last : ℕ} {old new : List ℕ} {a : Result Emended SearchError} (s : EmendsReading r first last old a new) {n : ℕ} (e : a ≡ Ok (Are n)) where
   list : List ℕ
   list = emendations r first (window_days first last)
 
-  said : emend_at r first last (length old) ≡ is (emended n)
-  said = sym s.answered ∙ ap said_emended e
+  said : emend_at r first last (length old) ≡ is (Are n)
+  said = sym s.answered ∙ ap said_found e
 
   known : GoodSearch r first last × (0 ≡ total r first last) × (n ≡ emend_total r first last) × (4 * n ≤ length old)
-  known = comes r first last (length old) (is (emended n)) (sym said)
+  known = comes r first last (length old) (is (Are n)) (sym said)
 
   count : 4 * n ≡ length list
   unfolding list emend_total
@@ -91,7 +93,7 @@ module _ {r : Reading} {first last : ℕ} {old new : List ℕ} {a : Emended} (s 
 
   filled : new ≡ placed list old
   unfolding list
-  filled = s.lent ∙ ap (λ (x : Answer Outcome). afterwards x (filled_with r first last) old) said
+  filled = s.lent ∙ ap (λ (x : Answer Emended). afterwards x (filled_with r first last) old) said
 
   pub emended-list : take (4 * n) new ≡ emendations r first (window_days first last)
   unfolding list

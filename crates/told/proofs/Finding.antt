@@ -1,4 +1,6 @@
 -- Laws of a search into a list with places enough for the longest window. Assumes nothing.
+use Rattle.std.specs.Prelude.{Result, Ok}
+use Rattle.reading.specs.declared.SearchError.{SearchError}
 use Prim.Native.Nat.{ℕ, ◌≤◌, ◌<◌}
 use native.Mathlib.Omega.{arith}
 use mathlib.Core.Path.{◌≡◌, refl, ap, sym, ◌∙◌}
@@ -16,8 +18,6 @@ use Rattle.told.specs.Answers.{places}
 use Rattle.told.proofs.Refusing.{NeverWith, never-is, never-refused}
 use Rattle.sheet.proofs.Places.{front}
 use Rattle.reading.specs.declared.Reading.{Reading}
-use Rattle.reading.specs.declared.Found.{Found}
-use Rattle.reading.specs.declared.Found.TheVariants.{Is}
 use Rattle.reading.specs.Readings.{in_ranges, fits, window_days, window_holds, fitting}
 use Rattle.reading.specs.Search.{total, where_good, search_at, said_found, Searched}
 use Rattle.reading.specs.Paper.{IsWindow, GoodSearch}
@@ -84,7 +84,7 @@ unfolding search_at
 searched-not-twelve r first last = twelve-behind r first last _ (total r first last) (searched-is r first last places (omega arith))
 
 -- the list after a search that is answered with n: its first n places are the days that fit, each a day in range
-module _ {r : Reading} {first last : ℕ} {old new : List ℕ} {a : Found} (s : Searched r first last old a new) {n : ℕ} (e : a ≡ Is n) where
+module _ {r : Reading} {first last : ℕ} {old new : List ℕ} {a : Result ℕ SearchError} (s : Searched r first last old a new) {n : ℕ} (e : a ≡ Ok n) where
   days : List ℕ
   days = fitting r first (window_days first last)
 

@@ -1,4 +1,7 @@
 -- The statements of specs/Paper, proved, each under its own name. Assumes nothing.
+use Rattle.emending.specs.declared.Emended.{Emended}
+use Rattle.emending.specs.declared.Emended.TheVariants.{Fits, Are}
+use Rattle.std.specs.Prelude.{Option, Some, None, Ok}
 use Prim.Native.Nat.{ℕ, ◌+◌, ◌-◌, ◌*◌}
 use native.Mathlib.Omega.{arith}
 use mathlib.Core.Path.{◌≡◌, refl, ap, ap₂, sym, subst, ◌∙◌}
@@ -15,13 +18,11 @@ use Rattle.rule.proofs.Answers.{at_most, within-true, passes, holds-all, given-n
 use Rattle.rule.proofs.Leap.{number_at, mark-at}
 use Rattle.dates.specs.declared.Date.{Date}
 use Rattle.dates.specs.Dates.{date_in, date_of, date_at, is_there, month_asked, day_in_month, day_of_named, day_of_date, number_there, mid_term_of}
-use Rattle.dates.specs.declared.Dated.TheVariants.{Is}
 use Rattle.dates.proofs.Days.{a-day}
 use Rattle.dates.proofs.Laws.{day-is, back-to-day}
 use Rattle.moves.specs.Moves.{landed, moved}
 use Rattle.moves.proofs.Paper as Moves
 use Rattle.facts.specs.declared.LeapMonth.{LeapMonth}
-use Rattle.facts.specs.declared.LeapMonth.TheVariants.{Without, With}
 use Rattle.facts.specs.Facts.{
   solstice_year,
   solstice_year_at,
@@ -45,7 +46,7 @@ use Rattle.reading.specs.Search.{total, search_at}
 use Rattle.reading.specs.Paper.{GoodSearch}
 use Rattle.reading.proofs.Rows as Searches
 use Rattle.emending.specs.Faults.{emendations}
-use Rattle.emending.specs.Emended.{Outcome, fit, emended, emend_total, emend_at}
+use Rattle.emending.specs.Emended.{emend_total, emend_at}
 use Rattle.emending.proofs.Rows as Emends
 use Rattle.clerk.specs.Clerk.{walked}
 use Rattle.clerk.specs.Paper.{count_of}
@@ -110,9 +111,9 @@ unfolding place_text place_line solstice_year followed
 place-line-literally y h = ap (told place_line) (Given.solstice-year-given y h)
 
 -- a year's line by its leap month
-year-with : (y : ℕ) (l : LeapMonth) → (year_facts y).leap_month ≡ l → year_line y (year_facts y) ≡ Paper.year_with y (leap_number l ++ (32 ∷ leap_count l))
+year-with : (y : ℕ) (l : Option LeapMonth) → (year_facts y).leap_month ≡ l → year_line y (year_facts y) ≡ Paper.year_with y (leap_number l ++ (32 ∷ leap_count l))
 unfolding year_line year_facts followed
-year-with y l e = ap (λ (m : LeapMonth). Paper.year_with y (leap_number m ++ (32 ∷ leap_count m))) e
+year-with y l e = ap (λ (m : Option LeapMonth). Paper.year_with y (leap_number m ++ (32 ∷ leap_count m))) e
 
 pub year-line-literally : Paper.YearLineLiterally
 unfolding year_text year_facts
@@ -120,9 +121,9 @@ year-line-literally =
     record {
       with-leap = λ y k n h i e.
           ap (told (year_line y)) (Given.year-given y h)
-          ∙ year-with y (With k n) (((leap-there y h).with-one k n).1 (i, e));
+          ∙ year-with y (Some (record { number = k; month = n })) (((leap-there y h).with-one k n).1 (i, e));
       without = λ y h none.
-          ap (told (year_line y)) (Given.year-given y h) ∙ year-with y Without ((leap-there y h).without.1 none);
+          ap (told (year_line y)) (Given.year-given y h) ∙ year-with y None ((leap-there y h).without.1 none);
     }
 
 pub month-line-literally : Paper.MonthLineLiterally
@@ -200,7 +201,7 @@ move-line-literally y k l m d n h =
     let w = Moves.move-of-a-date-exactly y k l m d n (sym ((day-is y k l m d).1 h)) in
     record {
       lands = λ e f i.
-          ap (told text_of_date) (sym ((w.gives e f i (Is (date_of e))).1 (sym (a-day e i)))) ∙ date-of-day-line e i;
+          ap (told text_of_date) (sym ((w.gives e f i (Ok (date_of e))).1 (sym (a-day e i)))) ∙ date-of-day-line e i;
       eight = λ out. ap (told text_of_date) (sym ((w.eight MoveOutOfRange).1 (refl, out)));
     }
 
@@ -231,10 +232,10 @@ emendation-line-literally =
     }
 
 -- no line of an emendation is a refusal
-outcome-first : (xs : List ℕ) (o : Outcome) → NoRefusal (outcome_text xs o)
+outcome-first : (xs : List ℕ) (o : Emended) → NoRefusal (outcome_text xs o)
 unfolding fits_line emended_line followed
-outcome-first xs (fit n) = refl
-outcome-first xs (emended n) = refl
+outcome-first xs (Fits n) = refl
+outcome-first xs (Are n) = refl
 
 -- a `DAY` line is no refusal
 day-first : (d : ℕ) (r : Date) → NoRefusal (day_line_of d r)

@@ -1,17 +1,15 @@
 -- The statements of the desk's answer to `FIGURES`, proved, each under its name in small letters; and laws of its text. Assumes nothing.
+use Rattle.std.specs.Prelude.{Result, Ok}
+use Rattle.rule.specs.declared.Reason.{Reason}
 use Prim.Native.Nat.{ℕ}
 use mathlib.Core.Path.{◌≡◌, refl, ap, ap₂, sym, ◌∙◌, subst}
 use mathlib.Core.Bool.{◌&&◌}
 use mathlib.Core.List.{List, [], ◌∷◌, ◌++◌, map, append-nil}
 use lib.Dec.{leb}
-use lib.ListN.{length}
 use Rattle.rule.specs.Reasons.{within}
 use Rattle.yearbook.specs.declared.Figures.{Figures}
-use Rattle.yearbook.specs.declared.Figured.{Figured}
-use Rattle.yearbook.specs.declared.Figured.TheVariants.{Are}
-use Rattle.yearbook.specs.Figures.{figures_from, figures_of, leaps_from, leap_figures, names_from, name_figures}
+use Rattle.yearbook.specs.Figures.{figures_from, figures_of, leap_figures, name_figures}
 use Rattle.yearbook.specs.Promise.{figures_at, CountsFigures}
-use Rattle.yearbook.proofs.Each.{each-length}
 use Rattle.yearbook.proofs.Answered.{good-answer}
 use Rattle.yearbook.proofs.Paper.{Given, is-given}
 use Rattle.fields.specs.Fields.{word, decimal, followed, each}
@@ -51,17 +49,9 @@ figures-refusals-told first last =
     (never-two (within 1 41039 first && within 1 41039 last) 1 (leb first last) 13 (figures_of first last))
 
 -- what the two arrays hold where figures are given, and how long they are
-module _ {first last : ℕ} {l n l' n' : List ℕ} {a : Figured} {f : Figures} (s : CountsFigures first last l n a l' n') (e : a ≡ Are f) where
+module _ {first last : ℕ} {l n l' n' : List ℕ} {a : Result Figures Reason} {f : Figures} (s : CountsFigures first last l n a l' n') (e : a ≡ Ok f) where
   all-given : Given first last f l' n'
-  all-given = is-given first last f l n l' n' (subst (λ (x : Figured). CountsFigures first last l n x l' n') e s)
-
-  pub leaps-long : length l' ≡ 12
-  unfolding leaps_from
-  leaps-long = ap length all-given.by_number ∙ each-length _ 12
-
-  pub names-long : length n' ≡ 60
-  unfolding names_from
-  names-long = ap length all-given.by_name ∙ each-length _ 60
+  all-given = is-given first last f l n l' n' (subst (λ (x : Result Figures Reason). CountsFigures first last l n x l' n') e s)
 
   -- the three lines of what they hold
   pub lines-given : (figures_line f ++ counts_line (word "LEAP") l') ++ counts_line (word "NAMES") n' ≡ figures_lines (leap_figures first last) (name_figures first last) f

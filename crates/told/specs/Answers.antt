@@ -1,6 +1,8 @@
 -- The text with which the desk program answers a query, for every number, as lists of bytes. "Where 01's listing has such a line,
 -- its fields come first and in its order." Assumes nothing.
-use Rattle.std.specs.Prelude.{ℕ, ◌+◌, Bool, cond, List, [], ◌∷◌, ◌++◌, eqb, ℤ, get_or}
+use Rattle.emending.specs.declared.Emended.{Emended}
+use Rattle.emending.specs.declared.Emended.TheVariants.{Fits, Are}
+use Rattle.std.specs.Prelude.{Option, Some, None, ℕ, ◌+◌, Bool, cond, List, [], ◌∷◌, ◌++◌, eqb, ℤ, get_or}
 use Rattle.rule.specs.Rule.{number_of, leap_mark}
 use Rattle.rule.specs.Reasons.{Answer, is, refused, refused-with, reason_of}
 use Rattle.rule.specs.declared.Quarter.{Quarter}
@@ -10,7 +12,6 @@ use Rattle.dates.specs.Dates.{date_of, date_at, day_of_date}
 use Rattle.moves.specs.Moves.{moved}
 use Rattle.facts.specs.declared.SolsticeYear.{SolsticeYear}
 use Rattle.facts.specs.declared.LeapMonth.{LeapMonth}
-use Rattle.facts.specs.declared.LeapMonth.TheVariants.{Without, With}
 use Rattle.facts.specs.declared.YearFacts.{YearFacts}
 use Rattle.facts.specs.declared.MonthFacts.{MonthFacts}
 use Rattle.facts.specs.Facts.{solstice_year_at, year_facts_at, month_facts_at, quarter_at, term_at}
@@ -24,7 +25,7 @@ use Rattle.reading.specs.declared.Reading.{Reading}
 use Rattle.reading.specs.Readings.{window_days, fitting}
 use Rattle.reading.specs.Search.{search_at}
 use Rattle.emending.specs.Faults.{emendations}
-use Rattle.emending.specs.Emended.{Outcome, fit, emended, emend_at}
+use Rattle.emending.specs.Emended.{emend_at}
 use Rattle.clerk.specs.declared.Clerk.{Clerk}
 use Rattle.clerk.specs.Clerk.{walked, shown}
 use Rattle.fields.specs.Fields.{word, decimal, mark, leap_text, lined, each, letter_e}
@@ -55,15 +56,15 @@ unfoldable pub place_text : ℕ → List ℕ
 place_text y = told place_line (solstice_year_at y)
 
 -- a civil year's leap month by number and count, "`-` where there is none"
-abbrev pub leap_number : LeapMonth → List ℕ
-leap_number Without = word "-"
-leap_number (With k n) = decimal k
+abbrev pub leap_number : Option LeapMonth → List ℕ
+leap_number None = word "-"
+leap_number (Some l) = decimal l.number
 
-abbrev pub leap_count : LeapMonth → List ℕ
-leap_count Without = word "-"
-leap_count (With k n) = decimal n
+abbrev pub leap_count : Option LeapMonth → List ℕ
+leap_count None = word "-"
+leap_count (Some l) = decimal l.month
 
-abbrev pub fields_of_leap : LeapMonth → List (List ℕ)
+abbrev pub fields_of_leap : Option LeapMonth → List (List ℕ)
 fields_of_leap l = leap_number l ∷ leap_count l ∷ []
 
 -- `YEAR year`: `YEAR year NAME name MONTHS months FIRST first-month LEAP number month-count`, all of the civil year
@@ -194,9 +195,9 @@ emendation_lines (d ∷ i ∷ []) = []
 emendation_lines (d ∷ []) = []
 emendation_lines [] = []
 
-abbrev pub outcome_text : List ℕ → Outcome → List ℕ
-outcome_text xs (fit n) = fits_line n
-outcome_text xs (emended n) = emended_line n ++ emendation_lines xs
+abbrev pub outcome_text : List ℕ → Emended → List ℕ
+outcome_text xs (Fits n) = fits_line n
+outcome_text xs (Are n) = emended_line n ++ emendation_lines xs
 
 unfoldable pub emend_text : Reading → ℕ → ℕ → List ℕ
 emend_text r first last = told (outcome_text (emendations r first (window_days first last))) (emend_at r first last places)

@@ -1,12 +1,11 @@
-// One short example of the use of each public call, as a user would write it: a question on a line, and its answer below it, in the
-// desk's words. What it must write is made by tools/expected.py.
+// One short example of the use of each public call, as a user would write it: a question on a line, and its answer
+// below it, in the desk's words. What it must write is made by tools/expected.py.
 #![tactic(auto)]
 
-use dates::{Date, Dated, DayTold};
-use facts::{LeapMonth, MonthTold, QuarterTold, SolsticeYearTold, TermTold, YearTold};
-use planets::{ConjunctionTold, NextTold, PairTold};
-use reading::{Field, Found, Reading};
-use sheet::{HowMany, SheetCounts};
+use dates::Date;
+use facts::LeapMonth;
+use reading::{Field, Reading, SearchError};
+use rule::Reason;
 use std::io;
 use std::io::Stdout;
 use streams::Output;
@@ -21,15 +20,14 @@ fn end(out: &mut Out) {
 // A line of a word and two numbers.
 fn two(out: &mut Out, word: &[u8], a: u32, b: u64) {
     show::field(out, word, a as u64);
-    show::next(out, b);
-    end(out);
+    writeln!(out, " {b}");
 }
 
 // Day to date: which date has this day? The record has the place of its solstice year and its month's eclipse mark too.
 fn date_of_day(out: &mut Out, day: u32) {
     match dates::date_of_day(day) {
-        Dated::Is(date) => day_line(out, day, date),
-        Dated::Refused(why) => show::refused(out, why),
+        Ok(date) => day_line(out, day, date),
+        Err(why) => show::refused(out, why),
     }
 }
 
@@ -49,8 +47,8 @@ fn four(out: &mut Out, word: &[u8], year: u32, number: u32, leap: bool, day_of_m
 // Date to day: which day has this date?
 fn day_of_date(out: &mut Out, year: u32, number: u32, leap: bool, day_of_month: u32) {
     match dates::day_of_date(year, number, leap, day_of_month) {
-        DayTold::Is(day) => date_of_day(out, day),
-        DayTold::Refused(why) => show::refused(out, why),
+        Ok(day) => date_of_day(out, day),
+        Err(why) => show::refused(out, why),
     }
 }
 
@@ -66,54 +64,50 @@ fn move_date(out: &mut Out, year: u32, number: u32, leap: bool, day_of_month: u3
     show::signed(out, days);
     end(out);
     match moves::move_date(year, number, leap, day_of_month, days) {
-        Dated::Is(date) => show::dated(out, date),
-        Dated::Refused(why) => show::refused(out, why),
+        Ok(date) => show::dated(out, date),
+        Err(why) => show::refused(out, why),
     }
 }
 
-// The place of a solstice year: ji, bu, year in bu, its bu's head name; its first month, leap remainder, and how many months.
+// The place of a solstice year: ji, bu, year in bu, its bu's head name; its first month, leap remainder, and how many
+// months.
 fn solstice_year(out: &mut Out, year: u32) {
     show::line(out, b"PLACE", year as u64);
     match facts::solstice_year(year) {
-        SolsticeYearTold::Is(f) => {
-            show::field(out, b"PLACE", f.ji as u64);
-            show::next(out, f.bu as u64);
-            show::next(out, f.year_in_bu as u64);
-            show::next(out, f.head_name as u64);
-            show::next(out, f.first_month as u64);
-            show::next(out, f.leap_remainder as u64);
-            show::next(out, f.months as u64);
-            end(out);
+        Ok(f) => {
+            write!(
+                out,
+                "PLACE {} {} {} {}",
+                f.ji, f.bu, f.year_in_bu, f.head_name
+            );
+            writeln!(out, " {} {} {}", f.first_month, f.leap_remainder, f.months);
         }
-        SolsticeYearTold::Refused(why) => show::refused(out, why),
+        Err(why) => show::refused(out, why),
     }
 }
 
-// A civil year's own facts: its name, how many months it has, its first month, and its leap month by number and month count.
+// A civil year's own facts: its name, how many months it has, its first month, and its leap month by number and month
+// count.
 fn year_facts(out: &mut Out, year: u32) {
     show::line(out, b"YEAR", year as u64);
     match facts::year_facts(year) {
-        YearTold::Is(f) => {
-            let leap = f.leap_month;
-            show::field(out, b"YEAR", year as u64);
-            show::field(out, b" NAME", f.name as u64);
-            show::field(out, b" MONTHS", f.months as u64);
-            show::field(out, b" FIRST", f.first_month as u64);
-            leap_month(out, leap);
+        Ok(f) => {
+            write!(
+                out,
+                "YEAR {year} NAME {} MONTHS {} FIRST {}",
+                f.name, f.months, f.first_month
+            );
+            leap_month(out, f.leap_month);
         }
-        YearTold::Refused(why) => show::refused(out, why),
+        Err(why) => show::refused(out, why),
     }
 }
 
 // The end of a year's line.
-fn leap_month(out: &mut Out, leap: LeapMonth) {
+fn leap_month(out: &mut Out, leap: Option<LeapMonth>) {
     match leap {
-        LeapMonth::With(number, n) => {
-            show::field(out, b" LEAP", number as u64);
-            show::next(out, n as u64);
-            end(out);
-        }
-        LeapMonth::Without => show::text(out, b" LEAP - -\n"),
+        Some(leap) => writeln!(out, " LEAP {} {}", leap.number, leap.month),
+        None => writeln!(out, " LEAP - -"),
     }
 }
 
@@ -121,18 +115,14 @@ fn leap_month(out: &mut Out, leap: LeapMonth) {
 fn month_facts(out: &mut Out, n: u32) {
     show::line(out, b"MONTH", n as u64);
     match facts::month_facts(n) {
-        MonthTold::Is(f) => {
-            let month = f.month;
+        Ok(f) => {
             show::field(out, b"MONTH", n as u64);
-            show::month(out, month);
-            show::next(out, f.first_name as u64);
-            show::next(out, f.month_length as u64);
+            show::month(out, f.month);
+            write!(out, " {} {}", f.first_name, f.month_length);
             show::eclipse(out, f.eclipse);
-            show::next(out, f.first_day as u64);
-            show::next(out, f.small_remainder as u64);
-            end(out);
+            writeln!(out, " {} {}", f.first_day, f.small_remainder);
         }
-        MonthTold::Refused(why) => show::refused(out, why),
+        Err(why) => show::refused(out, why),
     }
 }
 
@@ -140,8 +130,8 @@ fn month_facts(out: &mut Out, n: u32) {
 fn quarter(out: &mut Out, n: u32, q: u32) {
     two(out, b"QUARTER", n, q as u64);
     match facts::quarter(n, q) {
-        QuarterTold::Is(f) => two(out, b"QUARTER", f.day, f.parts as u64),
-        QuarterTold::Refused(why) => show::refused(out, why),
+        Ok(f) => two(out, b"QUARTER", f.day, f.parts as u64),
+        Err(why) => show::refused(out, why),
     }
 }
 
@@ -149,8 +139,8 @@ fn quarter(out: &mut Out, n: u32, q: u32) {
 fn term(out: &mut Out, year: u32, k: u32) {
     two(out, b"TERM", year, k as u64);
     match facts::term(year, k) {
-        TermTold::Is(f) => two(out, b"TERM", f.day, f.parts as u64),
-        TermTold::Refused(why) => show::refused(out, why),
+        Ok(f) => two(out, b"TERM", f.day, f.parts as u64),
+        Err(why) => show::refused(out, why),
     }
 }
 
@@ -166,22 +156,21 @@ fn slip() -> Reading {
     }
 }
 
-// A search: which days of the window, both ends included, fit the slip? They come to stand at the front of the lent list.
+// A search: which days of the window, both ends included, fit the slip? They come to stand at the front of the lent
+// list.
 fn search(out: &mut Out, first: u32, last: u32) {
     let mut days = [0u32; 4];
-    show::field(out, b"SEARCH 27 9 ? 1 ? ?", first as u64);
-    show::field(out, b"", last as u64);
-    show::text(out, b" INTO 4\n");
+    writeln!(out, "SEARCH 27 9 ? 1 ? ? {first} {last} INTO 4");
     match reading::search(slip(), first, last, &mut days) {
-        Found::Is(n) => {
+        Ok(n) => {
             show::line(out, b"FOUND", n as u64);
             numbers_in_front(out, &days, n as usize);
         }
-        Found::TooShort(total) => {
+        Err(SearchError::TooShort { total }) => {
             show::refused(out, rule::Reason::LentTooShort);
             show::line(out, b"TOTAL", total as u64);
         }
-        Found::Refused(why) => show::refused(out, why),
+        Err(SearchError::Refused(why)) => show::refused(out, why),
     }
 }
 
@@ -194,7 +183,8 @@ fn numbers_in_front(out: &mut Out, list: &[u32], n: usize) {
     }
 }
 
-// Reading a sheet into three lent lists: how many civil years, months and days does it have? The items stand in the lists.
+// Reading a sheet into three lent lists: how many civil years, months and days does it have? The items stand in the
+// lists.
 fn read_sheet(out: &mut Out, bytes: &[u8]) {
     let mut years = [0u16; 10];
     let mut months = [0u32; 10];
@@ -203,14 +193,11 @@ fn read_sheet(out: &mut Out, bytes: &[u8]) {
     show::bytes(out, bytes);
     end(out);
     match sheet::read_sheet(bytes, &mut years, &mut months, &mut days) {
-        SheetCounts::Is(c) => {
-            show::field(out, b"COUNTS", c.years as u64);
-            show::next(out, c.months as u64);
-            show::next(out, c.days as u64);
-            end(out);
+        Ok(c) => {
+            writeln!(out, "COUNTS {} {} {}", c.years, c.months, c.days);
             numbers_in_front(out, &months, c.months);
         }
-        SheetCounts::Refused(why) => show::refused(out, why),
+        Err(why) => show::refused(out, why),
     }
 }
 
@@ -220,8 +207,8 @@ fn write_sheet(out: &mut Out, years: &[u16], months: &[u32], days: &[u32]) {
     show::text(out, b"WRITE");
     show::lists(out, years, months, days);
     match sheet::write_sheet(years, months, days, &mut buffer) {
-        HowMany::Is(n) => bytes_in_front(out, &buffer, n),
-        HowMany::Refused(why) => show::refused(out, why),
+        Ok(n) => bytes_in_front(out, &buffer, n),
+        Err(why) => show::refused(out, why),
     }
 }
 
@@ -242,13 +229,14 @@ fn text_in_front(out: &mut Out, buffer: &[u8], n: usize) {
 }
 
 // What a call that prints has answered: its text stands at the front of the buffer, or the call is refused.
-fn printed(out: &mut Out, answer: HowMany, buffer: &[u8]) {
+fn printed(out: &mut Out, answer: Result<usize, Reason>, buffer: &[u8]) {
     match answer {
-        HowMany::Is(n) => text_in_front(out, buffer, n),
-        HowMany::Refused(why) => show::refused(out, why),
+        Ok(n) => text_in_front(out, buffer, n),
+        Err(why) => show::refused(out, why),
     }
 }
 
+// The four that print are not brought to one: each shows its call, and how large a buffer it takes.
 // A civil year's block: its header and one line a month. 674 bytes always hold it.
 fn print_year(out: &mut Out, year: u32) {
     show::line(out, b"PRINT YEAR", year as u64);
@@ -277,16 +265,17 @@ fn print_day(out: &mut Out, day: u32) {
     printed(out, lines::print_day(day, &mut buffer), &buffer);
 }
 
-// A planet's conjunction by its count (planets 1 to 5: Jupiter, Mars, Saturn, Venus, Mercury; the count from 0): its day, its
-// remainder in parts, of how many they are, and whether it is a morning or an evening one.
+// A planet's conjunction by its count (planets 1 to 5: Jupiter, Mars, Saturn, Venus, Mercury; the count from 0): its
+// day, its remainder in parts, of how many they are, and whether it is a morning or an evening one.
+// (The planet is a number, as the public call takes it.)
 fn conjunction(out: &mut Out, planet: u32, k: u64) {
     two(out, b"CONJUNCTION", planet, k);
     match planets::kth_conjunction(planet, k) {
-        ConjunctionTold::Is(c) => {
+        Ok(c) => {
             show::text(out, b"CONJUNCTION");
             show::conjunction(out, c);
         }
-        ConjunctionTold::Refused(why) => show::refused(out, why),
+        Err(why) => show::refused(out, why),
     }
 }
 
@@ -294,33 +283,27 @@ fn conjunction(out: &mut Out, planet: u32, k: u64) {
 fn next_conjunction(out: &mut Out, planet: u32, day: u32) {
     two(out, b"NEXT", planet, day as u64);
     match planets::next_conjunction(planet, day) {
-        NextTold::Is(next) => {
-            let c = next.conjunction;
+        Ok(next) => {
             show::field(out, b"NEXT", next.k as u64);
-            show::conjunction(out, c);
+            show::conjunction(out, next.conjunction);
         }
-        NextTold::Refused(why) => show::refused(out, why),
+        Err(why) => show::refused(out, why),
     }
 }
 
-// 004's pair of a planet, got by reducing two long counts against each other: so many years, and the conjunctions in them.
+// 004's pair of a planet, got by reducing two long counts against each other: so many years, and the conjunctions in
+// them.
 fn reduced_pair(out: &mut Out, planet: u32) {
     show::line(out, b"PAIR", planet as u64);
     match planets::reduced_pair(planet) {
-        PairTold::Is(pair) => {
-            show::field(out, b"PAIR", pair.years);
-            show::next(out, pair.conjunctions);
-            end(out);
-        }
-        PairTold::Refused(why) => show::refused(out, why),
+        Ok(pair) => writeln!(out, "PAIR {} {}", pair.years, pair.conjunctions),
+        Err(why) => show::refused(out, why),
     }
 }
 
 // The common divisor of two numbers. It is never refused.
 fn common_divisor(out: &mut Out, a: u64, b: u64) {
-    show::field(out, b"DIVISOR", a);
-    show::next(out, b);
-    end(out);
+    writeln!(out, "DIVISOR {a} {b}");
     show::line(out, b"DIVISOR", planets::common_divisor(a, b));
 }
 

@@ -1,4 +1,5 @@
 -- Laws of the answers: the figures made from their numbers, the range's months and days, and one law a return. Assumes nothing.
+use Rattle.std.specs.Prelude.{Ok, Err}
 use Prim.Native.Nat.{ℕ, ◌+◌, ◌-◌, ◌≤◌, ◌<◌}
 use native.Mathlib.Omega.{arith}
 use mathlib.Core.Path.{◌≡◌, ap, sym, ◌∙◌}
@@ -11,7 +12,6 @@ use Rattle.rule.specs.declared.Reason.{Reason}
 use Rattle.rule.proofs.Answers.{within-true}
 use Rattle.rule.proofs.Months.{start-end}
 use Rattle.yearbook.specs.declared.Figures.{Figures}
-use Rattle.yearbook.specs.declared.Figured.TheVariants.{Are, Refused}
 use Rattle.yearbook.specs.Figures.{passing, small, figures_from, figures_of, leap_figures, name_figures}
 use Rattle.yearbook.specs.Promise.{figures_at, wholly_after, CountsFigures}
 use Rattle.yearbook.specs.Paper.{GoodYears}
@@ -68,7 +68,7 @@ module _ (first last : ℕ) where
       )
 
   module _ (leaps names : List ℕ) where
-    pub refuses : (why : Reason) → figures_at first last ≡ refused (reason_number why) → CountsFigures first last leaps names (Refused why) leaps names
+    pub refuses : (why : Reason) → figures_at first last ≡ refused (reason_number why) → CountsFigures first last leaps names (Err why) leaps names
     refuses why e =
         record {
           answered = sym e;
@@ -77,7 +77,7 @@ module _ (first last : ℕ) where
         }
 
     pub gives : GoodYears first last → (f : Figures) (leaps' names' : List ℕ) → f ≡ figures_of first last → leaps' ≡ leap_figures first last →
-        names' ≡ name_figures first last → CountsFigures first last leaps names (Are f) leaps' names'
+        names' ≡ name_figures first last → CountsFigures first last leaps names (Ok f) leaps' names'
     gives g f leaps' names' e l n =
         let a = good-answer g in
         record {

@@ -1,4 +1,5 @@
 -- What the request says of the yearbook's figures, proved, each statement under its name in small letters. Assumes nothing.
+use Rattle.std.specs.Prelude.{Result, Ok, Err}
 use Prim.Native.Nat.{ℕ, ◌+◌, ◌-◌, ◌*◌, ◌≤◌}
 use native.Mathlib.Omega.{arith}
 use mathlib.Core.Path.{◌≡◌, refl, ap, ap₂, sym, ◌∙◌}
@@ -6,19 +7,17 @@ use mathlib.Core.Bool.{Bool, true, false, ◌&&◌}
 use mathlib.Core.List.{List, [], ◌∷◌}
 use lib.ListN.{length, get_or}
 use Rattle.rule.specs.Counts.{day_name}
-use Rattle.rule.specs.Reasons.{Answer, is, refused, refused-with, reason_of}
+use Rattle.rule.specs.Reasons.{said, Answer, is, refused}
 use Rattle.rule.specs.Rule.{month_start, mid_terms_before, mid_term_number, month_number, big, pair_starts, leap, civil_first_month, eclipse}
 use Rattle.rule.specs.declared.Reason.{Reason}
 use Rattle.rule.specs.declared.Reason.TheVariants.{BadWindow}
-use Rattle.rule.proofs.Answers.{reason-back, one-to-one}
+use Rattle.rule.proofs.Answers.{said-once}
 use Rattle.rule.proofs.CivilYears.{civil-first-shift}
 use Rattle.rule.proofs.Leap.{number-range}
 use Rattle.rule.proofs.Lists.{bit, length-all}
 use Rattle.yearbook.specs.declared.Figures.{Figures}
-use Rattle.yearbook.specs.declared.Figured.{Figured}
-use Rattle.yearbook.specs.declared.Figured.TheVariants.{Are, Refused}
 use Rattle.yearbook.specs.Figures.{passing, small, leap_numbered, has_name, for_each, figures_from, figures_of, leaps_from, leap_figures, names_from, name_figures}
-use Rattle.yearbook.specs.Promise.{figures_at, said_figured, wholly_after, CountsFigures}
+use Rattle.yearbook.specs.Promise.{figures_at, wholly_after, CountsFigures}
 use Rattle.yearbook.specs.Paper as Paper
 use Rattle.yearbook.specs.Paper.{GoodYears, AreFigures, FiguresFault, pair_across, four, sum_of}
 use Rattle.yearbook.proofs.Each.{each-length, each_at, each-only}
@@ -41,7 +40,7 @@ pub record Given (first last : ℕ) (f : Figures) (leaps names : List ℕ) : Typ
   pub by_number : leaps ≡ leap_figures first last
   pub by_name : names ≡ name_figures first last
 
-pub is-given : (first last : ℕ) (f : Figures) (leaps names leaps' names' : List ℕ) → CountsFigures first last leaps names (Are f) leaps' names' →
+pub is-given : (first last : ℕ) (f : Figures) (leaps names leaps' names' : List ℕ) → CountsFigures first last leaps names (Ok f) leaps' names' →
     Given first last f leaps' names'
 is-given first last f leaps names leaps' names' s =
     let g = given first last f s.answered in
@@ -91,7 +90,7 @@ figures-counted first last f leaps names leaps' names' = (λ s. there (is-given 
           },
         )
 
-    back : GoodYears first last → AreFigures first last f leaps' names' → CountsFigures first last leaps names (Are f) leaps' names'
+    back : GoodYears first last → AreFigures first last f leaps' names' → CountsFigures first last leaps names (Ok f) leaps' names'
     back g h =
         gives first last leaps names g f leaps' names'
         (same-figures f (figures_of first last)
@@ -109,7 +108,7 @@ figures-counted first last f leaps names leaps' names' = (λ s. there (is-given 
         ∙ h.day-name (i + 1) (omega arith) (omega arith) ∙ sym (days-literally (has_name (i + 1)) first last g)))
 
 -- both arrays where the query comes back
-kept-as-was : (first last : ℕ) (leaps names leaps' names' : List ℕ) (why : Reason) → CountsFigures first last leaps names (Refused why) leaps' names' →
+kept-as-was : (first last : ℕ) (leaps names leaps' names' : List ℕ) (why : Reason) → CountsFigures first last leaps names (Err why) leaps' names' →
     (leaps' ≡ leaps) × (names' ≡ names)
 kept-as-was first last leaps names leaps' names' why s = (
   s.by_number ∙ ap (λ (x : Answer Figures). wholly_after x (leap_figures first last) leaps) (sym s.answered),
@@ -125,7 +124,7 @@ reasons-of-figures first last leaps names leaps' names' why = (
   λ h. back h.0 h.1 h.2,
 )
   where
-    back : FiguresFault first last why → leaps' ≡ leaps → names' ≡ names → CountsFigures first last leaps names (Refused why) leaps' names'
+    back : FiguresFault first last why → leaps' ≡ leaps → names' ≡ names → CountsFigures first last leaps names (Err why) leaps' names'
     back w l n =
         let r = refuses first last leaps names why (refused-where first last why w) in
         record { answered = r.answered; by_number = l ∙ r.by_number; by_name = n ∙ r.by_name }
@@ -234,23 +233,9 @@ seventy-six-years first f leaps names leaps' names' s =
       leap-number = h.by_number ∙ ap (leaps_from (civil_first_month first)) e ∙ at.leap-number;
     }
 
--- an answer can be read back from what it says
-back-to-figured : Answer Figures → Figured
-back-to-figured (is f) = Are f
-back-to-figured (refused k) = Refused (reason_of k)
-back-to-figured (refused-with k n) = Refused (reason_of k)
-
-same_answer : (a b : Figured) → said_figured a ≡ said_figured b → a ≡ b
-unfolding back-to-figured
-same_answer a b = one-to-one said_figured back-to-figured again a b
-  where
-    again : (a : Figured) → back-to-figured (said_figured a) ≡ a
-    again (Are f) = refl
-    again (Refused w) = ap Refused (reason-back w)
-
 pub unique-figures : Paper.UniqueFigures
 unique-figures first last leaps names a b l n m o p q =
-    (same_answer a b (p.answered ∙ sym q.answered), p.by_number ∙ sym q.by_number, p.by_name ∙ sym q.by_name)
+    (said-once a b (p.answered ∙ sym q.answered), p.by_number ∙ sym q.by_number, p.by_name ∙ sym q.by_name)
 
 -- over a good range figures are given, in closed form
 module _ (first last : ℕ) (g : GoodYears first last) where
@@ -260,19 +245,19 @@ module _ (first last : ℕ) (g : GoodYears first last) where
   to : ℕ
   to = civil_first_month (last + 1)
 
-  pub record Computed (a : Figured) (leaps' names' : List ℕ) : Type 0 where
-    pub figures : a ≡ Are (closed_figures (civil_first_month first) (civil_first_month (last + 1)))
+  pub record Computed (a : Result Figures Reason) (leaps' names' : List ℕ) : Type 0 where
+    pub figures : a ≡ Ok (closed_figures (civil_first_month first) (civil_first_month (last + 1)))
     pub by_number : leaps' ≡ closed_leaps (civil_first_month first) (civil_first_month (last + 1))
     pub by_name : names' ≡ closed_names (month_start (civil_first_month first)) (month_start (civil_first_month (last + 1)))
 
-  computed : (leaps names leaps' names' : List ℕ) (a : Figured) → CountsFigures first last leaps names a leaps' names' → Computed a leaps' names'
+  computed : (leaps names leaps' names' : List ℕ) (a : Result Figures Reason) → CountsFigures first last leaps names a leaps' names' → Computed a leaps' names'
   computed leaps names leaps' names' a s =
       let m = months-inside first last g in
       let d = days-inside first last g in
-      let h = unique-figures first last leaps names a (Are (figures_of first last)) leaps' names' _ _ s
+      let h = unique-figures first last leaps names a (Ok (figures_of first last)) leaps' names' _ _ s
       (gives first last leaps names g (figures_of first last) _ _ refl refl refl) in
       record {
-        figures = h.0 ∙ ap Are (figures-closed _ _ (omega (arith, m.0)));
+        figures = h.0 ∙ ap Ok (figures-closed _ _ (omega (arith, m.0)));
         by_number = h.1 ∙ leaps-closed _ _ (omega (arith, m.0));
         by_name = h.2 ∙ names-closed _ _ d.0;
       }
@@ -299,41 +284,41 @@ known-figures =
     }
 
 -- the numbers of an answer
-big_in : Figured → ℕ
-big_in (Are f) = f.big
-big_in (Refused why) = 0
+big_in : Result Figures Reason → ℕ
+big_in (Ok f) = f.big
+big_in (Err why) = 0
 
-small_in : Figured → ℕ
-small_in (Are f) = f.small
-small_in (Refused why) = 0
+small_in : Result Figures Reason → ℕ
+small_in (Ok f) = f.small
+small_in (Err why) = 0
 
-pairs_in : Figured → ℕ
-pairs_in (Are f) = f.pairs
-pairs_in (Refused why) = 0
+pairs_in : Result Figures Reason → ℕ
+pairs_in (Ok f) = f.pairs
+pairs_in (Err why) = 0
 
 -- what is promised of the ranges at which the wrong versions are tried
-pub year-8 : (l n l' n' : List ℕ) (a : Figured) → CountsFigures 8 8 l n a l' n' →
-    (a ≡ Are (four 7 6 1 3)) × (l' ≡ 0 ∷ 0 ∷ 0 ∷ 0 ∷ 0 ∷ 0 ∷ 0 ∷ 0 ∷ 0 ∷ 0 ∷ 0 ∷ 1 ∷ []) × (get_or n' 18 0 ≡ 7)
+pub year-8 : (l n l' n' : List ℕ) (a : Result Figures Reason) → CountsFigures 8 8 l n a l' n' →
+    (a ≡ Ok (four 7 6 1 3)) × (l' ≡ 0 ∷ 0 ∷ 0 ∷ 0 ∷ 0 ∷ 0 ∷ 0 ∷ 0 ∷ 0 ∷ 0 ∷ 0 ∷ 1 ∷ []) × (get_or n' 18 0 ≡ 7)
 unfolding computing
 year-8 l n l' n' a s =
     let c = computed 8 8 (good 8 8 (omega arith) (omega arith) (omega arith)) l n l' n' a s in
     (c.figures, c.by_number, ap (λ (m : List ℕ). get_or m 18 0) c.by_name)
 
-pub year-47 : (l n l' n' : List ℕ) (a : Figured) → CountsFigures 47 47 l n a l' n' → a ≡ Are (four 6 6 1 2)
+pub year-47 : (l n l' n' : List ℕ) (a : Result Figures Reason) → CountsFigures 47 47 l n a l' n' → a ≡ Ok (four 6 6 1 2)
 unfolding computing
 year-47 l n l' n' a s = (computed 47 47 (good 47 47 (omega arith) (omega arith) (omega arith)) l n l' n' a s).figures
 
-year-48 : (l n l' n' : List ℕ) (a : Figured) → CountsFigures 48 48 l n a l' n' → a ≡ Are (four 6 6 0 2)
+year-48 : (l n l' n' : List ℕ) (a : Result Figures Reason) → CountsFigures 48 48 l n a l' n' → a ≡ Ok (four 6 6 0 2)
 unfolding computing
 year-48 l n l' n' a s = (computed 48 48 (good 48 48 (omega arith) (omega arith) (omega arith)) l n l' n' a s).figures
 
-both-years : (l n l' n' : List ℕ) (a : Figured) → CountsFigures 47 48 l n a l' n' → a ≡ Are (four 12 12 1 4)
+both-years : (l n l' n' : List ℕ) (a : Result Figures Reason) → CountsFigures 47 48 l n a l' n' → a ≡ Ok (four 12 12 1 4)
 unfolding computing
 both-years l n l' n' a s = (computed 47 48 (good 47 48 (omega arith) (omega arith) (omega arith)) l n l' n' a s).figures
 
 -- at a range that is refused
-refused-range : (first last : ℕ) (l n l' n' : List ℕ) (a : Figured) (k : ℕ) → figures_at first last ≡ refused k → CountsFigures first last l n a l' n' →
-    (said_figured a ≡ refused k) × (l' ≡ l) × (n' ≡ n)
+refused-range : (first last : ℕ) (l n l' n' : List ℕ) (a : Result Figures Reason) (k : ℕ) → figures_at first last ≡ refused k → CountsFigures first last l n a l' n' →
+    (said a ≡ refused k) × (l' ≡ l) × (n' ≡ n)
 refused-range first last l n l' n' a k e s = (
   s.answered ∙ e,
   s.by_number ∙ ap (λ (x : Answer Figures). wholly_after x (leap_figures first last) l) e,
@@ -350,28 +335,28 @@ unfolding big_in small_in pairs_in
 wrong-figures =
     record {
       refusing-all = λ why l n l' n' s.
-          let e : Refused why ≡ Are (four 7 6 1 3) = (year-8 l n l' n' (Refused why) s).0 in let o : ◌≡◌ {A = ℕ} 0 1 = cc in omega arith;
-      pair-across-lost = λ b m e l n l' n' s. omega (arith, ap pairs_in (year-47 l n l' n' (Are (four b m 0 e)) s));
-      pair-across-twice = λ b m e l n l' n' s. omega (arith, ap pairs_in (year-48 l n l' n' (Are (four b m 1 e)) s));
-      pair-across-twice-in-whole = λ b m e l n l' n' s. omega (arith, ap pairs_in (both-years l n l' n' (Are (four b m 2 e)) s));
-      solstice-months = λ l n l' n' s. omega (arith, ap small_in (year-8 l n l' n' (Are (four 7 5 1 2)) s).0);
+          let e : Err why ≡ Ok (four 7 6 1 3) = (year-8 l n l' n' (Err why) s).0 in let o : ◌≡◌ {A = ℕ} 0 1 = cc in omega arith;
+      pair-across-lost = λ b m e l n l' n' s. omega (arith, ap pairs_in (year-47 l n l' n' (Ok (four b m 0 e)) s));
+      pair-across-twice = λ b m e l n l' n' s. omega (arith, ap pairs_in (year-48 l n l' n' (Ok (four b m 1 e)) s));
+      pair-across-twice-in-whole = λ b m e l n l' n' s. omega (arith, ap pairs_in (both-years l n l' n' (Ok (four b m 2 e)) s));
+      solstice-months = λ l n l' n' s. omega (arith, ap small_in (year-8 l n l' n' (Ok (four 7 5 1 2)) s).0);
       solstice-leaps = λ a l n n' s. omega (arith, ap (λ (m : List ℕ). get_or m 11 0) (year-8 l n _ n' a s).1);
       names-of-the-year-before = λ a l n l' n' e s. omega (arith, e, (year-8 l n l' n' a s).2);
       names-a-place-on = λ a l n l' n' e s. omega (arith, e, (year-8 l n l' n' a s).2);
-      exchanged = λ p e l n l' n' s. omega (arith, ap big_in (year-8 l n l' n' (Are (four 6 7 p e)) s).0);
+      exchanged = λ p e l n l' n' s. omega (arith, ap big_in (year-8 l n l' n' (Ok (four 6 7 p e)) s).0);
       leap-a-place-on = λ a l n n' s. omega (arith, ap (λ (m : List ℕ). get_or m 0 0) (year-8 l n _ n' a s).1);
-      first-year-alone = λ p e l n l' n' s. omega (arith, ap big_in (both-years l n l' n' (Are (four 6 6 p e)) s));
+      first-year-alone = λ p e l n l' n' s. omega (arith, ap big_in (both-years l n l' n' (Ok (four 6 6 p e)) s));
       left-as-it-was = λ a l n l' e s. omega (arith, e, (year-8 l n l' n a s).2);
       leaps-left-as-they-were = λ a l n n' h s. h (ap (λ (m : List ℕ). get_or m 11 0) (year-8 l n l n' a s).1);
       filled-though-refused = λ a l n l' n' h s. h (sym (ap (λ (m : List ℕ). get_or m 0 0) (refused-range 9 8 l n l' n' a 13 comes_back.0 s).1));
       names-though-refused = λ a l n l' n' h s. h (sym (ap (λ (m : List ℕ). get_or m 0 0) (refused-range 0 8 l n l' n' a 1 comes_back.1 s).2));
       year-0-let-in = λ f l n l' n' s.
-          let e : ◌≡◌ {A = Answer Figures} (is f) (refused 1) = (refused-range 0 8 l n l' n' (Are f) 1 comes_back.1 s).0 in
+          let e : ◌≡◌ {A = Answer Figures} (is f) (refused 1) = (refused-range 0 8 l n l' n' (Ok f) 1 comes_back.1 s).0 in
           let o : ◌≡◌ {A = ℕ} 0 1 = cc in omega arith;
       year-41040-let-in = λ f l n l' n' s.
-          let e : ◌≡◌ {A = Answer Figures} (is f) (refused 1) = (refused-range 8 41040 l n l' n' (Are f) 1 comes_back.2 s).0 in
+          let e : ◌≡◌ {A = Answer Figures} (is f) (refused 1) = (refused-range 8 41040 l n l' n' (Ok f) 1 comes_back.2 s).0 in
           let o : ◌≡◌ {A = ℕ} 0 1 = cc in omega arith;
       turned-round-first = λ l n l' n' s.
-          let e : ◌≡◌ {A = Answer Figures} (refused 13) (refused 1) = (refused-range 8 0 l n l' n' (Refused BadWindow) 1 comes_back.3 s).0 in
+          let e : ◌≡◌ {A = Answer Figures} (refused 13) (refused 1) = (refused-range 8 0 l n l' n' (Err BadWindow) 1 comes_back.3 s).0 in
           let o : ◌≡◌ {A = ℕ} 13 1 = cc in omega (arith, o);
     }

@@ -1,14 +1,12 @@
 -- What the request and its issue say of the yearbook's figures, as statements. proofs/Paper.antt proves each under the same name in small letters.
 -- Assumes nothing.
-use Rattle.std.specs.Prelude.{ℕ, ◌+◌, ◌-◌, ◌≤◌, ◌<◌, ◌≡◌, ◌↔◌, ◌⊎◌, ◌≢◌, Bool, true, ◌&&◌, List, [], ◌∷◌, length, get_or}
+use Rattle.std.specs.Prelude.{Result, Ok, Err, ℕ, ◌+◌, ◌-◌, ◌≤◌, ◌<◌, ◌≡◌, ◌↔◌, ◌⊎◌, ◌≢◌, Bool, true, ◌&&◌, List, [], ◌∷◌, length, get_or}
 use Rattle.rule.specs.Lists.{those}
 use Rattle.rule.specs.Reasons.{within}
 use Rattle.rule.specs.Rule.{month_of_day, big, pair_starts, leap, civil_year_of_month, civil_first_month, InCivilYear, eclipse}
 use Rattle.rule.specs.declared.Reason.{Reason}
 use Rattle.rule.specs.declared.Reason.TheVariants.{NoSuchYear, BadWindow}
 use Rattle.yearbook.specs.declared.Figures.{Figures}
-use Rattle.yearbook.specs.declared.Figured.{Figured}
-use Rattle.yearbook.specs.declared.Figured.TheVariants.{Are, Refused}
 use Rattle.yearbook.specs.Figures.{months_that, days_that, small, leap_numbered, has_name}
 use Rattle.yearbook.specs.Promise.{CountsFigures}
 
@@ -55,7 +53,7 @@ pub record AreFigures (first last : ℕ) (f : Figures) (leaps names : List ℕ) 
 abbrev pub FiguresCounted : Type 0
 FiguresCounted =
     (first last : ℕ) (f : Figures) (leaps names leaps' names' : List ℕ) →
-    CountsFigures first last leaps names (Are f) leaps' names' ↔ (GoodYears first last × AreFigures first last f leaps' names')
+    CountsFigures first last leaps names (Ok f) leaps' names' ↔ (GoodYears first last × AreFigures first last f leaps' names')
 
 -- a year outside 1 to 41,039
 abbrev pub Outside : ℕ → Type 0
@@ -73,13 +71,13 @@ FiguresFault first last why =
 abbrev pub ReasonsOfFigures : Type 0
 ReasonsOfFigures =
     (first last : ℕ) (leaps names leaps' names' : List ℕ) (why : Reason) →
-    CountsFigures first last leaps names (Refused why) leaps' names' ↔ (FiguresFault first last why × (leaps' ≡ leaps) × (names' ≡ names))
+    CountsFigures first last leaps names (Err why) leaps' names' ↔ (FiguresFault first last why × (leaps' ≡ leaps) × (names' ≡ names))
 
 -- "All lent memory stays as before the call" where it comes back
 abbrev pub RefusalChangesNothing : Type 0
 RefusalChangesNothing =
     (first last : ℕ) (leaps names leaps' names' : List ℕ) (why : Reason) →
-    CountsFigures first last leaps names (Refused why) leaps' names' → (leaps' ≡ leaps) × (names' ≡ names)
+    CountsFigures first last leaps names (Err why) leaps' names' → (leaps' ≡ leaps) × (names' ≡ names)
 
 -- the counts of a list together
 unfoldable pub sum_of : List ℕ → ℕ
@@ -95,7 +93,7 @@ pub record MakeUp (first last : ℕ) (f : Figures) (leaps names : List ℕ) : Ty
 abbrev pub FiguresMakeUp : Type 0
 FiguresMakeUp =
     (first last : ℕ) (f : Figures) (leaps names leaps' names' : List ℕ) →
-    CountsFigures first last leaps names (Are f) leaps' names' → MakeUp first last f leaps' names'
+    CountsFigures first last leaps names (Ok f) leaps' names' → MakeUp first last f leaps' names'
 
 -- figures of two ranges added: those of a third
 pub record AddUp (f g whole : Figures) (leaps leaps' all-leaps names names' all-names : List ℕ) : Type 0 where
@@ -111,8 +109,8 @@ pub record AddUp (f g whole : Figures) (leaps leaps' all-leaps names names' all-
 abbrev pub TwoRangesMeet : Type 0
 TwoRangesMeet =
     (first middle last : ℕ) (f g whole : Figures) (l l₁ n n₁ m m₁ o o₁ p p₁ q q₁ : List ℕ) →
-    CountsFigures first middle l n (Are f) l₁ n₁ → CountsFigures (middle + 1) last m o (Are g) m₁ o₁ →
-    CountsFigures first last p q (Are whole) p₁ q₁ → AddUp f g whole l₁ m₁ p₁ n₁ o₁ q₁
+    CountsFigures first middle l n (Ok f) l₁ n₁ → CountsFigures (middle + 1) last m o (Ok g) m₁ o₁ →
+    CountsFigures first last p q (Ok whole) p₁ q₁ → AddUp f g whole l₁ m₁ p₁ n₁ o₁ q₁
 
 -- a pair across the join behind civil year y: the last month of y starts it
 abbrev pub pair_across : ℕ → Bool
@@ -132,7 +130,7 @@ pub record AtTheEnd (first last : ℕ) (f : Figures) : Type 0 where
 abbrev pub PairInTheLastMonth : Type 0
 PairInTheLastMonth =
     (first last : ℕ) (f : Figures) (leaps names leaps' names' : List ℕ) →
-    CountsFigures first last leaps names (Are f) leaps' names' → AtTheEnd first last f
+    CountsFigures first last leaps names (Ok f) leaps' names' → AtTheEnd first last f
 
 -- "seventy-six years have 499 big, 441 small, 58 pairs and the leap months (3, 1, 3, 2, 3, 2, 2, 3, 2, 3, 1, 3) wherever they begin"
 pub record OfSeventySix (f : Figures) (leaps : List ℕ) : Type 0 where
@@ -144,12 +142,12 @@ pub record OfSeventySix (f : Figures) (leaps : List ℕ) : Type 0 where
 abbrev pub SeventySixYears : Type 0
 SeventySixYears =
     (first : ℕ) (f : Figures) (leaps names leaps' names' : List ℕ) →
-    CountsFigures first (first + 75) leaps names (Are f) leaps' names' → OfSeventySix f leaps'
+    CountsFigures first (first + 75) leaps names (Ok f) leaps' names' → OfSeventySix f leaps'
 
 -- one answer and one state of both arrays for each input
 abbrev pub UniqueFigures : Type 0
 UniqueFigures =
-    (first last : ℕ) (leaps names : List ℕ) (a b : Figured) (l n m o : List ℕ) →
+    (first last : ℕ) (leaps names : List ℕ) (a b : Result Figures Reason) (l n m o : List ℕ) →
     CountsFigures first last leaps names a l n → CountsFigures first last leaps names b m o → (a ≡ b) × (l ≡ m) × (n ≡ o)
 
 -- the four numbers of a range
@@ -159,8 +157,8 @@ four b s p e = record { big = b; small = s; pairs = p; eclipses = e }
 -- whatever is promised over a range is this
 abbrev pub Gives : ℕ → ℕ → Figures → List ℕ → Type 0
 Gives first last f by_number =
-    (leaps names leaps' names' : List ℕ) (a : Figured) →
-    CountsFigures first last leaps names a leaps' names' → (a ≡ Are f) × (leaps' ≡ by_number)
+    (leaps names leaps' names' : List ℕ) (a : Result Figures Reason) →
+    CountsFigures first last leaps names a leaps' names' → (a ≡ Ok f) × (leaps' ≡ by_number)
 
 -- figures worked out apart: "year 8 (7 big, 6 small, 1 pair, a leap 12, 3 eclipses), year 11 (7, 6, 1, a leap 9, 2), years 1 to 41,039 ..; years
 -- 9,368 to 9,460: 196 eclipses"
@@ -171,33 +169,33 @@ pub record KnownFigures : Type 0 where
       Gives 1 41039 (four 269453 238134 31319 86478)
       (1620 ∷ 540 ∷ 1620 ∷ 1080 ∷ 1620 ∷ 1080 ∷ 1080 ∷ 1620 ∷ 1080 ∷ 1619 ∷ 540 ∷ 1620 ∷ [])
   pub eclipses-of-004 :
-      (a : Figured) (leaps names leaps' names' : List ℕ) → CountsFigures 9368 9460 leaps names a leaps' names' →
-      (f : Figures) × (a ≡ Are f) × (f.eclipses ≡ 196)
+      (a : Result Figures Reason) (leaps names leaps' names' : List ℕ) → CountsFigures 9368 9460 leaps names a leaps' names' →
+      (f : Figures) × (a ≡ Ok f) × (f.eclipses ≡ 196)
 
 -- wrong versions, each shut out at a named input: one that refuses all; the pair that the last month of year 47 starts, lost; the same counted
 -- again with year 48; the months of solstice year 8 for those of civil year 8, which has the leap 12; the day names of year 7 for those of year
 -- 8, of which the 19th has seven days; the names a place on; big and small exchanged; the leap month a place on; the first year alone; arrays left as they were, or
 -- filled though the query comes back; year 0 and year 41,040 let in; 13 before 1
 pub record WrongFigures : Type 0 where
-  pub refusing-all : (why : Reason) (l n l' n' : List ℕ) → CountsFigures 8 8 l n (Refused why) l' n' → ⊥
-  pub pair-across-lost : (b s e : ℕ) (l n l' n' : List ℕ) → CountsFigures 47 47 l n (Are (four b s 0 e)) l' n' → ⊥
-  pub pair-across-twice : (b s e : ℕ) (l n l' n' : List ℕ) → CountsFigures 48 48 l n (Are (four b s 1 e)) l' n' → ⊥
-  pub pair-across-twice-in-whole : (b s e : ℕ) (l n l' n' : List ℕ) → CountsFigures 47 48 l n (Are (four b s 2 e)) l' n' → ⊥
-  pub solstice-months : (l n l' n' : List ℕ) → CountsFigures 8 8 l n (Are (four 7 5 1 2)) l' n' → ⊥
+  pub refusing-all : (why : Reason) (l n l' n' : List ℕ) → CountsFigures 8 8 l n (Err why) l' n' → ⊥
+  pub pair-across-lost : (b s e : ℕ) (l n l' n' : List ℕ) → CountsFigures 47 47 l n (Ok (four b s 0 e)) l' n' → ⊥
+  pub pair-across-twice : (b s e : ℕ) (l n l' n' : List ℕ) → CountsFigures 48 48 l n (Ok (four b s 1 e)) l' n' → ⊥
+  pub pair-across-twice-in-whole : (b s e : ℕ) (l n l' n' : List ℕ) → CountsFigures 47 48 l n (Ok (four b s 2 e)) l' n' → ⊥
+  pub solstice-months : (l n l' n' : List ℕ) → CountsFigures 8 8 l n (Ok (four 7 5 1 2)) l' n' → ⊥
   pub solstice-leaps :
-      (a : Figured) (l n n' : List ℕ) →
+      (a : Result Figures Reason) (l n n' : List ℕ) →
       CountsFigures 8 8 l n a (0 ∷ 0 ∷ 0 ∷ 0 ∷ 0 ∷ 0 ∷ 0 ∷ 0 ∷ 0 ∷ 0 ∷ 0 ∷ 0 ∷ []) n' → ⊥
-  pub names-of-the-year-before : (a : Figured) (l n l' n' : List ℕ) → get_or n' 18 0 ≡ 5 → CountsFigures 8 8 l n a l' n' → ⊥
-  pub names-a-place-on : (a : Figured) (l n l' n' : List ℕ) → get_or n' 18 0 ≡ 6 → CountsFigures 8 8 l n a l' n' → ⊥
-  pub exchanged : (p e : ℕ) (l n l' n' : List ℕ) → CountsFigures 8 8 l n (Are (four 6 7 p e)) l' n' → ⊥
+  pub names-of-the-year-before : (a : Result Figures Reason) (l n l' n' : List ℕ) → get_or n' 18 0 ≡ 5 → CountsFigures 8 8 l n a l' n' → ⊥
+  pub names-a-place-on : (a : Result Figures Reason) (l n l' n' : List ℕ) → get_or n' 18 0 ≡ 6 → CountsFigures 8 8 l n a l' n' → ⊥
+  pub exchanged : (p e : ℕ) (l n l' n' : List ℕ) → CountsFigures 8 8 l n (Ok (four 6 7 p e)) l' n' → ⊥
   pub leap-a-place-on :
-      (a : Figured) (l n n' : List ℕ) →
+      (a : Result Figures Reason) (l n n' : List ℕ) →
       CountsFigures 8 8 l n a (1 ∷ 0 ∷ 0 ∷ 0 ∷ 0 ∷ 0 ∷ 0 ∷ 0 ∷ 0 ∷ 0 ∷ 0 ∷ 0 ∷ []) n' → ⊥
-  pub first-year-alone : (p e : ℕ) (l n l' n' : List ℕ) → CountsFigures 47 48 l n (Are (four 6 6 p e)) l' n' → ⊥
-  pub left-as-it-was : (a : Figured) (l n l' : List ℕ) → get_or n 18 0 ≡ 0 → CountsFigures 8 8 l n a l' n → ⊥
-  pub leaps-left-as-they-were : (a : Figured) (l n n' : List ℕ) → get_or l 11 0 ≢ 1 → CountsFigures 8 8 l n a l n' → ⊥
-  pub filled-though-refused : (a : Figured) (l n l' n' : List ℕ) → get_or l 0 0 ≢ get_or l' 0 0 → CountsFigures 9 8 l n a l' n' → ⊥
-  pub names-though-refused : (a : Figured) (l n l' n' : List ℕ) → get_or n 0 0 ≢ get_or n' 0 0 → CountsFigures 0 8 l n a l' n' → ⊥
-  pub year-0-let-in : (f : Figures) (l n l' n' : List ℕ) → CountsFigures 0 8 l n (Are f) l' n' → ⊥
-  pub year-41040-let-in : (f : Figures) (l n l' n' : List ℕ) → CountsFigures 8 41040 l n (Are f) l' n' → ⊥
-  pub turned-round-first : (l n l' n' : List ℕ) → CountsFigures 8 0 l n (Refused BadWindow) l' n' → ⊥
+  pub first-year-alone : (p e : ℕ) (l n l' n' : List ℕ) → CountsFigures 47 48 l n (Ok (four 6 6 p e)) l' n' → ⊥
+  pub left-as-it-was : (a : Result Figures Reason) (l n l' : List ℕ) → get_or n 18 0 ≡ 0 → CountsFigures 8 8 l n a l' n → ⊥
+  pub leaps-left-as-they-were : (a : Result Figures Reason) (l n n' : List ℕ) → get_or l 11 0 ≢ 1 → CountsFigures 8 8 l n a l n' → ⊥
+  pub filled-though-refused : (a : Result Figures Reason) (l n l' n' : List ℕ) → get_or l 0 0 ≢ get_or l' 0 0 → CountsFigures 9 8 l n a l' n' → ⊥
+  pub names-though-refused : (a : Result Figures Reason) (l n l' n' : List ℕ) → get_or n 0 0 ≢ get_or n' 0 0 → CountsFigures 0 8 l n a l' n' → ⊥
+  pub year-0-let-in : (f : Figures) (l n l' n' : List ℕ) → CountsFigures 0 8 l n (Ok f) l' n' → ⊥
+  pub year-41040-let-in : (f : Figures) (l n l' n' : List ℕ) → CountsFigures 8 41040 l n (Ok f) l' n' → ⊥
+  pub turned-round-first : (l n l' n' : List ℕ) → CountsFigures 8 0 l n (Err BadWindow) l' n' → ⊥

@@ -1,5 +1,7 @@
 // The yearbook's figures: over a range of civil years the big and small months, big pairs, leap months by number, eclipse months, and the days of
 // each name. No month and no day of the range is walked.
+// A range is asked for in one word of a `requires` and by no type: rule's functions take plain numbers
+// (docs/DECISIONS.md, 263).
 #![tactic(auto)]
 
 ghost use Rattle.std.specs.Prelude.{◌≡◌, ◌%◌, ◌≤◌, ◌<◌, eqb};
@@ -11,19 +13,12 @@ ghost use Rattle.yearbook.specs.Promise.{CountsFigures};
 use rule::Reason;
 
 // How many big months, small months, big pairs and eclipse months there are.
-#[derive(Clone, Copy)]
+#[derive(Debug, Clone, Copy, PartialEq, Eq)]
 pub struct Figures {
     pub big: u32,
     pub small: u32,
     pub pairs: u32,
     pub eclipses: u32,
-}
-
-// The answer over a range of years: its figures, or why it comes back.
-#[derive(Clone, Copy)]
-pub enum Figured {
-    Are(Figures),
-    Refused(Reason),
 }
 
 // The leap months of a bu, counted from its head: 28 of its 940.
@@ -57,7 +52,8 @@ fn big_pairs(from: u32, to: u32) -> u32
     ends - begins - 59 * (to - from)
 }
 
-// How many of them are eclipse months: 23 in 135.
+// How many of them are eclipse months: 23 in 135. (A difference of two counts, as those above: over a closure that
+// counts up to a month, each would still say its own count, and what it takes off.)
 fn eclipse_months(from: u32, to: u32) -> u32
     requires { (from ≤ to) × (to ≤ 507600) }
     ensures { result ≡ passing eclipse from to }
@@ -80,12 +76,10 @@ fn leap_counts(from: u32, to: u32) -> [u32; 12]
 {
     let places = leap_places();
     let mut counts = [0u32; 12];
-    let mut i: usize = 0;
-    while i < 28 {
-        let place = places[i] as u32;
+    for &leap in &places {
+        let place = leap as u32;
         let at = rule::month_number(place) as usize - 1;
-        counts[at] = counts[at] + at_place(place, from, to);
-        i += 1;
+        counts[at] += at_place(place, from, to);
     }
     counts
 }
@@ -98,16 +92,14 @@ fn days_named(k: u32, from: u32, to: u32) -> u32
     (to + 60 - k) / 60 - (from + 60 - k) / 60
 }
 
-// How many days of each name there are.
+// How many days of each name there are. (Not one with `leap_counts`: there several places add to one number.)
 fn name_counts(from: u32, to: u32) -> [u32; 60]
     requires { (from ≤ to) × (to ≤ 14989860) }
     ensures { result ≡ names_from from to }
 {
     let mut counts = [0u32; 60];
-    let mut i: u32 = 0;
-    while i < 60 {
-        counts[i as usize] = days_named(i + 1, from, to);
-        i += 1;
+    for i in 0..60 {
+        counts[i] = days_named(i as u32 + 1, from, to);
     }
     counts
 }
@@ -119,7 +111,7 @@ fn figures_from(from: u32, to: u32) -> Figures
 {
     let big = big_months(from, to);
     Figures {
-        big: big,
+        big,
         small: to - from - big,
         pairs: big_pairs(from, to),
         eclipses: eclipse_months(from, to),
@@ -127,17 +119,22 @@ fn figures_from(from: u32, to: u32) -> Figures
 }
 
 // The figures of the civil years from first to last; the leap months by number and the days by name go into the lent arrays.
-pub fn figures_of(first: u32, last: u32, leaps: &mut [u32; 12], names: &mut [u32; 60]) -> Figured
+pub fn figures_of(
+    first: u32,
+    last: u32,
+    leaps: &mut [u32; 12],
+    names: &mut [u32; 60],
+) -> Result<Figures, Reason>
     ensures { CountsFigures first last leaps.old names.old result leaps.new names.new }
 {
     if !rule::in_range(1, 41039, first) {
-        return Figured::Refused(Reason::NoSuchYear);
+        return Err(Reason::NoSuchYear);
     }
     if !rule::in_range(1, 41039, last) {
-        return Figured::Refused(Reason::NoSuchYear);
+        return Err(Reason::NoSuchYear);
     }
     if last < first {
-        return Figured::Refused(Reason::BadWindow);
+        return Err(Reason::BadWindow);
     }
     let from = rule::civil_first_month(first as u16);
     let to = rule::civil_first_month((last + 1) as u16);
@@ -145,5 +142,5 @@ pub fn figures_of(first: u32, last: u32, leaps: &mut [u32; 12], names: &mut [u32
     *leaps = l;
     let n = name_counts(rule::month_start(from), rule::month_start(to));
     *names = n;
-    Figured::Are(figures_from(from, to))
+    Ok(figures_from(from, to))
 }

@@ -1,65 +1,70 @@
 -- `answers::answer_emend` meets its contract: what `emending::emend` says, told, and the lines of the emendations. Assumes nothing.
-use Prim.Native.Nat.{ℕ, ◌≤◌}
-use native.Mathlib.Omega.{arith}
-use mathlib.Core.Path.{◌≡◌, ap, ◌∙◌}
-use mathlib.Core.List.{List, ◌++◌}
-use lib.ListN.{length}
+use Rattle.std.specs.Prelude.{Result, Ok, Err}
+use Rattle.std.proofs.Common.{ℕ, ◌≤◌, ◌≡◌, List, ◌++◌, length, rules, arith, ap, append_assoc, ◌∙◌}
+use Rattle.emending.specs.declared.Emended.{Emended}
+use Rattle.reading.specs.declared.SearchError.{SearchError}
+use Rattle.reading.specs.Search.{said_found}
 use Rattle.reading.specs.declared.Reading.{Reading}
 use Rattle.reading.specs.Readings.{window_days}
-use Rattle.emending.specs.declared.Emended.{Emended}
 use Rattle.emending.specs.Faults.{emendations}
-use Rattle.emending.specs.Emended.{Outcome, emend_at, said_emended}
-use Rattle.fields.proofs.Putting.{put-kept, then, put_as}
-use Rattle.told.specs.Answers.{places, fits_line, emended_line, emendation_lines, outcome_text, emend_text}
-use Rattle.told.proofs.Telling.{tells}
+use Rattle.emending.specs.Emended.{emend_at}
+use Rattle.told.specs.Answers.{told, places, fits_line, emended_line, outcome_text, emend_text}
 use Rattle.told.proofs.Emending.{emended-alike, emended-list, emended-most, emended-inside}
+use Rattle.answers.proofs.Writing.{tells}
 use Rattle.answers.proofs.answer_emend.Goals as goal
 
 -- the text of an outcome
-abbrev text_of : Reading → ℕ → ℕ → Outcome → List ℕ
+abbrev text_of : Reading → ℕ → ℕ → Emended → List ℕ
 text_of r first last = outcome_text (emendations r first (window_days first last))
 
--- what the emendation promised, of a list with so many places as there are
-promised : (r : Reading) (first last : ℕ) (list : List ℕ) (x : Emended) → places ≤ length list → said_emended x ≡ emend_at r first last (length list) →
-    said_emended x ≡ emend_at r first last places
-promised r first last list x h e = e ∙ emended-alike r first last (length list) h
+-- the text of the emendation, by what it said
+says : (r : Reading) (first last : ℕ) (list : List ℕ) {x y : Result Emended SearchError} → places ≤ length list → said_found x ≡ emend_at r first last (length list) →
+    x ≡ y →
+    told (text_of r first last) (said_found y) ≡ emend_text r first last
+unfolding emend_text
+says r first last list h e g = tells (text_of r first last) said_found (e ∙ emended-alike r first last (length list) h) g
 
-pub put_emendations-requires : goal.put_emendations-requires
-unfolding emend_text fits_line emended_line
-put_emendations-requires c =
+pub write_emendations-requires : goal.write_emendations-requires
+write_emendations-requires g c =
     let s = c.emend.ensures in
-    let e = c.in-Are.is in (
-      emended-most s e,
-      emended-inside s e,
-      omega (arith, emended-most s e, put-kept c.put_total-to.ensures, c.put_total-to.ensures.few, c.requires.1),
-    )
+    let e = c.in-Ok-Are.is ∙ ap Ok c.in-Ok-Are.field-0-is in
+    (search rules, (emended-most s e, emended-inside s e, omega (arith, emended-most s e, c.write_total-in-Ok-Are.ensures.few, c.requires.1)))
 
-pub returns-in-Fits : goal.returns-in-Fits
-unfolding emend_text fits_line emended_line
-returns-in-Fits c =
+pub returns-in-Ok-Fits-clause-text : goal.returns-in-Ok-Fits-clause-text
+unfolding fits_line
+returns-in-Ok-Fits-clause-text g c =
     let a = c.args in
-    tells (text_of a.r a.first a.last) said_emended (promised a.r a.first a.last a.list.now _ c.requires.0 c.emend.ensures.answered) c.in-Fits.is
-    (omega arith) c.put_total.ensures
+    c.write_total.ensures.text
+    ∙ ap (λ (l : List ℕ). a.text.now ++ l)
+    (says a.r a.first a.last a.list.now c.requires.0 c.emend.ensures.answered (c.in-Ok-Fits.is ∙ ap Ok c.in-Ok-Fits.field-0-is))
 
-pub returns-in-Are : goal.returns-in-Are
-unfolding emend_text fits_line emended_line
-returns-in-Are c =
+pub returns-in-Ok-Are-clause-text : goal.returns-in-Ok-Are-clause-text
+unfolding emended_line
+returns-in-Ok-Are-clause-text g c =
     let a = c.args in
     let s = c.emend.ensures in
-    let e = c.in-Are.is in
-    tells (text_of a.r a.first a.last) said_emended (promised a.r a.first a.last a.list.now _ c.requires.0 s.answered) e (omega (arith, emended-most s e))
-    (put_as (ap (λ (l : List ℕ). emended_line c.in-Are.n ++ emendation_lines l) (emended-list s e)) (then c.put_total-to.ensures c.put_emendations.ensures))
+    let e = c.in-Ok-Are.is ∙ ap Ok c.in-Ok-Are.field-0-is in
+    rw (
+      c.write_emendations.ensures.text,
+      c.write_total-in-Ok-Are.ensures.text,
+      ← says a.r a.first a.last a.list.now c.requires.0 s.answered e,
+      emended-list s e,
+    ) (simp append_assoc)
 
-pub returns-in-TooShort : goal.returns-in-TooShort
-unfolding emend_text fits_line emended_line
-returns-in-TooShort c =
-    let a = c.args in
-    tells (text_of a.r a.first a.last) said_emended (promised a.r a.first a.last a.list.now _ c.requires.0 c.emend.ensures.answered) c.in-TooShort.is
-    (omega arith) c.put_refusal.ensures
+pub returns-in-Ok-Are-clause-few : goal.returns-in-Ok-Are-clause-few
+returns-in-Ok-Are-clause-few g c =
+    omega (arith, emended-most c.emend.ensures (c.in-Ok-Are.is ∙ ap Ok c.in-Ok-Are.field-0-is))
 
-pub returns-in-Refused : goal.returns-in-Refused
-unfolding emend_text fits_line emended_line
-returns-in-Refused c =
+pub returns-in-Err-TooShort-clause-text : goal.returns-in-Err-TooShort-clause-text
+returns-in-Err-TooShort-clause-text g c =
     let a = c.args in
-    tells (text_of a.r a.first a.last) said_emended (promised a.r a.first a.last a.list.now _ c.requires.0 c.emend.ensures.answered) c.in-Refused.is
-    (omega arith) c.put_refusal-in-Refused.ensures
+    c.write_refusal.ensures.text
+    ∙ ap (λ (l : List ℕ). a.text.now ++ l)
+    (says a.r a.first a.last a.list.now c.requires.0 c.emend.ensures.answered (c.in-Err-TooShort.is ∙ ap Err c.in-Err-TooShort.field-0-is))
+
+pub returns-in-Err-Refused-clause-text : goal.returns-in-Err-Refused-clause-text
+returns-in-Err-Refused-clause-text g c =
+    let a = c.args in
+    c.write_refusal-in-Err-Refused.ensures.text
+    ∙ ap (λ (l : List ℕ). a.text.now ++ l)
+    (says a.r a.first a.last a.list.now c.requires.0 c.emend.ensures.answered (c.in-Err-Refused.is ∙ ap Err c.in-Err-Refused.field-0-is))

@@ -7,4 +7,4 @@ use Rattle.capi.proofs.oes_clerk_start.Goals as goal
 
 pub returns : goal.returns
 returns c =
-    asked-one flat_clerk start_at capped-alike.start c.cap.ensures c.start.ensures c.flat_clerk.ensures
+    asked-one flat_clerk start_at capped-alike.start c.cap.ensures c.start.ensures c.flat.ensures

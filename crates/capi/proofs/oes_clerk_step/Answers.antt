@@ -4,4 +4,4 @@ use Rattle.offered.specs.Flat.{flat_clerk}
 use Rattle.capi.proofs.oes_clerk_step.Goals as goal
 
 pub returns : goal.returns
-returns c = c.flat_clerk.ensures ∙ ap flat_clerk c.step.ensures
+returns c = c.flat.ensures ∙ ap flat_clerk c.step.ensures

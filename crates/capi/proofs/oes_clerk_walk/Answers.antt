@@ -7,4 +7,4 @@ use Rattle.capi.proofs.oes_clerk_walk.Goals as goal
 
 pub returns : goal.returns
 returns c =
-    asked-two flat_clerk walked capped-alike.walk c.cap.ensures c.cap-2.ensures c.walk.ensures c.flat_clerk.ensures
+    asked-two flat_clerk walked capped-alike.walk c.cap.ensures c.cap-2.ensures c.walk.ensures c.flat.ensures

@@ -7,4 +7,4 @@ use Rattle.capi.proofs.oes_conjunction.Goals as goal
 
 pub returns : goal.returns
 returns c =
-    let k = c.args.k in asked-one flat_conjunction (λ p. conjunction_at p k) (λ p. capped-alike.planet p k) c.cap.ensures c.kth_conjunction.ensures c.flat_conjunction.ensures
+    let k = c.args.k in asked-one flat_conjunction (λ p. conjunction_at p k) (λ p. capped-alike.planet p k) c.cap.ensures c.kth_conjunction.ensures c.flat.ensures

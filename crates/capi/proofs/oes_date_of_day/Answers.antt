@@ -7,4 +7,4 @@ use Rattle.capi.proofs.oes_date_of_day.Goals as goal
 
 pub returns : goal.returns
 returns c =
-    asked-one flat_date date_at capped-alike.date c.cap.ensures c.date_of_day.ensures c.flat_date.ensures
+    asked-one flat_date date_at capped-alike.date c.cap.ensures c.date_of_day.ensures c.flat.ensures

@@ -7,4 +7,4 @@ use Rattle.capi.proofs.oes_month_facts.Goals as goal
 
 pub returns : goal.returns
 returns c =
-    asked-one flat_month month_facts_at capped-alike.month c.cap.ensures c.month_facts.ensures c.flat_month.ensures
+    asked-one flat_month month_facts_at capped-alike.month c.cap.ensures c.month_facts.ensures c.flat.ensures

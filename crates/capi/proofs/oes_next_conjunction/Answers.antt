@@ -7,4 +7,4 @@ use Rattle.capi.proofs.oes_next_conjunction.Goals as goal
 
 pub returns : goal.returns
 returns c =
-    asked-two flat_next next_at capped-alike.next c.cap.ensures c.cap-2.ensures c.next_conjunction.ensures c.flat_next.ensures
+    asked-two flat_next next_at capped-alike.next c.cap.ensures c.cap-2.ensures c.next_conjunction.ensures c.flat.ensures

@@ -5,4 +5,4 @@ use Rattle.capi.proofs.oes_print_day.Goals as goal
 
 pub returns : goal.returns
 returns c =
-    printed-asked day_item_at day-printed c.cap.ensures c.print_day.ensures c.flat_length.ensures
+    printed-asked day_item_at day-printed c.cap.ensures c.print_day.ensures c.flat.ensures

@@ -5,4 +5,4 @@ use Rattle.capi.proofs.oes_print_month.Goals as goal
 
 pub returns : goal.returns
 returns c =
-    printed-asked month_item_at month-printed c.cap.ensures c.print_month.ensures c.flat_length.ensures
+    printed-asked month_item_at month-printed c.cap.ensures c.print_month.ensures c.flat.ensures

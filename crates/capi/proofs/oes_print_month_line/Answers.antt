@@ -5,4 +5,4 @@ use Rattle.capi.proofs.oes_print_month_line.Goals as goal
 
 pub returns : goal.returns
 returns c =
-    printed-asked month_line_at line-printed c.cap.ensures c.print_month_line.ensures c.flat_length.ensures
+    printed-asked month_line_at line-printed c.cap.ensures c.print_month_line.ensures c.flat.ensures

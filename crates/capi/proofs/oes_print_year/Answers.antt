@@ -5,4 +5,4 @@ use Rattle.capi.proofs.oes_print_year.Goals as goal
 
 pub returns : goal.returns
 returns c =
-    printed-asked year_block_at year-printed c.cap.ensures c.print_year.ensures c.flat_length.ensures
+    printed-asked year_block_at year-printed c.cap.ensures c.print_year.ensures c.flat.ensures

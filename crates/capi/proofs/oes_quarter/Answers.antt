@@ -7,4 +7,4 @@ use Rattle.capi.proofs.oes_quarter.Goals as goal
 
 pub returns : goal.returns
 returns c =
-    asked-two flat_quarter quarter_at capped-alike.quarter c.cap.ensures c.cap-2.ensures c.quarter.ensures c.flat_quarter.ensures
+    asked-two flat_quarter quarter_at capped-alike.quarter c.cap.ensures c.cap-2.ensures c.quarter.ensures c.flat.ensures

@@ -5,4 +5,4 @@ use Rattle.capi.proofs.oes_read_new.Goals as goal
 
 pub returns : goal.returns
 returns c =
-    let w = c.read_new.ensures in record { answer = c.flat_four.ensures ∙ ap flat_four w.answer; years = w.years; months = w.months; days = w.days; readings = w.readings }
+    let w = c.read_new.ensures in record { answer = c.flat.ensures ∙ ap flat_four w.answer; years = w.years; months = w.months; days = w.days; readings = w.readings }

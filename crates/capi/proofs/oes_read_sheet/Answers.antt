@@ -5,4 +5,4 @@ use Rattle.capi.proofs.oes_read_sheet.Goals as goal
 
 pub returns : goal.returns
 returns c =
-    let w = c.read_sheet.ensures in record { answer = c.flat_counts.ensures ∙ ap flat_counts w.answer; years = w.years; months = w.months; days = w.days }
+    let w = c.read_sheet.ensures in record { answer = c.flat.ensures ∙ ap flat_counts w.answer; years = w.years; months = w.months; days = w.days }

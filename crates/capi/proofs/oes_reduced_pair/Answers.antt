@@ -8,4 +8,4 @@ use Rattle.capi.proofs.oes_reduced_pair.Goals as goal
 
 pub returns : goal.returns
 returns c =
-    let p = c.reduced_pair in asked-one flat_pair pair_at capped-alike.pair c.cap.ensures ((as-printed _ p.result).0 p.ensures) c.flat_pair.ensures
+    let p = c.reduced_pair in asked-one flat_pair pair_at capped-alike.pair c.cap.ensures ((as-printed _ p.result).0 p.ensures) c.flat.ensures

@@ -7,4 +7,4 @@ use Rattle.capi.proofs.oes_solstice_year.Goals as goal
 
 pub returns : goal.returns
 returns c =
-    asked-one flat_solstice solstice_year_at capped-alike.solstice c.cap.ensures c.solstice_year.ensures c.flat_solstice.ensures
+    asked-one flat_solstice solstice_year_at capped-alike.solstice c.cap.ensures c.solstice_year.ensures c.flat.ensures

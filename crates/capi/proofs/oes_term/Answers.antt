@@ -7,4 +7,4 @@ use Rattle.capi.proofs.oes_term.Goals as goal
 
 pub returns : goal.returns
 returns c =
-    asked-two flat_term term_at capped-alike.term c.cap.ensures c.cap-2.ensures c.term.ensures c.flat_term.ensures
+    asked-two flat_term term_at capped-alike.term c.cap.ensures c.cap-2.ensures c.term.ensures c.flat.ensures

@@ -5,4 +5,4 @@ use Rattle.capi.proofs.oes_write_sheet.Goals as goal
 
 pub returns : goal.returns
 returns c =
-    let w = c.write_sheet.ensures in record { answer = c.flat_length.ensures ∙ ap flat_length w.answer; buffer = w.buffer }
+    let w = c.write_sheet.ensures in record { answer = c.flat.ensures ∙ ap flat_length w.answer; buffer = w.buffer }

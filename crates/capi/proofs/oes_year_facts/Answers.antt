@@ -7,4 +7,4 @@ use Rattle.capi.proofs.oes_year_facts.Goals as goal
 
 pub returns : goal.returns
 returns c =
-    asked-one flat_year year_facts_at capped-alike.year c.cap.ensures c.year_facts.ensures c.flat_year.ensures
+    asked-one flat_year year_facts_at capped-alike.year c.cap.ensures c.year_facts.ensures c.flat.ensures

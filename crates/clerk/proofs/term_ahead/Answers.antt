@@ -5,14 +5,14 @@ use mathlib.Core.Path.{◌≡◌}
 use Rattle.clerk.specs.Clerk.{over}
 use Rattle.clerk.proofs.Carries.{over_below, over-over, term_made}
 use Rattle.clerk.proofs.term_ahead.Goals as goal
-use Rattle.clerk.proofs.term_ahead.Goals.{then-parts-lt25, else-parts-lt25}
+use Rattle.clerk.proofs.term_ahead.Goals.{then-t-lt25, else-t-lt25}
 
 pub returns : goal.returns
 returns c =
     let t = c.args.t in
-    let day : c.if-parts-lt25.day ≡ t.day + 15 + over 32 (t.parts + 7) =
-    elim c.if-parts-lt25.branch [
-      | then-parts-lt25 w ↦ omega (arith, w.day-is, over_below 32 (t.parts + 7) (omega (arith, w.if-parts-lt25.true)))
-      | else-parts-lt25 w ↦ omega (arith, w.day-is, over-over 32 (t.parts + 7) (omega (arith, w.if-parts-lt25.false)))
+    let day : c.if-t-lt25.day ≡ t.day + 15 + over 32 (t.parts + 7) =
+    elim c.if-t-lt25.branch [
+      | then-t-lt25 w ↦ omega (arith, w.day-is, over_below 32 (t.parts + 7) (omega (arith, w.if-t-lt25.true)))
+      | else-t-lt25 w ↦ omega (arith, w.day-is, over-over 32 (t.parts + 7) (omega (arith, w.if-t-lt25.false)))
     ] in
-    term_made t c.if-parts-lt25.day c.carry_parts.result day c.carry_parts.ensures
+    term_made t c.if-t-lt25.day c.carry_parts.result day c.carry_parts.ensures

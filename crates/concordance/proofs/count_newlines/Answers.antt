@@ -9,23 +9,15 @@ overflow_add-n c =
       fits = omega (
         arith,
         c.newline-n.ensures,
-        newline-next c.args.text.now c.loop-i.i c.loop-i-test.true,
+        newline-next c.args.text.now c.loop-b.b-index c.loop-b-test.true,
         newlines-few c.args.text.now,
+        c.loop-b.invariant,
       );
     }
 
-pub loop-i-preserved : goal.loop-i-preserved
-loop-i-preserved c = (
-  omega (arith, c.loop-i-test.true),
-  omega (
-    arith,
-    c.newline-n.ensures,
-    newline-next c.args.text.now c.loop-i.i
-        c.loop-i-test.true,
-    c.loop-i.invariant.1,
-  ),
-)
+pub loop-b-preserved : goal.loop-b-preserved
+loop-b-preserved c =
+    omega (arith, c.newline-n.ensures, newline-next c.args.text.now c.loop-b.b-index c.loop-b-test.true, c.loop-b.invariant)
 
 pub returns : goal.returns
-returns c =
-    omega (arith, c.loop-i.invariant.1, newline-none c.args.text.now c.loop-i.i c.loop-i-test.false)
+returns c = omega (arith, c.loop-b.invariant, newline-none c.args.text.now c.loop-b.b-index c.loop-b-test.false)

@@ -1,10 +1,7 @@
 -- `concordance::fill` meets its contract: i verdicts are stored where place is the start of line i. Assumes nothing.
-use Rattle.std.proofs.Common.{◌≡◌, ◌-◌, length}
+use Rattle.std.proofs.Common.{◌≡◌, length}
 use Rattle.concordance.proofs.Filling.{Filling}
 use Rattle.concordance.proofs.fill.Given as goal
 
-abbrev pub invariant-loop-place : goal.invariant-loop-place
-invariant-loop-place l = Filling l.text l.initial.out l.out l.place l.i × (length l.out ≡ length l.initial.out)
-
-abbrev pub decreases-loop-place : goal.decreases-loop-place
-decreases-loop-place l = length l.text - l.place
+abbrev pub invariant-loop-i : goal.invariant-loop-i
+invariant-loop-i l = Filling l.text l.initial.out l.out l.place l.i × (length l.out ≡ length l.initial.out)

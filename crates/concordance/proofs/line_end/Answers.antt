@@ -4,16 +4,16 @@ use lib.ListN.{get_or}
 use Rattle.concordance.proofs.Lines.{len-le, len-pass, len-stop}
 use Rattle.concordance.proofs.line_end.Goals as goal
 
-pub returns-then-text-i-eq10 : goal.returns-then-text-i-eq10
-returns-then-text-i-eq10 c =
-    let newline : get_or c.args.text.now c.loop-i.i 0 ≡ 10 = omega (arith, c.if-text-i-eq10.true) in
-    omega (arith, len-stop c.args.text.now c.loop-i.i (omega arith) (eq-eqb _ _ newline))
+pub returns-then-text-to-eq10 : goal.returns-then-text-to-eq10
+returns-then-text-to-eq10 c =
+    let newline : get_or c.args.text.now c.loop-to.to 0 ≡ 10 = omega (arith, c.if-text-to-eq10.true) in
+    omega (arith, len-stop c.args.text.now c.loop-to.to (omega arith) (eq-eqb _ _ newline))
 
-pub loop-i-preserved : goal.loop-i-preserved
-loop-i-preserved c =
-    let other : get_or c.args.text.now c.loop-i.i 0 ≢ 10 = omega (arith, c.if-text-i-eq10.false) in
-    omega (arith, len-pass c.args.text.now c.loop-i.i (omega arith) (ne_eqb _ _ other))
+pub loop-to-preserved : goal.loop-to-preserved
+loop-to-preserved c =
+    let other : get_or c.args.text.now c.loop-to.to 0 ≢ 10 = omega (arith, c.if-text-to-eq10.false) in
+    omega (arith, len-pass c.args.text.now c.loop-to.to (omega arith) (ne_eqb _ _ other))
 
 pub returns : goal.returns
 returns c =
-    omega (arith, len-le (drop c.loop-i.i c.args.text.now), length-drop c.loop-i.i c.args.text.now)
+    omega (arith, len-le (drop c.loop-to.to c.args.text.now), length-drop c.loop-to.to c.args.text.now)

@@ -1,14 +1,12 @@
 -- `drawer::all_in_range` meets its contract: what was found of the days before, and the days that are left, decide. Assumes nothing.
-use Rattle.std.proofs.Common.{sym, ◌∙◌, arith}
+use Rattle.std.proofs.Common.{sym, ◌∙◌}
 use Rattle.drawer.proofs.Days.{all_here, all_past}
 use Rattle.drawer.proofs.all_in_range.Goals as goal
 
-pub loop-i-preserved : goal.loop-i-preserved
-loop-i-preserved c =
-    let loop = c.loop-i in
-    (omega arith, loop.invariant.1 ∙ all_here c.args.days.now loop.i loop.good (omega arith))
+pub loop-day-preserved : goal.loop-day-preserved
+loop-day-preserved c =
+    let l = c.loop-day in l.invariant ∙ all_here c.args.days.now l.day-index l.good c.loop-day-test.true
 
 pub returns : goal.returns
 returns c =
-    let loop = c.loop-i in
-    sym (loop.invariant.1 ∙ all_past c.args.days.now loop.i loop.good (omega arith))
+    let l = c.loop-day in sym (l.invariant ∙ all_past c.args.days.now l.day-index l.good c.loop-day-test.false)

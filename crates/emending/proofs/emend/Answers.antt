@@ -1,30 +1,32 @@
 -- `emending::emend` meets its contract: the tests' refusal, the days that fit, or the emendations. Assumes nothing.
+use Rattle.std.specs.Prelude.{Ok, Err}
 use native.Mathlib.Omega.{arith}
 use Prim.Native.Nat.{◌+◌, ◌-◌, ◌/◌, ◌≤◌, ◌<◌}
-use mathlib.Core.Path.{◌≡◌, refl, ap, sym, ◌∙◌}
+use mathlib.Core.Path.{◌≡◌, refl, ap, ◌∙◌}
 use lib.ListN.{length}
 use Rattle.rule.specs.Lists.{placed}
 use Rattle.reading.specs.Readings.{fitting}
-use Rattle.reading.specs.Search.{said_tested}
+use Rattle.std.proofs.lemmas.Result.{err_from_is_err_and}
 use Rattle.reading.proofs.Answered.{Passed, window-true, test-holds}
-use Rattle.emending.specs.declared.Emended.TheVariants.{Fits, Are, TooShort, Refused}
+use Rattle.emending.specs.declared.Emended.TheVariants.{Fits, Are}
+use Rattle.reading.specs.declared.SearchError.TheVariants.{TooShort, Refused}
 use Rattle.emending.specs.Faults.{emendations}
 use Rattle.emending.proofs.Passing.{emended-four, emended-few}
 use Rattle.emending.proofs.Answered.{made, fails, some_fit, too_short, enough}
 use Rattle.emending.proofs.emend.Goals as goal
-use Rattle.emending.proofs.emend.Goals.{In_default, Else-fits-gt0, Joined-out-end, then-out-end+else-out-numbers, else-out-end}
+use Rattle.emending.proofs.emend.Goals.{In_ok-test_search, Else-fits-gt0, Joined-out-end, then-out-end+else-out-numbers, else-out-end}
 
-pub returns-in-Fails : goal.returns-in-Fails
-returns-in-Fails c =
-    let no-good = sym (ap said_tested c.in-Fails.is) ∙ c.test_search-tested.ensures in
-    made (Refused c.in-Fails.why) (fails _ _ _ _ c.in-Fails.why no-good) refl refl
+pub returns-in_err-test_search : goal.returns-in_err-test_search
+returns-in_err-test_search c =
+    let p = err_from_is_err_and c.from_residual.result c.from_residual.ensures.1 in
+    rw (p.1, p.2) (made (Err (Refused c.in_err-test_search.field-0.0)) (fails _ _ _ _ _ c.in_err-test_search.ensures) refl refl)
 
 -- the tests hold
-good : (c : In_default) → let a = c.args in Passed a.r a.first a.last
-good c = test-holds _ _ _ (sym (ap said_tested c.in_default.is) ∙ c.test_search-tested.ensures)
+good : (c : In_ok-test_search) → let a = c.args in Passed a.r a.first a.last
+good c = test-holds _ _ _ c.in_ok-test_search.ensures
 
 -- the window has a day, and ends in the range
-some : (c : In_default) → let a = c.args in (a.first < a.last + 1) × (a.last + 1 ≤ 14989860)
+some : (c : In_ok-test_search) → let a = c.args in (a.first < a.last + 1) × (a.last + 1 ≤ 14989860)
 some c =
     let a = c.args in
     omega (arith, (window-true a.first a.last).0 (good c).window, (good c).ends)
@@ -34,7 +36,7 @@ none-fits : (c : Else-fits-gt0) → let a = c.args in 0 ≡ length (fitting a.r 
 none-fits c = omega (arith, c.count_window-fits.ensures, c.if-fits-gt0.false)
 
 -- so few emendations that their numbers keep their values
-few : (c : In_default) → let a = c.args in length (emendations a.r a.first (a.last + 1 - a.first)) ≤ 59959440
+few : (c : In_ok-test_search) → let a = c.args in length (emendations a.r a.first (a.last + 1 - a.first)) ≤ 59959440
 few c =
     let a = c.args in
     let k = a.last + 1 - a.first in
@@ -59,22 +61,22 @@ kept c s =
 pub returns-then-fits-gt0 : goal.returns-then-fits-gt0
 returns-then-fits-gt0 c =
     let count = c.count_window-fits in
-    made (Fits count.result)
-    (some_fit _ _ _ _ (good (goal.at.returns-then-fits-gt0 c).In_default) count.result count.ensures c.if-fits-gt0.true)
+    made (Ok (Fits count.result))
+    (some_fit _ _ _ _ (good (goal.at.returns-then-fits-gt0 c).In_ok-test_search) count.result count.ensures c.if-fits-gt0.true)
     refl refl
 
 pub returns-then-out-numbers : goal.returns-then-out-numbers
 returns-then-out-numbers c =
     let at = goal.at.returns-then-out-numbers c in
     let numbers = c.emend_window-numbers in
-    made (TooShort (numbers.result / 4))
-    (too_short _ _ _ _ (good at.In_default) (none-fits at.Else-fits-gt0) numbers.result numbers.ensures.0 (omega arith))
+    made (Err (TooShort (numbers.result / 4)))
+    (too_short _ _ _ _ (good at.In_ok-test_search) (none-fits at.Else-fits-gt0) numbers.result numbers.ensures.0 (omega arith))
     refl numbers.ensures.1
 
 pub emend_window-requires : goal.emend_window-requires
 emend_window-requires c =
     let at = goal.at.emend_window-requires c in
-    let s = some at.In_default in
+    let s = some at.In_ok-test_search in
     let k = kept at.Joined-out-end s in
     (s.0, s.1, λ w. omega (arith, k.1, ap length k.0))
 
@@ -83,13 +85,13 @@ returns c =
     let a = c.args in
     let at = goal.at.returns c in
     let k = c.emend_window.result in
-    let same = kept at.Joined-out-end (some at.In_default) in
-    made (Are (k / 4))
-    (enough _ _ _ _ (good at.In_default) (none-fits at.Else-fits-gt0) k c.emend_window.ensures.0 (omega (arith, same.1, c.emend_window.ensures.0)))
+    let same = kept at.Joined-out-end (some at.In_ok-test_search) in
+    made (Ok (Are (k / 4)))
+    (enough _ _ _ _ (good at.In_ok-test_search) (none-fits at.Else-fits-gt0) k c.emend_window.ensures.0 (omega (arith, same.1, c.emend_window.ensures.0)))
     refl (c.emend_window.ensures.1 ∙ ap (placed (emendations a.r a.first (a.last + 1 - a.first))) same.0)
 
 pub overflow_cast-result : goal.overflow_cast-result
-overflow_cast-result c = omega (arith, c.emend_window-numbers.ensures.0, few (goal.at.overflow_cast-result c).In_default)
+overflow_cast-result c = omega (arith, c.emend_window-numbers.ensures.0, few (goal.at.overflow_cast-result c).In_ok-test_search)
 
 pub overflow_cast-result-2 : goal.overflow_cast-result-2
-overflow_cast-result-2 c = omega (arith, c.emend_window.ensures.0, few (goal.at.overflow_cast-result-2 c).In_default)
+overflow_cast-result-2 c = omega (arith, c.emend_window.ensures.0, few (goal.at.overflow_cast-result-2 c).In_ok-test_search)

@@ -30,6 +30,11 @@ loop-day-init c =
 pub part_end-to-requires : goal.part_end-to-requires
 part_end-to-requires c = walk-month c.requires.0 c.loop-day.invariant.0 c.requires.1 c.loop-day-test.true
 
+pub invariant_of-part : goal.invariant_of-part
+invariant_of-part c =
+    let p = c.requires in
+    record { of_month = walk-part p.0 c.loop-day.invariant.0 c.loop-day-test.true c.part_end-to.ensures p.1 }
+
 pub emend_month-k-requires : goal.emend_month-k-requires
 emend_month-k-requires c =
     let l = c.loop-day in
@@ -39,7 +44,6 @@ emend_month-k-requires c =
     let test = c.loop-day-test.true in
     let on = walk-goes-on p.0 l.invariant.0 test to.ensures in
     let inside = walk_inside p.0 l.invariant.0 in (
-      walk-part p.0 l.invariant.0 test to.ensures p.1,
       omega (
         arith,
         on,

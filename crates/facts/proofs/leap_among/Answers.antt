@@ -1,24 +1,22 @@
--- `facts::leap_among` meets its contract. The invariant: none of the first i months is leap. Assumes nothing.
-use Rattle.facts.specs.declared.LeapMonth.TheVariants.{With}
-use Prim.Native.Nat.{ℕ, ◌+◌}
+-- `facts::leap_among` meets its contract. The invariant: none of the months before this one is leap. Assumes nothing.
+use Rattle.std.specs.Prelude.{Some}
+use Prim.Native.Nat.{ℕ}
 use native.Mathlib.Omega.{arith}
-use mathlib.Core.Path.{refl, ap, sym, ◌∙◌}
-use Rattle.rule.specs.Lists.{those}
-use Rattle.facts.proofs.Leaps.{found, still-none}
+use mathlib.Core.Path.{ap, sym, ◌∙◌}
+use Rattle.facts.proofs.Leaps.{none-yet, found, still-none}
 use Rattle.facts.proofs.leap_among.Goals as goal
 
-pub loop-i-init : goal.loop-i-init
-unfolding those
-loop-i-init c = (omega arith, refl)
+pub loop-month-init : goal.loop-month-init
+loop-month-init c = none-yet c.args.first _ (omega arith)
 
 pub returns-then-is_leap : goal.returns-then-is_leap
 returns-then-is_leap c =
     let a = c.args in
-    let hit = sym c.is_leap.ensures ∙ c.if-is_leap.true in
-    ap (λ (k : ℕ). With k (a.first + c.loop-i.i)) c.month_number.ensures
-    ∙ sym (found a.first a.months c.loop-i.i c.loop-i.invariant.1 (omega arith) hit)
+    let l = c.loop-month in
+    ap (λ (k : ℕ). Some (record { number = k; month = l.month })) c.month_number.ensures
+    ∙ sym (found a.first a.months l.month (omega (arith, l.auto.month)) l.invariant c.loop-month-test.true (sym c.is_leap.ensures ∙ c.if-is_leap.true))
 
-pub loop-i-preserved : goal.loop-i-preserved
-loop-i-preserved c =
-    let a = c.args in
-    (omega arith, still-none a.first a.months c.loop-i.i c.loop-i.invariant.1 (sym c.is_leap.ensures ∙ c.if-is_leap.false))
+pub loop-month-preserved : goal.loop-month-preserved
+loop-month-preserved c =
+    let l = c.loop-month in
+    still-none c.args.first c.args.months l.month (omega (arith, l.auto.month)) l.invariant (sym c.is_leap.ensures ∙ c.if-is_leap.false)

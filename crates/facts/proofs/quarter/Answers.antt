@@ -25,8 +25,8 @@ returns-then-q-gt3 c =
     (passes (leb a.n 507599) 7 _ (le-leb a.n 507599 (omega arith))
     ∙ stops (leb a.q 3) 15 (is (quarter_of a.n a.q)) (lt-leb a.q 3 (omega arith)))
 
-pub returns : goal.returns
-returns c =
+pub returns-else-q-gt3 : goal.returns-else-q-gt3
+returns-else-q-gt3 c =
     let a = c.args in
     ap is (quarter-made a.n a.q c.quarter_of.result c.quarter_of.ensures)
     ∙ sym (quarter-given a.n a.q (omega arith) (omega arith))

@@ -1,14 +1,9 @@
 -- `forms::end_of` meets its contract. The invariant: no space so far. Assumes nothing.
-use Prim.Native.Nat.{◌-◌, ◌≤◌}
+use Prim.Native.Nat.{◌+◌}
 use mathlib.Core.Path.{◌≡◌}
 use lib.ListN.{length, drop}
-use Prim.Native.Nat.{◌+◌}
 use Rattle.forms.specs.Forms.{first_field}
 use Rattle.forms.proofs.end_of.Given as goal
 
 abbrev pub invariant-loop-to : goal.invariant-loop-to
-invariant-loop-to l =
-    (l.to ≤ length l.s) × (l.to + length (first_field (drop l.to l.s)) ≡ l.from + length (first_field (drop l.from l.s)))
-
-abbrev pub decreases-loop-to : goal.decreases-loop-to
-decreases-loop-to l = length l.s - l.to
+invariant-loop-to l = l.to + length (first_field (drop l.to l.s)) ≡ l.from + length (first_field (drop l.from l.s))

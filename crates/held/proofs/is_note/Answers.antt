@@ -1,10 +1,12 @@
--- `held::is_note` meets its contract. Assumes nothing.
+-- `held::is_note` meets its contract.
 use mathlib.Core.Path.{◌∙◌}
+use native.Mathlib.Omega.{arith}
+use borrow.Author.Tests.{lt-leb}
 use Rattle.held.proofs.Echo.{long-line, short-line}
 use Rattle.held.proofs.is_note.Goals as goal
 
-pub returns-then-line-gt200 : goal.returns-then-line-gt200
-returns-then-line-gt200 c = long-line _ c.if-line-gt200.true
+pub returns-then-line-le200 : goal.returns-then-line-le200
+returns-then-line-le200 c = c.is_hashed.ensures ∙ short-line _ c.if-line-le200.true
 
-pub returns : goal.returns
-returns c = c.is_hashed.ensures ∙ short-line _ c.if-line-gt200.false
+pub returns-else-line-le200 : goal.returns-else-line-le200
+returns-else-line-le200 c = lt-leb _ _ (omega arith) ∙ long-line _ (omega arith)

@@ -11,7 +11,6 @@ use Rattle.paged.proofs.read_through.Goals as goal
 pub loop-i-init : goal.loop-i-init
 loop-i-init c =
     record {
-      below = omega arith;
       so_far = sym (mid_none number_on (lines_of c.args.text.now) c.args.out.now);
       of_text = ap (λ (r : Reader). r.text.now) c.start-r.ensures;
       so_many =
@@ -36,7 +35,6 @@ loop-i-preserved c =
     ∙ said-next t short i here c.next_line.new.r c.next_line.result step
     ∙ ap (λ (s : List ℕ). number_on (get_or (lines_of s) i [])) w.of_text in
     record {
-      below = omega arith;
       so_far =
           ap (λ (v : List ℕ). set v i c.said_number.result) w.so_far
           ∙ mid-next number_on ds c.args.out.now i [] c.said_number.result said less (omega (arith, c.requires.2));

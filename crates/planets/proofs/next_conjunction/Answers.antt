@@ -1,101 +1,61 @@
 -- `planets::next_conjunction` meets its contract: 19, then 6, then 20, and the least count. Assumes nothing.
-use Prim.Native.Nat.{ℕ, ◌≤◌, ◌<◌}
-use native.Mathlib.Nat.{le_trans}
-use mathlib.Core.Path.{◌≡◌, ap, sym, subst, ◌∙◌}
-use mathlib.Core.Bool.{true}
-use Rattle.rule.specs.Reasons.{is, within}
-use Rattle.rule.proofs.Answers.{within-true}
-use Rattle.planets.specs.declared.Numbers.{Numbers}
-use Rattle.planets.specs.Planets.{Planet, numbers_of, conjunction_day, next_count}
-use Rattle.planets.specs.Paper.{Good}
-use Rattle.planets.proofs.Moments.{next_small}
-use Rattle.planets.proofs.Five.{good-planets}
-use Rattle.planets.proofs.Made.{some-years, fits-32, with_count, made, next-no-planet, next-no-day, next-none, next_one}
+use native.Mathlib.Omega.{arith}
+use mathlib.Core.Path.{ap, ◌∙◌}
+use Rattle.rule.specs.Reasons.{refused, reason_number, is}
+use Rattle.rule.proofs.Answers.{handed_on}
+use Rattle.planets.specs.Planets.{numbers_of}
+use Rattle.planets.proofs.Made.{named, good, some-years, with_count, next-no-planet, next-no-day, small, next-none, next_one}
 use Rattle.planets.proofs.next_conjunction.Goals as goal
 
-pub returns-then-not-in_range : goal.returns-then-not-in_range
-returns-then-not-in_range c =
-    let a = c.args in
-    next-no-planet a.planet a.day (sym c.in_range.ensures ∙ c.if-not-in_range.true)
+pub returns-in_err-try_from : goal.returns-in_err-try_from
+returns-in_err-try_from c =
+    handed_on _ _ c.from_residual.ensures.1
+    ∙ ap (λ w. refused (reason_number w)) c.in_err-try_from.ensures.1
+    ∙ next-no-planet c.args.planet c.args.day c.in_err-try_from.ensures.0
 
 pub returns-then-day-gt14989859 : goal.returns-then-day-gt14989859
 returns-then-day-gt14989859 c =
-    let there : within 1 5 c.args.planet ≡ true = sym c.in_range.ensures ∙ c.if-not-in_range.false in
-    let a = c.args in
-    next-no-day a.planet a.day (there) c.if-day-gt14989859.true
-
-pub returns-then-conjunction_day-gt14989859 : goal.returns-then-conjunction_day-gt14989859
-returns-then-conjunction_day-gt14989859 c =
-    let there : within 1 5 c.args.planet ≡ true = sym c.in_range.ensures ∙ c.if-not-in_range.false in
-    let count : let a = c.args in c.next_count-k.result ≡ next_count (numbers_of a.planet) a.day =
-    let day = c.args.day in
-    c.next_count-k.ensures ∙ ap (λ (n : Numbers). next_count n day) c.numbers_of-n.ensures in
-    let falls : let a = c.args in let n = numbers_of a.planet in c.conjunction_day.result ≡ conjunction_day n (next_count n a.day) =
-    let at = c.args.planet in
-    c.conjunction_day.ensures
-    ∙ ap (λ (n : Numbers). conjunction_day n c.next_count-k.result) c.numbers_of-n.ensures
-    ∙ ap (conjunction_day (numbers_of at)) (count) in
-    let a = c.args in
-    let late = subst (λ (e : ℕ). 14989859 < e) (falls) c.if-conjunction_day-gt14989859.true in
-    next-none a.planet a.day (there) c.if-day-gt14989859.false late
-
-pub conjunction_of-requires : goal.conjunction_of-requires
-conjunction_of-requires c =
-    let there : within 1 5 c.args.planet ≡ true = sym c.in_range.ensures ∙ c.if-not-in_range.false in
-    let planet : Planet c.args.planet = (within-true 1 5 c.args.planet).0 (there) in
-    let good : Good c.numbers_of-n.result =
-    subst Good (sym c.numbers_of-n.ensures) (good-planets c.args.planet (planet)) in
-    let small : c.next_count-k.result ≤ 14989859 =
-    let day = c.args.day in
-    let least = next_small c.numbers_of-n.result (good) day in
-    subst (λ (k : ℕ). k ≤ 14989859) (sym c.next_count-k.ensures) (le_trans least c.if-day-gt14989859.false) in
-    let day = subst (λ (e : ℕ). e ≤ 14989859) c.conjunction_day.ensures c.if-conjunction_day-gt14989859.false in
-    ((good).some, small, day)
-
-pub returns : goal.returns
-returns c =
-    let there : within 1 5 c.args.planet ≡ true = sym c.in_range.ensures ∙ c.if-not-in_range.false in
-    let count : let a = c.args in c.next_count-k.result ≡ next_count (numbers_of a.planet) a.day =
-    let day = c.args.day in
-    c.next_count-k.ensures ∙ ap (λ (n : Numbers). next_count n day) c.numbers_of-n.ensures in
-    let falls : let a = c.args in let n = numbers_of a.planet in c.conjunction_day.result ≡ conjunction_day n (next_count n a.day) =
-    let at = c.args.planet in
-    c.conjunction_day.ensures
-    ∙ ap (λ (n : Numbers). conjunction_day n c.next_count-k.result) c.numbers_of-n.ensures
-    ∙ ap (conjunction_day (numbers_of at)) (count) in
-    let a = c.args in
-    let it = ap (with_count c.next_count-k.result) c.conjunction_of.ensures ∙ made c.numbers_of-n.ensures (count) in
-    let day = subst (λ (e : ℕ). e ≤ 14989859) (falls) c.if-conjunction_day-gt14989859.false in
-    ap is it ∙ next_one a.planet a.day (there) c.if-day-gt14989859.false day
+    let at = c.in_ok-try_from in
+    next-no-day c.args.planet (named _ at.ensures) (c.numbers-numbers.ensures ∙ ap numbers_of at.ensures) c.args.day c.if-day-gt14989859.true
 
 pub next_count-k-requires : goal.next_count-k-requires
 next_count-k-requires c =
-    let there : within 1 5 c.args.planet ≡ true = sym c.in_range.ensures ∙ c.if-not-in_range.false in
-    let planet : Planet c.args.planet = (within-true 1 5 c.args.planet).0 (there) in
-    let good : Good c.numbers_of-n.result =
-    subst Good (sym c.numbers_of-n.ensures) (good-planets c.args.planet (planet)) in
-    (some-years _ (good), c.if-day-gt14989859.false)
+    let at = c.in_ok-try_from in
+    (some-years c.args.planet (named _ at.ensures) (c.numbers-numbers.ensures ∙ ap numbers_of at.ensures), c.if-day-gt14989859.false)
 
 pub conjunction_day-requires : goal.conjunction_day-requires
 conjunction_day-requires c =
-    let there : within 1 5 c.args.planet ≡ true = sym c.in_range.ensures ∙ c.if-not-in_range.false in
-    let planet : Planet c.args.planet = (within-true 1 5 c.args.planet).0 (there) in
-    let good : Good c.numbers_of-n.result =
-    subst Good (sym c.numbers_of-n.ensures) (good-planets c.args.planet (planet)) in
-    let small : c.next_count-k.result ≤ 14989859 =
-    let day = c.args.day in
-    let least = next_small c.numbers_of-n.result (good) day in
-    subst (λ (k : ℕ). k ≤ 14989859) (sym c.next_count-k.ensures) (le_trans least c.if-day-gt14989859.false) in
-    ((good).some, small)
+    let at = c.in_ok-try_from in
+    let there = named _ at.ensures in
+    let its = c.numbers-numbers.ensures ∙ ap numbers_of at.ensures in
+    ((good c.args.planet there its).some, omega (arith, small c.args.planet there its c.if-day-gt14989859.false c.next_count-k.ensures))
+
+pub returns-then-conjunction_day-gt14989859 : goal.returns-then-conjunction_day-gt14989859
+returns-then-conjunction_day-gt14989859 c =
+    let at = c.in_ok-try_from in
+    next-none c.args.planet (named _ at.ensures) (c.numbers-numbers.ensures ∙ ap numbers_of at.ensures) c.if-day-gt14989859.false c.next_count-k.ensures
+    (omega (arith, c.conjunction_day.ensures, c.if-conjunction_day-gt14989859.true))
+
+pub conjunction-requires : goal.conjunction-requires
+conjunction-requires c =
+    let at = c.in_ok-try_from in
+    let there = named _ at.ensures in
+    let its = c.numbers-numbers.ensures ∙ ap numbers_of at.ensures in (
+      (good c.args.planet there its).some,
+      small c.args.planet there its c.if-day-gt14989859.false c.next_count-k.ensures,
+      omega (arith, c.conjunction_day.ensures, c.if-conjunction_day-gt14989859.false),
+    )
 
 pub overflow_cast-result : goal.overflow_cast-result
 overflow_cast-result c =
-    let there : within 1 5 c.args.planet ≡ true = sym c.in_range.ensures ∙ c.if-not-in_range.false in
-    let planet : Planet c.args.planet = (within-true 1 5 c.args.planet).0 (there) in
-    let good : Good c.numbers_of-n.result =
-    subst Good (sym c.numbers_of-n.ensures) (good-planets c.args.planet (planet)) in
-    let small : c.next_count-k.result ≤ 14989859 =
-    let day = c.args.day in
-    let least = next_small c.numbers_of-n.result (good) day in
-    subst (λ (k : ℕ). k ≤ 14989859) (sym c.next_count-k.ensures) (le_trans least c.if-day-gt14989859.false) in
-    record { fits = fits-32 _ (small) }
+    let at = c.in_ok-try_from in
+    let least =
+    small c.args.planet (named _ at.ensures) (c.numbers-numbers.ensures ∙ ap numbers_of at.ensures) c.if-day-gt14989859.false c.next_count-k.ensures in
+    record { fits = omega (arith, least) }
+
+pub returns : goal.returns
+returns c =
+    let at = c.in_ok-try_from in
+    ap (λ x. is (with_count c.next_count-k.result x)) c.conjunction.ensures
+    ∙ next_one c.args.planet (named _ at.ensures) (c.numbers-numbers.ensures ∙ ap numbers_of at.ensures) c.if-day-gt14989859.false c.next_count-k.ensures
+    (omega (arith, c.conjunction_day.ensures, c.if-conjunction_day-gt14989859.false))

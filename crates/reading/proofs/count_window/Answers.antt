@@ -15,10 +15,10 @@ part_end-to-requires c =
     let p = c.requires in
     walk-month p.0 c.loop-day.invariant.0 p.1 c.loop-day-test.true
 
-pub count_month-k-requires : goal.count_month-k-requires
-count_month-k-requires c =
+pub invariant_of-part : goal.invariant_of-part
+invariant_of-part c =
     let p = c.requires in
-    walk-part p.0 c.loop-day.invariant.0 c.loop-day-test.true c.part_end-to.ensures p.1
+    record { of_month = walk-part p.0 c.loop-day.invariant.0 c.loop-day-test.true c.part_end-to.ensures p.1 }
 
 pub overflow_add-k : goal.overflow_add-k
 overflow_add-k c =

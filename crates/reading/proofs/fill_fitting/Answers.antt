@@ -21,13 +21,20 @@ part_end-to-requires c =
     let p = c.requires in
     walk-month p.0 c.loop-day.invariant.0 p.1 c.loop-day-test.true
 
+pub invariant_of-part : goal.invariant_of-part
+invariant_of-part c =
+    let p = c.requires in
+    record { of_month = walk-part p.0 c.loop-day.invariant.0 c.loop-day-test.true c.part_end-to.ensures p.1 }
+
 pub fill_month-k-requires : goal.fill_month-k-requires
 fill_month-k-requires c =
     let p = c.requires in
     let to = c.part_end-to.ensures in
-    let test = c.loop-day-test.true in (
-      walk-part p.0 c.loop-day.invariant.0 test to p.1,
-      omega (arith, walk-room p.0 c.loop-day.invariant.0 test to c.args.r c.loop-day.invariant.1, p.2, c.loop-day.invariant.2),
+    omega (
+      arith,
+      walk-room p.0 c.loop-day.invariant.0 c.loop-day-test.true to c.args.r c.loop-day.invariant.1,
+      p.2,
+      c.loop-day.invariant.2,
     )
 
 pub overflow_add-n : goal.overflow_add-n

@@ -5,5 +5,5 @@ use Rattle.reading.proofs.in_ranges.Goals as goal
 pub returns : goal.returns
 returns c =
     ranges-made c.args.r
-    c.field_in_range-a.ensures c.field_in_range-b.ensures c.field_in_range-c.ensures
-    c.field_in_range-d.ensures c.field_in_range-e.ensures c.field_in_range-f.ensures
+    c.field_in_range-year_name.ensures c.field_in_range-month_number.ensures c.field_in_range-leap_mark.ensures
+    c.field_in_range-day_of_month.ensures c.field_in_range-day_name.ensures c.field_in_range-first_name.ensures

@@ -1,54 +1,59 @@
--- `sheet::check_three` meets its contract. The invariant: what is left gives the same answer. Assumes nothing.
-use Prim.Native.Nat.{◌*◌, ◌≤◌}
-use native.Mathlib.Nat.{mul-le-mul}
-use native.Mathlib.Omega.{arith}
-use mathlib.Core.Path.{◌≡◌, refl, ap, sym, ◌∙◌}
-use lib.ListN.{drop}
-use Rattle.rule.specs.Reasons.{reason_number}
-use Rattle.sheet.specs.Sheet.{ranged, sheet_sections}
-use Rattle.sheet.specs.Promises.{said_how_many}
-use Rattle.sheet.proofs.Reading.{Found, found, all-to-check, stops_at, passes_at, all-checked}
+-- `sheet::check_three` meets its contract: each section stops it, or is found good. Assumes nothing.
+use Rattle.std.proofs.Common.{refl, ap, sym, ◌∙◌, arith}
+use Rattle.rule.specs.Reasons.{is}
+use Rattle.rule.proofs.Answers.{handed_on}
+use Rattle.sheet.specs.Sheet.{ranged, year_items, month_items, day_items}
+use Rattle.sheet.proofs.Reading.{found, front-stops, front-passes, front-ends, counts-found}
 use Rattle.sheet.proofs.check_three.Goals as goal
 
-pub loop-j-init : goal.loop-j-init
-loop-j-init c = (omega arith, all-to-check c.args.s.now 0 0 0)
-
-pub returns-in-Refused : goal.returns-in-Refused
-returns-in-Refused c =
-    let loop = c.loop-j in sym (stops_at _ _ _ c.section_at-k.ensures.there loop.t.now loop.y loop.m loop.d (reason_number c.in-Refused.r) (sym c.check_section.ensures ∙ ap said_how_many c.in-Refused.is)) ∙ loop.invariant.1
+pub returns-in_err-years : goal.returns-in_err-years
+returns-in_err-years c =
+    handed_on _ _ c.from_residual.ensures.1 ∙ sym (front-stops (ranged year_items) _ _ _ _ (sym c.in_err-years.ensures))
 
 pub overflow_mul-t : goal.overflow_mul-t
-overflow_mul-t c =
-    let good : Found (ranged c.section_at-k.result) c.loop-j.t.now c.loop-j.t.now c.in-Is.n = found _ _ _ _ refl (sym c.check_section.ensures ∙ ap said_how_many c.in-Is.is) in
-    let few : c.section_at-k.result.width * c.in-Is.n ≤ 4000 =
-    let k = c.section_at-k in
-    let n : c.in-Is.n ≤ 1000 = omega (arith, (good).few, k.ensures.items) in
-    omega (arith, mul-le-mul k.ensures.width n) in
-    omega (arith, few)
+overflow_mul-t c = omega (arith, (found (ranged year_items) _ _ _ refl (sym c.in_ok-years.ensures)).few)
 
 pub overflow_add-t : goal.overflow_add-t
-overflow_add-t c =
-    let good : Found (ranged c.section_at-k.result) c.loop-j.t.now c.loop-j.t.now c.in-Is.n = found _ _ _ _ refl (sym c.check_section.ensures ∙ ap said_how_many c.in-Is.is) in
-    let few : c.section_at-k.result.width * c.in-Is.n ≤ 4000 =
-    let k = c.section_at-k in
-    let n : c.in-Is.n ≤ 1000 = omega (arith, (good).few, k.ensures.items) in
-    omega (arith, mul-le-mul k.ensures.width n) in
-    omega (arith, few)
+overflow_add-t c = omega (arith, (found (ranged year_items) _ _ _ refl (sym c.in_ok-years.ensures)).few)
 
 pub slice_bounds-t-count : goal.slice_bounds-t-count
-slice_bounds-t-count c =
-    let good : Found (ranged c.section_at-k.result) c.loop-j.t.now c.loop-j.t.now c.in-Is.n = found _ _ _ _ refl (sym c.check_section.ensures ∙ ap said_how_many c.in-Is.is) in
-    omega (arith, (good).long)
+slice_bounds-t-count c = omega (arith, (found (ranged year_items) _ _ _ refl (sym c.in_ok-years.ensures)).long)
 
 pub slice_bounds-t-start : goal.slice_bounds-t-start
-slice_bounds-t-start c =
-    let good : Found (ranged c.section_at-k.result) c.loop-j.t.now c.loop-j.t.now c.in-Is.n = found _ _ _ _ refl (sym c.check_section.ensures ∙ ap said_how_many c.in-Is.is) in
-    omega (arith, (good).long)
+slice_bounds-t-start c = omega (arith, (found (ranged year_items) _ _ _ refl (sym c.in_ok-years.ensures)).long)
 
-pub loop-j-preserved : goal.loop-j-preserved
-loop-j-preserved c =
-    let loop = c.loop-j in (omega arith, passes_at _ _ _ c.section_at-k.ensures.there loop.t.now loop.y loop.m loop.d c.in-Is.n (sym c.check_section.ensures ∙ ap said_how_many c.in-Is.is) ∙ loop.invariant.1)
+pub returns-in_err-months : goal.returns-in_err-months
+returns-in_err-months c =
+    handed_on _ _ c.from_residual-in_err-months.ensures.1
+    ∙ sym (front-passes (ranged year_items) _ _ _ _ (sym c.in_ok-years.ensures)
+    ∙ front-stops (ranged month_items) _ _ _ _ (sym c.in_err-months.ensures))
+
+pub overflow_mul-u : goal.overflow_mul-u
+overflow_mul-u c = omega (arith, (found (ranged month_items) _ _ _ refl (sym c.in_ok-months.ensures)).few)
+
+pub overflow_add-u : goal.overflow_add-u
+overflow_add-u c = omega (arith, (found (ranged month_items) _ _ _ refl (sym c.in_ok-months.ensures)).few)
+
+pub slice_bounds-u-count : goal.slice_bounds-u-count
+slice_bounds-u-count c = omega (arith, (found (ranged month_items) _ _ _ refl (sym c.in_ok-months.ensures)).long)
+
+pub slice_bounds-u-start : goal.slice_bounds-u-start
+slice_bounds-u-start c = omega (arith, (found (ranged month_items) _ _ _ refl (sym c.in_ok-months.ensures)).long)
+
+pub returns-in_err-days : goal.returns-in_err-days
+returns-in_err-days c =
+    handed_on _ _ c.from_residual-in_err-days.ensures.1
+    ∙ sym (front-passes (ranged year_items) _ _ _ _ (sym c.in_ok-years.ensures)
+    ∙ front-passes (ranged month_items) _ _ _ _ (sym c.in_ok-months.ensures)
+    ∙ front-stops (ranged day_items) _ _ _ _ (sym c.in_err-days.ensures))
 
 pub returns : goal.returns
 returns c =
-    let loop = c.loop-j in let e : loop.j ≡ 3 = omega arith in sym (all-checked (drop loop.j sheet_sections) (rw (e)) loop.t.now loop.y loop.m loop.d) ∙ loop.invariant.1
+    let y = found (ranged year_items) _ _ _ refl (sym c.in_ok-years.ensures) in
+    let m = found (ranged month_items) _ _ _ refl (sym c.in_ok-months.ensures) in
+    let d = found (ranged day_items) _ _ _ refl (sym c.in_ok-days.ensures) in
+    ap is (sym (counts-found _ _ _ _ _ _ y y.next m m.next d))
+    ∙ sym (front-passes (ranged year_items) _ _ _ _ (sym c.in_ok-years.ensures)
+    ∙ front-passes (ranged month_items) _ _ _ _ (sym c.in_ok-months.ensures)
+    ∙ front-passes (ranged day_items) _ _ _ _ (sym c.in_ok-days.ensures)
+    ∙ front-ends _ _)

@@ -6,8 +6,8 @@ use Rattle.sheet.specs.Sheet.{lists_of, lists_in}
 use Rattle.sheet.proofs.Sheets.{to-years, to-months, to-days, room-to-fill}
 use Rattle.sheet.proofs.fill_sheet.Goals as goal
 
-pub fill_two-requires : goal.fill_two-requires
-fill_two-requires c = let pre = c.requires in ((to-years pre).long, (room-to-fill pre).0)
+pub fill-requires : goal.fill-requires
+fill-requires c = let pre = c.requires in ((to-years pre).long, (room-to-fill pre).0)
 
 pub overflow_mul-t : goal.overflow_mul-t
 overflow_mul-t c = omega (arith, (to-years c.requires).few)
@@ -21,8 +21,8 @@ slice_bounds-t-count c = (to-years c.requires).long
 pub slice_bounds-t-start : goal.slice_bounds-t-start
 slice_bounds-t-start c = (to-years c.requires).long
 
-pub fill_four-requires : goal.fill_four-requires
-fill_four-requires c =
+pub fill-requires-2 : goal.fill-requires-2
+fill-requires-2 c =
     let pre = c.requires in ((to-months pre _ (to-years pre).next).long, (room-to-fill pre).1)
 
 pub overflow_mul-u : goal.overflow_mul-u
@@ -37,11 +37,11 @@ slice_bounds-u-count c = let pre = c.requires in (to-months pre _ (to-years pre)
 pub slice_bounds-u-start : goal.slice_bounds-u-start
 slice_bounds-u-start c = let pre = c.requires in (to-months pre _ (to-years pre).next).long
 
-pub fill_four-requires-2 : goal.fill_four-requires-2
-fill_four-requires-2 c =
+pub fill-requires-3 : goal.fill-requires-3
+fill-requires-3 c =
     let pre = c.requires in ((to-days pre _ (to-months pre _ (to-years pre).next).next).long, (room-to-fill pre).2)
 
 pub returns : goal.returns
 unfolding lists_in lists_of
 returns c =
-    let pre = c.requires in let args = c.args in let m = to-months pre _ (to-years pre).next in record { years = c.fill_two.ensures ∙ ap (sets args.years.now 0) (to-years pre).stored; months = c.fill_four.ensures ∙ ap (sets args.months.now 0) m.stored; days = c.fill_four-2.ensures ∙ ap (sets args.days.now 0) (to-days pre _ m.next).stored }
+    let pre = c.requires in let args = c.args in let m = to-months pre _ (to-years pre).next in record { years = c.fill.ensures ∙ ap (sets args.years.now 0) (to-years pre).stored; months = c.fill-2.ensures ∙ ap (sets args.months.now 0) m.stored; days = c.fill-3.ensures ∙ ap (sets args.days.now 0) (to-days pre _ m.next).stored }

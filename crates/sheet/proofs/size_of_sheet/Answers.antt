@@ -1,14 +1,21 @@
 -- `sheet::size_of_sheet` meets its contract: each list stops it, or is found good. Assumes nothing.
+use Rattle.rule.proofs.Answers.{handed_on}
 use Prim.Native.Nat.{ℕ, ◌+◌, ◌*◌, ◌≤◌}
 use native.Mathlib.Omega.{arith}
 use mathlib.Core.Path.{◌≡◌, ap, sym, ◌∙◌}
-use mathlib.Core.List.{[], ◌∷◌}
+use mathlib.Core.List.{List, [], ◌∷◌, map}
+use Rattle.std.proofs.lemmas.List.{map-id}
 use lib.ListN.{length}
-use Rattle.rule.specs.Reasons.{is, refused, and_then, reason_number}
-use Rattle.sheet.specs.Sheet.{ranged, year_items, month_items, day_items, Lists, three_lists, in_order, section_written, sections_written, sheet_of, write_sheet}
+use Rattle.rule.specs.Reasons.{Answer, is, refused, and_then}
+use Rattle.sheet.specs.Sheet.{Section, ranged, year_items, month_items, day_items, Lists, three_lists, in_order, section_written, sections_written, sheet_of, write_sheet}
 use Rattle.sheet.proofs.Laying.{length-sheet}
 use Rattle.sheet.proofs.Writing.{list-found, list-stops, list-passes, no-list}
 use Rattle.sheet.proofs.size_of_sheet.Goals as goal
+
+-- a list of numbers, as it is and by the number of each
+as-numbers : (k : Section) (xs : List ℕ) (n : ℕ) (a : Answer ℕ) →
+    and_then (section_written k (map (λ x. x) xs)) (λ b. is n) ≡ a → and_then (section_written k xs) (λ b. is n) ≡ a
+as-numbers k xs n a h = rw (map-id xs) at h
 
 -- the three lists l, of which the years, the months and the days are found good one after the other, with so many items
 module _ (l : Lists) where
@@ -57,37 +64,35 @@ module _ (l : Lists) where
       let e = list-found (ranged day_items) l.days d g in
       (omega (arith, length-sheet l, a.1, b.1, e.1), omega (arith, length-sheet l, a.0, b.0, e.0))
 
-pub returns-in-Refused-check_four-2 : goal.returns-in-Refused-check_four-2
-returns-in-Refused-check_four-2 c =
+pub overflow_add-result-2 : goal.overflow_add-result-2
+overflow_add-result-2 c =
     let a = c.args in
-    sym (days-stop (three_lists a.years.now a.months.now a.days.now) _ c.in-Is.y c.in-Is-check_four.m (reason_number c.in-Refused-check_four-2.r) (sym c.in-Is.ensures) (sym c.in-Is-check_four.ensures) (sym c.in-Refused-check_four-2.ensures))
-
-pub overflow_add-result-in-Is-check_four-2 : goal.overflow_add-result-in-Is-check_four-2
-overflow_add-result-in-Is-check_four-2 c =
-    let a = c.args in
-    let s = size (three_lists a.years.now a.months.now a.days.now) _ _ _ (sym c.in-Is.ensures) (sym c.in-Is-check_four.ensures) (sym c.in-Is-check_four-2.ensures) in
+    let s = size (three_lists a.years.now a.months.now a.days.now) _ _ _ (as-numbers _ _ _ _ (sym c.in_ok-y.ensures)) (as-numbers _ _ _ _ (sym c.in_ok-m.ensures)) (as-numbers _ _ _ _ (sym c.in_ok-d.ensures)) in
     omega (arith, s.0, s.1)
 
-pub overflow_add-result-in-Is-check_four-2-2 : goal.overflow_add-result-in-Is-check_four-2-2
-overflow_add-result-in-Is-check_four-2-2 c =
+pub overflow_add-result-3 : goal.overflow_add-result-3
+overflow_add-result-3 c =
     let a = c.args in
-    let s = size (three_lists a.years.now a.months.now a.days.now) _ _ _ (sym c.in-Is.ensures) (sym c.in-Is-check_four.ensures) (sym c.in-Is-check_four-2.ensures) in
+    let s = size (three_lists a.years.now a.months.now a.days.now) _ _ _ (as-numbers _ _ _ _ (sym c.in_ok-y.ensures)) (as-numbers _ _ _ _ (sym c.in_ok-m.ensures)) (as-numbers _ _ _ _ (sym c.in_ok-d.ensures)) in
     omega (arith, s.0, s.1)
 
-pub returns-in-Refused : goal.returns-in-Refused
-returns-in-Refused c =
-    let a = c.args in sym (years-stop (three_lists a.years.now a.months.now a.days.now) _ (reason_number c.in-Refused.r) (sym c.in-Refused.ensures))
+pub returns-in_err-y : goal.returns-in_err-y
+returns-in_err-y c =
+    let a = c.args in handed_on _ _ c.from_residual.ensures.1 ∙ sym (years-stop (three_lists a.years.now a.months.now a.days.now) _ _ (as-numbers _ _ _ _ (sym c.in_err-y.ensures)))
 
-pub returns-in-Refused-check_four : goal.returns-in-Refused-check_four
-returns-in-Refused-check_four c =
-    let a = c.args in
-    sym (months-stop (three_lists a.years.now a.months.now a.days.now) _ c.in-Is.y (reason_number c.in-Refused-check_four.r) (sym c.in-Is.ensures) (sym c.in-Refused-check_four.ensures))
+pub returns-in_err-m : goal.returns-in_err-m
+returns-in_err-m c =
+    let a = c.args in handed_on _ _ c.from_residual-in_err-m.ensures.1 ∙ sym (months-stop (three_lists a.years.now a.months.now a.days.now) _ c.in_ok-y.y _ (as-numbers _ _ _ _ (sym c.in_ok-y.ensures)) (as-numbers _ _ _ _ (sym c.in_err-m.ensures)))
 
-pub returns-in-Is-check_four-2 : goal.returns-in-Is-check_four-2
-returns-in-Is-check_four-2 c =
+pub returns-in_err-d : goal.returns-in_err-d
+returns-in_err-d c =
+    let a = c.args in handed_on _ _ c.from_residual-in_err-d.ensures.1 ∙ sym (days-stop (three_lists a.years.now a.months.now a.days.now) _ c.in_ok-y.y c.in_ok-m.m _ (as-numbers _ _ _ _ (sym c.in_ok-y.ensures)) (as-numbers _ _ _ _ (sym c.in_ok-m.ensures)) (as-numbers _ _ _ _ (sym c.in_err-d.ensures)))
+
+pub returns : goal.returns
+returns c =
     let a = c.args in
     let l = three_lists a.years.now a.months.now a.days.now in
-    let y = sym c.in-Is.ensures in
-    let m = sym c.in-Is-check_four.ensures in
-    let d = sym c.in-Is-check_four-2.ensures in
+    let y = as-numbers _ _ _ _ (sym c.in_ok-y.ensures) in
+    let m = as-numbers _ _ _ _ (sym c.in_ok-m.ensures) in
+    let d = as-numbers _ _ _ _ (sym c.in_ok-d.ensures) in
     ap is (size l _ _ _ y m d).0 ∙ sym (after-days l _ _ _ _ y m d)

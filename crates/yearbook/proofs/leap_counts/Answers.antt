@@ -1,56 +1,45 @@
 -- `yearbook::leap_counts` meets its contract: the walk along the leap months of a bu. Assumes nothing.
 use native.Mathlib.Omega.{arith}
-use Prim.Native.Nat.{◌+◌, ◌-◌, ◌≤◌, ◌<◌}
 use mathlib.Core.Path.{◌∙◌}
 use lib.ListN.{get_or}
 use Rattle.rule.proofs.Leap.{number-range}
 use Rattle.yearbook.proofs.Leaps.{place-below, leap-step, leap-room, leaps-begin, leaps-done}
 use Rattle.yearbook.proofs.leap_counts.Goals as goal
 
-pub loop-i-preserved : goal.loop-i-preserved
-loop-i-preserved c = (
-  omega arith,
-  leap-step c.args.from c.args.to c.leap_places-places.result c.leap_places-places.ensures c.loop-i.i c.loop-i-test.true
-      c.loop-i.counts c.month_number.result c.at_place.result c.loop-i.invariant.1 c.month_number.ensures
-      c.at_place.ensures.0,
-)
-
-pub returns : goal.returns
-returns c =
-    c.loop-i.invariant.1
-    ∙ leaps-done c.args.from c.args.to c.leap_places-places.result c.leap_places-places.ensures c.loop-i.i c.loop-i-test.false
-
-pub loop-i-init : goal.loop-i-init
-loop-i-init c = (omega arith, leaps-begin _ _ c.leap_places-places.result)
+pub loop-leap-init : goal.loop-leap-init
+loop-leap-init c = leaps-begin _ _ c.leap_places-places.result
 
 pub overflow_sub-at : goal.overflow_sub-at
-overflow_sub-at c =
-    let number : (1 ≤ c.month_number.result) × (c.month_number.result ≤ 12) =
-    omega (arith, c.month_number.ensures, number-range (get_or c.leap_places-places.result c.loop-i.i 0)) in
-    (number).0
-
-pub bounds-counts-at : goal.bounds-counts-at
-bounds-counts-at c =
-    let number : (1 ≤ c.month_number.result) × (c.month_number.result ≤ 12) =
-    omega (arith, c.month_number.ensures, number-range (get_or c.leap_places-places.result c.loop-i.i 0)) in
-    omega (arith, number)
+overflow_sub-at c = omega (arith, c.month_number.ensures, number-range (get_or c.leap_places-places.result c.loop-leap.leap-index 0))
 
 pub at_place-requires : goal.at_place-requires
 at_place-requires c =
-    let below : get_or c.leap_places-places.result c.loop-i.i 0 < 940 =
-    place-below c.args.from c.args.to c.leap_places-places.result c.leap_places-places.ensures c.loop-i.i c.loop-i-test.true in
-    (below, c.requires.0, c.requires.1)
+    let table = c.leap_places-places in
+    (place-below c.args.from c.args.to table.result table.ensures c.loop-leap.leap-index c.loop-leap-test.true, c.requires.0, c.requires.1)
+
+pub bounds-counts-at : goal.bounds-counts-at
+bounds-counts-at c = omega (arith, c.month_number.ensures, number-range (get_or c.leap_places-places.result c.loop-leap.leap-index 0))
 
 pub overflow_add-counts : goal.overflow_add-counts
 overflow_add-counts c =
-    let room : get_or c.loop-i.counts (c.month_number.result - 1) 0 + c.at_place.result ≤ 14213341 =
-    leap-room c.args.from c.args.to c.leap_places-places.result c.leap_places-places.ensures c.loop-i.i c.loop-i-test.true
-    c.requires.1 c.loop-i.counts c.month_number.result c.at_place.result c.loop-i.invariant.1 c.month_number.ensures
+    let table = c.leap_places-places in
+    let room =
+    leap-room c.args.from c.args.to table.result table.ensures c.loop-leap.leap-index c.loop-leap-test.true
+    c.requires.1 c.loop-leap.counts c.month_number.result c.at_place.result c.loop-leap.invariant c.month_number.ensures
     c.at_place.ensures.1 in
-    omega (arith, room)
+    record { fits = omega (arith, room) }
 
-pub bounds-counts-at-in-loop-i : goal.bounds-counts-at-in-loop-i
-bounds-counts-at-in-loop-i c =
-    let number : (1 ≤ c.month_number.result) × (c.month_number.result ≤ 12) =
-    omega (arith, c.month_number.ensures, number-range (get_or c.leap_places-places.result c.loop-i.i 0)) in
-    omega (arith, number)
+pub bounds-counts-at-in-loop-leap : goal.bounds-counts-at-in-loop-leap
+bounds-counts-at-in-loop-leap c = omega (arith, c.month_number.ensures, number-range (get_or c.leap_places-places.result c.loop-leap.leap-index 0))
+
+pub loop-leap-preserved : goal.loop-leap-preserved
+loop-leap-preserved c =
+    let table = c.leap_places-places in
+    leap-step c.args.from c.args.to table.result table.ensures c.loop-leap.leap-index c.loop-leap-test.true
+    c.loop-leap.counts c.month_number.result c.at_place.result c.loop-leap.invariant c.month_number.ensures
+    c.at_place.ensures.0
+
+pub returns : goal.returns
+returns c =
+    let table = c.leap_places-places in
+    c.loop-leap.invariant ∙ leaps-done c.args.from c.args.to table.result table.ensures c.loop-leap.leap-index c.loop-leap-test.false

@@ -1,5 +1,4 @@
 -- `yearbook::name_counts` meets its contract: one name after the other. Assumes nothing.
-use Prim.Native.Nat.{◌-◌, ◌≤◌}
 use mathlib.Core.Path.{◌≡◌}
 use mathlib.Core.List.{◌++◌}
 use lib.ListN.{drop, replicate}
@@ -7,8 +6,4 @@ use Rattle.yearbook.specs.Figures.{passing, has_name, for_each}
 use Rattle.yearbook.proofs.name_counts.Given as goal
 
 abbrev pub invariant-loop-i : goal.invariant-loop-i
-invariant-loop-i l =
-    (l.i ≤ 60) × (l.counts ≡ for_each (λ k. passing (has_name k) l.from l.to) l.i ++ drop l.i (replicate 60 0))
-
-abbrev pub decreases-loop-i : goal.decreases-loop-i
-decreases-loop-i l = 60 - l.i
+invariant-loop-i l = l.counts ≡ for_each (λ k. passing (has_name k) l.from l.to) l.i ++ drop l.i (replicate 60 0)

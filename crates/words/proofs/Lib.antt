@@ -1,2 +1,0 @@
--- Laws of a table of rows.
-pub mod Rows

@@ -1,2 +1,0 @@
--- A table of rows of bytes: definitions.
-pub mod Rows
