@@ -198,7 +198,7 @@ def strange_listings():
             yield f"docs/CALLS.md:{number}: `{name}` is listed under no crate"
         elif (kind, crate, bare) not in stands:
             yield f"docs/CALLS.md:{number}: `{name}` is no {kind} of crate `{crate}`"
-        elif " -> " in name and name.partition("::")[2] not in code[crate]:
+        elif " -> " in name and name.partition("::")[2].removeprefix("lent::") not in code[crate]:
             yield f"docs/CALLS.md:{number}: `{name}` is not the signature in crate `{crate}`"
     libraries = {path.parent.parent.name for path in CRATES.glob("*/src/lib.rt")}
     called = {("fn", crate, name) for crate in libraries for name in re.findall(r'\bpub (?:extern "C" )?fn (\w+)(?:<[^>]*>)?\(', code[crate])}

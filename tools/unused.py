@@ -266,7 +266,7 @@ def signatures(file):
 
 def needless_code(files):
     page = (ROOT / "docs" / "CALLS.md").read_text(encoding="utf8")
-    calls = set(re.findall(r"^\| `(\w+::\w+)[^`]* -> [^`]*` \|", page, re.M))
+    calls = {"::".join(parts) for parts in re.findall(r"^\| `(\w+)::(?:lent::)?(\w+)[^`]* -> [^`]*` \|", page, re.M)}
     code = [file for file in files if file.path.suffix == ".rt"]
     antt = [file for file in files if file.path.suffix == ".antt"]
     spelled = {file: file.code + "".join(f"\n{one.module}::{one.item or ''}" for one in file.imports) for file in code}

@@ -53,6 +53,7 @@ taken-head room n s list text text' k l e p =
     let f : read_new (take n room) ≡ read_new s = ap read_new (e ∙ ap (λ (m : ℕ). take m s) (sym l)) ∙ taken s in
     record {
       head = p.head ∙ ap (λ (a : Answer Four). text ++ head_text a) f;
+      room = p.room;
       few = p.few;
       readings = subst (HoldsReadings list k) (ap readings_after f) p.readings;
     }

@@ -1,6 +1,6 @@
 -- How much of an input the answering program needs, as a statement; the line of a reading, literally; and what the program makes of a room into which an
 -- input was read. proofs/Paper.antt proves each statement under the same name in small letters. Assumes nothing.
-use Rattle.std.specs.Prelude.{ℕ, suc, ◌*◌, ◌≤◌, ◌≡◌, Option, Result, IfOk, OnOk, List, [], ◌∷◌, ◌++◌, length, get_or, take}
+use Rattle.std.specs.Prelude.{ℕ, suc, ◌+◌, ◌*◌, ◌≤◌, ◌≡◌, Option, Result, IfOk, OnOk, List, [], ◌∷◌, ◌++◌, length, get_or, take}
 use Rattle.std.specs.Io.KnownBytes.{Appends}
 use Rattle.rule.specs.Reasons.{is, refused}
 use Rattle.fields.specs.Fields.{word, decimal, each}
@@ -37,9 +37,10 @@ pub record HoldsReadings (list : List ℕ) (n : ℕ) (xs : List ℕ) : Type 0 wh
   pub many : length xs ≡ n
   pub numbers : take (8 * n) list ≡ eights xs
 
--- after a text the head of what the bytes s are answered with is written, and the n readings that follow stand in the list
+-- after a text the head of what the bytes s are answered with is written, in so many bytes at most, and the n readings that follow stand in the list
 pub record HeadWritten (s list text text' : List ℕ) (n : ℕ) : Type 0 where
   pub head : text' ≡ text ++ head_text (read_new s)
+  pub room : length text' ≤ length text + 789000
   pub few : n ≤ 500
   pub readings : HoldsReadings list n (readings_after (read_new s))
 

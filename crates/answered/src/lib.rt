@@ -72,7 +72,8 @@ fn write_reading<const N: usize>(e: Eight, text: &mut Text<N>)
 // A reading and the search's answer: a `READING` line of 87 bytes, a `FOUND` line of 17 and 27,759 `DAY` lines of 118 at most.
 fn write_answer<const N: usize>(e: Eight, days: &mut [u32], text: &mut Text<N>)
     requires { (places ≤ length days.old) × (length text.old + 3275666 ≤ N) }
-    ensures { text.new ≡ text.old ++ answer_to_reading (eight_numbers e) }
+    ensures text { text.new ≡ text.old ++ answer_to_reading (eight_numbers e) }
+    ensures few { length text.new ≤ length text.old + 3275666 }
 {
     write_reading(e, text);
     answers::answer_search(Reading::from(e), e.first, e.last, days, text);
@@ -105,7 +106,8 @@ fn answer_reading<const N: usize>(
     text: &mut Text<N>,
 )
     requires { (j < n) × (n ≤ 500) × (8 * n ≤ length list.now) × (places ≤ length days.old) × (length text.old + 3275666 ≤ N) }
-    ensures { ReadingAnswered list.now n j text.old text.new }
+    ensures text { ReadingAnswered list.now n j text.old text.new }
+    ensures few { length text.new ≤ length text.old + 3275666 }
 {
     write_answer(eight_at(list, j), days, text);
 }

@@ -3,7 +3,7 @@
 // that of an emendation, that of the clerk, last that of figures. All are inner: each asks for room. A one-line answer
 // takes 120 bytes at most, so that the caller has one need of room for all of them.
 // A range is asked for in one word of a `requires` and by no type: rule's functions take plain numbers
-// (docs/DECISIONS.md, 263).
+// (docs/DECISIONS.md, 263). The same names in `lent` put each answer into a lent buffer.
 #![tactic(auto)]
 
 ghost use Rattle.std.specs.Prelude.{[], ◌∷◌, ◌++◌, ◌≡◌, ℕ, ◌+◌, ◌*◌, ◌≤◌, ◌<◌, length, get_or, take};
@@ -58,6 +58,8 @@ use planets::{Conjunction, Next, Pair, Phase};
 use reading::{Reading, SearchError};
 use rule::{Quarter, Reason, Term};
 use yearbook::Figures;
+
+pub mod lent;
 
 // A refusal: `REFUSED`, the reason's number and its words.
 #[tactic(auto, unfolding(told::specs::Answers::refused_text, told::specs::Answers::words_numbered, fields::specs::Fields::followed))]

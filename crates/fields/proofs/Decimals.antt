@@ -33,8 +33,16 @@ decimal-more (suc j) h =
     rw (le-ltb (suc j) 10 h)
     (ap (λ (ds : List ℕ). ds ++ ((48 + suc j % 10) ∷ [])) (enough j (suc j / 10) (suc j / 10) (omega arith) (omega arith)))
 
-length_more : (n : ℕ) → 10 ≤ n → length (decimal n) ≡ length (decimal (n / 10)) + 1
+pub length_more : (n : ℕ) → 10 ≤ n → length (decimal n) ≡ length (decimal (n / 10)) + 1
 length_more n h = ap length (decimal-more n h) ∙ length-append (decimal (n / 10)) ((48 + n % 10) ∷ [])
+
+-- every number has a digit
+pub decimal-some : (n : ℕ) → 1 ≤ length (decimal n)
+decimal-some n = go (dec_lt n 10)
+  where
+    go : Dec (n < 10) → 1 ≤ length (decimal n)
+    go (yes l) = omega (arith, ap length (decimal-one n l))
+    go (no g) = omega (arith, length_more n (omega (arith, g)))
 
 -- a number below the w-th power of ten after the first has so many digits at most
 pub decimal-short : (w n : ℕ) → n < 10 ^ suc w → length (decimal n) ≤ suc w

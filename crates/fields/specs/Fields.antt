@@ -1,6 +1,7 @@
 -- What printed lines are made of: words, decimal numbers, marks, fields with single spaces between, lines. All are lists of bytes. Assumes
 -- nothing.
-use Rattle.std.specs.Prelude.{ℕ, zero, suc, ◌+◌, ◌/◌, ◌%◌, Bool, true, false, List, [], ◌∷◌, ◌++◌, ltb}
+use Rattle.std.specs.Prelude.{ℕ, zero, suc, ◌≡◌, ◌≤◌, ◌+◌, ◌/◌, ◌%◌, Bool, true, false, List, [], ◌∷◌, ◌++◌, ltb, length}
+use Rattle.std.proofs.lemmas.List.Edits.{sets}
 use Prim.Native.Char.{code}
 use Prim.Native.String.{String, [] as no_text, ◌∷◌ as ◌then◌}
 
@@ -56,3 +57,9 @@ lined fs = joined fs ++ (10 ∷ [])
 unfoldable pub each : (ℕ → List ℕ) → List ℕ → List ℕ
 each f [] = []
 each f (x ∷ xs) = f x ++ each f xs
+
+-- the bytes xs put into a buffer that held o, from place a on: what it holds then, the next place, and that they are w at most
+pub record Put (w : ℕ) (o : List ℕ) (a : ℕ) (xs : List ℕ) (o' : List ℕ) (b : ℕ) : Type 0 where
+  pub stored : o' ≡ sets o a xs
+  pub next : b ≡ a + length xs
+  pub few : b ≤ a + w

@@ -2,7 +2,7 @@
 ghost use Rattle.std.specs.Prelude.{◌≡◌, [], ◌∷◌, ◌++◌, ◌+◌, ◌≤◌, length};
 ghost use Rattle.fields.specs.Fields.{decimal, mark};
 
-use itoa::Buffer;
+use super::lent::{put_decimal, put_next};
 use std::marker::Model;
 
 #[derive(Drop)]
@@ -66,15 +66,14 @@ impl<const N: usize> Text<N> {
         self.len = end;
     }
 
-    // A number in decimal: ten digits at most.
-    #[tactic(auto, using(crate::proofs::Agreeing::numbers))]
+    // A number in decimal: ten digits at most. It and a further field are put in place, so that how much is written is stored once.
     pub fn number(&mut self, n: u32)
         requires { length self.old + 10 ≤ N }
         ensures text { self.new ≡ self.old ++ decimal n }
         ensures few { length self.new ≤ length self.old + 10 }
     {
-        let mut digits = Buffer::new();
-        self.bytes(digits.format(n).as_bytes());
+        let all = &mut self.bytes[..];
+        self.len = put_decimal(n, all, self.len);
     }
 
     // A further field: a space, and a number.
@@ -83,8 +82,8 @@ impl<const N: usize> Text<N> {
         ensures text { self.new ≡ self.old ++ (32 ∷ decimal n) }
         ensures few { length self.new ≤ length self.old + 11 }
     {
-        self.byte(b' ');
-        self.number(n);
+        let all = &mut self.bytes[..];
+        self.len = put_next(n, all, self.len);
     }
 
     // A further field: a space, and a letter where the mark is there, `-` where it is absent.

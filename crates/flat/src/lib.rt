@@ -9,7 +9,7 @@ ghost use Rattle.rule.specs.Counts.{DayInRange, day_name};
 ghost use Rattle.rule.specs.Reasons.{said};
 ghost use Rattle.planets.specs.Planets.{phase_number};
 ghost use Rattle.reading.specs.Search.{said_found};
-ghost use Rattle.drawer.specs.Drawer.{said_filled};
+ghost use Rattle.drawer.specs.Drawer.{said_filled, drawer_at};
 ghost use Rattle.drawer.specs.Shared.{IsShared, Holds};
 ghost use Rattle.offered.specs.Yearbook.{given_figures, no_figures};
 ghost use Rattle.offered.specs.Renewed.{given_four, no_four};
@@ -624,6 +624,19 @@ pub fn flat_filled(a: Result<u32, DrawerError>) -> CFilled
             place: 0,
         },
     }
+}
+
+// The answer for a drawer, laid flat, and how many records are filled: none where the drawer comes back.
+pub fn flat_drawer_at(days: &[u32], room: usize) -> CFilled
+    ensures { result ≡ flat_filled (drawer_at days.now room) }
+{
+    flat_filled(drawer::drawer_at(days, room))
+}
+
+pub fn flat_to_fill(answer: CFilled) -> usize
+    ensures { result ≡ answer.count }
+{
+    answer.count as usize
 }
 
 // The day of month of a day of a kept month, and a day's name: the two fields in which the records of a month's days differ.

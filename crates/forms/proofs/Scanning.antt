@@ -1,9 +1,9 @@
 -- Laws of scans, one byte after the other: digits, what they are worth, same texts, the end of a field. Assumes nothing.
-use Prim.Native.Nat.{ℕ, ◌+◌, ◌-◌, ◌*◌, ◌≤◌, ◌<◌}
+use Prim.Native.Nat.{ℕ, suc, ◌+◌, ◌-◌, ◌*◌, ◌≤◌, ◌<◌}
 use native.Mathlib.Numerals.{add-one}
 use native.Mathlib.Omega.{arith}
 use mathlib.Core.Path.{◌≡◌, refl, ap, ap₂, sym, ◌∙◌}
-use mathlib.Core.Bool.{Bool, true, false, not, ◌&&◌}
+use mathlib.Core.Bool.{Bool, true, false, not, ◌&&◌, and-eq-true_iff}
 use mathlib.Core.List.{List, [], ◌∷◌}
 use Rattle.std.specs.List.{list_all}
 use Rattle.std.specs.Cmp.Lexicographic.{pointwise}
@@ -25,6 +25,19 @@ rest s i h = drop-cons s i 0 h ∙ ap (λ (j : ℕ). get_or s i 0 ∷ drop j s) 
 -- a field up to the end
 pub to_the_end : (i : ℕ) (s : List ℕ) → take (length s - i) (drop i s) ≡ drop i s
 to_the_end i s = take_all (length s - i) (drop i s) (omega (arith, length-drop i s))
+
+-- the digits that are left
+pub digit-next : (s : List ℕ) (i : ℕ) → i < length s → within 48 57 (get_or s i 0) ≡ true → all_digits (drop i s) ≡ all_digits (drop (i + 1) s)
+unfolding all_digits
+digit-next s i h e = ap all_digits (rest s i h) ∙ rw (e) refl
+
+pub no_digit : (s : List ℕ) (i : ℕ) → i < length s → within 48 57 (get_or s i 0) ≡ false → all_digits (drop i s) ≡ false
+unfolding all_digits
+no_digit s i h e = ap all_digits (rest s i h) ∙ rw (e) refl
+
+pub no-more-digits : (s : List ℕ) (i : ℕ) → length s ≤ i → all_digits (drop i s) ≡ true
+unfolding all_digits
+no-more-digits s i h = ap all_digits (drop_of_length-le s h)
 
 -- digits, by the library's word
 pub all_digits-is : (s : List ℕ) → list_all (within 48 57) s ≡ all_digits s
@@ -51,6 +64,33 @@ value-next s i v h = capped-value (drop (i + 1) s) (10 * v + (get_or s i 0 - 48)
 pub value-last : (s : List ℕ) (i v : ℕ) → length s ≤ i → v ≤ 4294967295 → capped (value_from v (drop i s)) ≡ v
 unfolding value_from
 value-last s i v h r = ap (λ (t : List ℕ). capped (value_from v t)) (drop_of_length-le s h) ∙ omega arith
+
+-- two texts
+pub same_next : (p s : List ℕ) (i : ℕ) → i < length p → i < length s → eqb (get_or p i 0) (get_or s i 0) ≡ true → same (drop i p) (drop i s) ≡ same (drop (i + 1) p) (drop (i + 1) s)
+unfolding same
+same_next p s i h g e = ap₂ same (rest p i h) (rest s i g) ∙ ap (λ (t : Bool). t && same (drop (i + 1) p) (drop (i + 1) s)) e
+
+pub other : (p s : List ℕ) (i : ℕ) → i < length p → i < length s → eqb (get_or p i 0) (get_or s i 0) ≡ false → same (drop i p) (drop i s) ≡ false
+unfolding same
+other p s i h g e = ap₂ same (rest p i h) (rest s i g) ∙ ap (λ (t : Bool). t && same (drop (i + 1) p) (drop (i + 1) s)) e
+
+pub same_end : (p s : List ℕ) (i : ℕ) → length p ≤ i → length s ≤ i → same (drop i p) (drop i s) ≡ true
+unfolding same
+same_end p s i h g = ap₂ same (drop_of_length-le p h) (drop_of_length-le s g)
+
+as_long : (p s : List ℕ) → same p s ≡ true → length s ≡ length p
+unfolding same
+as_long [] [] e = refl
+as_long [] (k ∷ s) e = absurd (let o : ◌≡◌ {A = ℕ} 0 1 = cc in omega arith)
+as_long (q ∷ p) [] e = absurd (let o : ◌≡◌ {A = ℕ} 0 1 = cc in omega arith)
+as_long (q ∷ p) (k ∷ s) e = ap suc (as_long p s ((and-eq-true_iff (eqb q k) (same p s)).0 e).1)
+
+pub not_as_long : (p s : List ℕ) → (length p ≡ length s → ⊥) → same p s ≡ false
+not_as_long p s differ = go (same p s) refl
+  where
+    go : (t : Bool) → same p s ≡ t → t ≡ false
+    go true e = absurd (differ (sym (as_long p s e)))
+    go false e = refl
 
 -- same texts, by the library's word
 pub same-is : (p s : List ℕ) → pointwise nat_eq p s ≡ same p s

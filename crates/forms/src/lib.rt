@@ -142,6 +142,8 @@ fn admits(p: &[u8], s: &[u8]) -> bool
 
 // Whether a line is like a form: as many fields, and each admitted. (Two texts at once, each with its own place, and an
 // answer where either ends: over two iterators of fields zipped, whether both end together would be one test more.)
+// (Never inlined: `past`, which asks it, is then a look at one letter where that decides.)
+#[inline(never)]
 fn is_like(form: &[u8], line: &[u8]) -> bool
     ensures { result ≡ like (fields_in form.now) (fields_in line.now) }
 {

@@ -41,14 +41,17 @@ impl Line {
         &self.bytes[..self.held]
     }
 
-    // A byte more of the line, where there is room for it.
-    fn hold(&mut self, b: u8)
-        ensures { Becomes (λ l. l ++ (b ∷ [])) self.old.bytes self.old.held self.new.bytes self.new.held }
+    // A byte more of the line of which so many are held, where there is room for it: how many are held then. (The count
+    // goes from byte to byte by value: kept in the struct, each byte waited for the one before to be stored.)
+    fn hold(&mut self, b: u8, held: usize) -> usize
+        requires { held ≤ 201 }
+        ensures { Becomes (λ l. l ++ (b ∷ [])) self.old.bytes held self.new.bytes result }
     {
-        if self.held < 201 {
-            self.bytes[self.held] = b;
-            self.held += 1;
+        if held < 201 {
+            self.bytes[held] = b;
+            return held + 1;
         }
+        held
     }
 }
 
@@ -75,7 +78,8 @@ fn write_echo<const N: usize>(echo: bool, line: &[u8], text: &mut Text<N>)
 #[tactic(auto, unfolding(crate::specs::Held::reply))]
 fn write_said<const N: usize>(echo: bool, line: &[u8], days: &mut [u32], text: &mut Text<N>)
     requires { (length line.now ≤ 201) × (places ≤ length days.old) × (length text.old + 3275781 ≤ N) }
-    ensures { text.new ≡ text.old ++ reply echo line.now }
+    ensures text { text.new ≡ text.old ++ reply echo line.now }
+    ensures few { length text.new ≤ length text.old + 3275781 }
 {
     write_echo(echo, line, text);
     queries::answer_line(line, days, text);
@@ -110,19 +114,21 @@ impl<W: Write> Desk<W> {
         self.to.put(self.said.as_slice());
     }
 
-    // One byte of the input: the end of the line, which is answered, or a byte more of it.
-    fn take_byte(&mut self, b: u8)
-        ensures becomes { Becomes (λ l. line_after l b) self.old.line.bytes self.old.line.held
-            self.new.line.bytes self.new.line.held }
-        ensures answers { Answers (λ l. said_at self.old.echo l b) self.old.line.bytes self.old.line.held self.new.said }
+    // One byte of the input, where so many are held of the line: the end of the line, which is answered, or a byte more
+    // of it. How many bytes are held then.
+    fn take_byte(&mut self, b: u8, held: usize) -> usize
+        requires { held ≤ 201 }
+        ensures becomes { Becomes (λ l. line_after l b) self.old.line.bytes held self.new.line.bytes result }
+        ensures answers { Answers (λ l. said_at self.old.echo l b) self.old.line.bytes held self.new.said }
         ensures echo { self.new.echo ≡ self.old.echo }
     {
         if b == b'\n' {
+            self.line.held = held;
             self.answer_held();
-            self.line = Line::new();
+            0
         } else {
             self.said.clear();
-            self.line.hold(b);
+            self.line.hold(b, held)
         }
     }
 
@@ -131,9 +137,11 @@ impl<W: Write> Desk<W> {
         ensures { Becomes (λ l. line_after_all l bytes.now) self.old.line.bytes self.old.line.held
             self.new.line.bytes self.new.line.held }
     {
+        let mut held = self.line.held;
         for &b in bytes {
-            self.take_byte(b);
+            held = self.take_byte(b, held);
         }
+        self.line.held = held;
     }
 
     // The next bytes of the input, as many as come: how many, and none at the input's end.

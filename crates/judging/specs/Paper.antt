@@ -60,6 +60,6 @@ text_held = 65537
 abbrev pub FrontIsEnough : Type 0
 FrontIsEnough = (s : List ℕ) → report (take text_held s) ≡ report s
 
--- whatever input the room has taken, what is written after a text is the report of the whole of it
+-- whatever input the room has taken, what is written after a text is the report of the whole of it, in so many bytes at most
 abbrev pub TextReported : (room : List ℕ) (n : ℕ) (text text' : List ℕ) → Type 0
-TextReported room n text text' = (s : List ℕ) → TakenInto room n s → text' ≡ text ++ report s
+TextReported room n text text' = (s : List ℕ) → TakenInto room n s → (text' ≡ text ++ report s) × (length text' ≤ length text + 2949159)

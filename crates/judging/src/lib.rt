@@ -124,7 +124,8 @@ fn write_refusal<const N: usize>(why: Reason, text: &mut Text<N>)
 // The report of a text: 45 bytes at most a line, 65,536 lines at most, and 39.
 fn write_report<const N: usize>(bytes: &[u8], text: &mut Text<N>)
     requires { length text.old + 2949159 ≤ N }
-    ensures { text.new ≡ text.old ++ report bytes.now }
+    ensures text { text.new ≡ text.old ++ report bytes.now }
+    ensures few { length text.new ≤ length text.old + 2949159 }
 {
     let mut vs = [0u8; 65536];
     match concordance::judge_text(bytes, &mut vs) {

@@ -1,6 +1,7 @@
-// The printed lines of "The listing program", written into a text, and by four public calls into a lent buffer. What
-// they are is said in the crate `penned`; the listing of a whole sheet is the crate `listed`. A range is asked for in
-// one word of a `requires` and by no type: rule's functions take plain numbers (docs/DECISIONS.md, 263).
+// The printed lines of "The listing program", written into a text, and by four public calls into a lent buffer; or put
+// into a lent buffer from a place on. What they are is said in the crate `penned`; the listing of a whole sheet is the
+// crate `listed`. A range is asked for in one word of a `requires` and by no type: rule's functions take plain numbers
+// (docs/DECISIONS.md, 263).
 #![tactic(auto)]
 
 ghost use Rattle.std.specs.Prelude.{◌≡◌, true, ◌++◌, ◌+◌, ◌*◌, ◌≤◌, length};
@@ -24,6 +25,12 @@ use dates::Date;
 use facts::{MonthFacts, YearFacts};
 use fields::Text;
 use rule::Reason;
+
+mod lent;
+
+pub use lent::{
+    put_day, put_day_fields, put_month, put_month_fields, put_refused, put_year, put_year_fields,
+};
 
 // The six fields of a month's line.
 #[tactic(auto, unfolding(fields::specs::Fields::followed))]

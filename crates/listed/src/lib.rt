@@ -1,4 +1,5 @@
-// The listing of a whole sheet, and the listing program's own code: a sheet is read from an input, its listing written to an output.
+// The listing of a whole sheet, and the listing program's own code: a sheet is read from an input, its listing written to an
+// output; and three lists' listing put into a lent buffer.
 #![tactic(auto)]
 
 ghost use Rattle.std.specs.Prelude.{◌+◌, ◌*◌, ◌≤◌, ◌≡◌, ◌++◌, length, OnOk};
@@ -12,6 +13,10 @@ ghost use Rattle.listed.specs.Paper.{input_held, InputListed};
 use fields::Text;
 use std::io;
 use std::io::{Read, Write};
+
+mod lent;
+
+pub use lent::put_lists;
 
 // The blocks of civil years. Three loops: a trait over what differs would take longer than they do, and its method no `const N`.
 fn write_years<const N: usize>(years: &[u16], text: &mut Text<N>)
@@ -65,7 +70,8 @@ pub fn write_lists<const N: usize>(years: &[u16], months: &[u32], days: &[u32], 
 // The listing of a sheet's bytes.
 fn list_sheet<const N: usize>(bytes: &[u8], text: &mut Text<N>)
     requires { length text.old + 789000 ≤ N }
-    ensures { text.new ≡ text.old ++ listing bytes.now }
+    ensures text { text.new ≡ text.old ++ listing bytes.now }
+    ensures few { length text.new ≤ length text.old + 789000 }
 {
     let mut years = [0u16; 1000];
     let mut months = [0u32; 1000];

@@ -70,7 +70,7 @@ pub fn move_date(
     ensures { MoveDate year number leap day_of_month days result }
 {
     let day = dates::day_of_date(year, number, leap, day_of_month)?;
-    match Way::from(days) {
+    match way_of(days) {
         Way::On(n) => on(day, n),
         Way::Back(n) => back(day, n),
     }

@@ -3,7 +3,7 @@ use Prim.Native.Nat.{ℕ, zero, suc, ◌+◌, ◌-◌, ◌*◌, ◌≤◌, ◌<�
 use native.Mathlib.Omega.{arith}
 use mathlib.Core.Path.{◌≡◌, refl, ap, sym, ◌∙◌}
 use mathlib.Core.List.{List, [], ◌∷◌, ◌++◌, append_assoc}
-use lib.ListN.{length, get_or, take, drop, length-append, length-drop, get_or-append}
+use lib.ListN.{length, get_or, take, drop, set, length-append, length-drop, get_or-append}
 use lib.Seq.{sets, drop-append-le, drop-cons, drop-drop, take_at, drop_at}
 use Rattle.std.specs.Prelude.{Result, Ok, Err}
 use Rattle.rule.specs.declared.Reason.{Reason}
@@ -38,6 +38,21 @@ unfolding eight_of
 eight-read s h b =
     let l = lay 14 (number 14 s) in
     sym (eight-front l (drop 14 s) (omega (arith, length-lay 14 (number 14 s)))) ∙ ap eight_in (lay-number 14 s h b)
+
+-- eight stores in a row are a run of eight
+module _ (out : List ℕ) (at a b c d e f g h : ℕ) where
+  pub eight-put :
+      set (set (set (set (set (set (set (set out at a) (at + 1) b) (at + 2) c) (at + 3) d) (at + 4) e) (at + 5) f) (at + 6) g) (at + 7) h
+      ≡ sets out at (a ∷ b ∷ c ∷ d ∷ e ∷ f ∷ g ∷ h ∷ [])
+  eight-put =
+      let e1 : at + 1 ≡ suc at = omega arith in
+      let e2 : at + 2 ≡ suc (suc at) = omega arith in
+      let e3 : at + 3 ≡ suc (suc (suc at)) = omega arith in
+      let e4 : at + 4 ≡ suc (suc (suc (suc at))) = omega arith in
+      let e5 : at + 5 ≡ suc (suc (suc (suc (suc at)))) = omega arith in
+      let e6 : at + 6 ≡ suc (suc (suc (suc (suc (suc at))))) = omega arith in
+      let e7 : at + 7 ≡ suc (suc (suc (suc (suc (suc (suc at)))))) = omega arith in
+      rw (e1, e2, e3, e4, e5, e6, e7)
 
 pub length-eight : (x : ℕ) → length (eight_of x) ≡ 8
 unfolding eight_of eight_in

@@ -19,6 +19,9 @@ use Rattle.planets.specs.declared.Conjunction.{Conjunction}
 use Rattle.planets.specs.declared.Next.{Next}
 use Rattle.planets.specs.declared.Pair.{Pair}
 use Rattle.planets.specs.Planets.{phase_number}
+use Rattle.rule.specs.Reasons.{Answer, is, refused, refused-with}
+use Rattle.drawer.specs.Drawer.{to_fill}
+use Rattle.offered.specs.Flat.{flat_filled}
 use Rattle.sheet.specs.declared.Counted.{Counted}
 use Rattle.offered.specs.declared.CDate.{CDate}
 use Rattle.offered.specs.declared.CDay.{CDay}
@@ -222,3 +225,9 @@ nothing-lost =
       counts = one-to-one given_counts counts_from (λ c. refl);
       length = λ a b e. ap (λ (r : CLength). r.length) e;
     }
+
+-- how many records an answer laid flat says
+pub count-is : (a : Answer ℕ) → (flat_filled a).count ≡ to_fill a
+count-is (is n) = refl
+count-is (refused k) = refl
+count-is (refused-with k i) = refl

@@ -15,6 +15,10 @@ each-planet P a b c d e (suc (suc (suc (suc zero)))) h = d
 each-planet P a b c d e (suc (suc (suc (suc (suc zero))))) h = e
 each-planet P a b c d e (suc (suc (suc (suc (suc (suc p)))))) h = absurd (omega (arith, h.1))
 
+-- the fifth, where it is none of the others
+pub last : (p : ℕ) → Planet p → (p ≡ 1 → ⊥) → (p ≡ 2 → ⊥) → (p ≡ 3 → ⊥) → (p ≡ 4 → ⊥) → p ≡ 5
+last p h a b c d = each-planet (λ q. p ≡ q → p ≡ 5) (λ e. absurd (a e)) (λ e. absurd (b e)) (λ e. absurd (c e)) (λ e. absurd (d e)) (λ e. e) p h refl
+
 pub good-planets : GoodPlanets
 unfolding numbers_of
 good-planets =

@@ -1,5 +1,5 @@
 -- What the calls make of the definitions: counts that fit, and each answer where its tests lead. Assumes nothing.
-use Prim.Native.Nat.{ℕ, ◌≤◌, ◌<◌}
+use Prim.Native.Nat.{ℕ, ◌≤◌, ◌<◌, ◌^◌}
 use native.Mathlib.Omega.{arith}
 use mathlib.Core.Path.{◌≡◌, refl, ap, sym, subst, ◌∙◌}
 use mathlib.Core.Bool.{true, false}
@@ -29,6 +29,12 @@ use Rattle.planets.proofs.Five.{good-planets}
 -- a test that fails: the number is beyond
 beyond : (a b : ℕ) → b < a → leb a b ≡ false
 beyond a b h = (fails (leb a b) (at_most a b)).1 (λ l. omega (arith, h, l))
+
+pub fits-32 : (k : ℕ) → k ≤ 14989859 → k < 2 ^ 32
+fits-32 k h = omega (arith, h)
+
+pub some-years : (n : Numbers) → Good n → 0 < n.years
+some-years n g = omega (arith, g.some, g.apart)
 
 -- a planet by its name is one of 1 to 5
 pub named : {p : ℕ} (it : Planet) → planet_number it ≡ p → within 1 5 p ≡ true
@@ -62,8 +68,8 @@ module _ (p : ℕ) {n : Numbers} (t : within 1 5 p ≡ true) (e : n ≡ numbers_
   pub good : Good n
   good = subst Good (sym e) (good-planets p ((within-true 1 5 p).0 t))
 
-  pub some-years : 0 < n.years
-  some-years = omega (arith, good.some, good.apart)
+  pub its-years : 0 < n.years
+  its-years = some-years n good
 
   falls : (k : ℕ) → conjunction_day n k ≡ conjunction_day (numbers_of p) k
   falls k = ap (λ (m : Numbers). conjunction_day m k) e

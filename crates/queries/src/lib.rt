@@ -1,4 +1,4 @@
-// The answer to a query and to a line, written after a text.
+// The answer to a query and to a line, written after a text; by `lent`, put into a lent buffer.
 #![tactic(auto)]
 
 ghost use Rattle.std.specs.Prelude.{◌≡◌, [], ◌∷◌, ◌++◌, ◌+◌, ◌≤◌, length};
@@ -8,6 +8,10 @@ ghost use Rattle.queries.specs.Queries.{unreadable, reading_of, mark_field, answ
 use asked::{Query, Slip};
 use fields::Text;
 use reading::{Field, Reading};
+
+pub mod lent;
+
+pub use lent::put_line;
 
 // `UNREADABLE`.
 #[tactic(auto, unfolding(crate::specs::Queries::unreadable, fields::specs::Fields::followed))]

@@ -80,6 +80,21 @@ impl Counted {
     }
 }
 
+// Where three sections of so many items end, by a function.
+pub fn end_of(c: Counted) -> usize
+    requires { FewOf c }
+    ensures { result ≡ bytes_of c }
+{
+    c.end()
+}
+
+// Whether three lent lists of these lengths have room for so many, by a function.
+pub fn has_room(c: Counted, years: usize, months: usize, days: usize) -> bool
+    ensures { result ≡ (leb c.years years && leb c.months months && leb c.days days) }
+{
+    c.has_room(years, months, days)
+}
+
 const YEARS: Items = Items {
     width: 2,
     least: 0,

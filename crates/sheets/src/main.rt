@@ -22,7 +22,8 @@ fn open_named<R: Files>(rt: &R, name: &[u8]) -> io::Result<R::File> {
     File::open(rt, text)
 }
 
-// The sheet of that name, listed.
+// The sheet of that name, listed. (Never inlined: its room for a listing would be taken by `main`, where no argument is given too.)
+#[inline(never)]
 fn list_named<R: Files, W: Write>(rt: &R, name: &[u8], to: &mut W) -> io::Result<()> {
     say(name, to)?;
     let Ok(mut file) = open_named(rt, name) else {

@@ -21,7 +21,7 @@ pub loop-j-preserved : goal.loop-j-preserved
 loop-j-preserved g c = λ xs h.
     let j = c.loop-j.j in
     let one = answered (get_or xs j 0) in
-    let bytes : c.as_slice.result.now ≡ one = c.as_slice.ensures ∙ c.answer_reading.ensures xs h ∙ ap (λ (t : List ℕ). t ++ one) c.clear.ensures in
+    let bytes : c.as_slice.result.now ≡ one = c.as_slice.ensures ∙ c.answer_reading.ensures.text xs h ∙ ap (λ (t : List ℕ). t ++ one) c.clear.ensures in
     subst (Appends _ _) (sym (each_next answered xs j (omega (arith, h.many))))
     (Appends-trans _ _ _ _ _ (c.loop-j.invariant xs h) (subst (Appends _ _) bytes c.in_ok-write_all.ensures.bytes))
 

@@ -3,6 +3,6 @@ use Rattle.std.proofs.Common.{refl, append_assoc, ◌∙◌}
 use Rattle.answered.specs.Answers.{answer_to_reading}
 use Rattle.answered.proofs.write_answer.Goals as goal
 
-pub returns : goal.returns
+pub returns-clause-text : goal.returns-clause-text
 unfolding answer_to_reading
-returns g c = c.answer_search.ensures.text ∙ rw (c.write_reading.ensures.text, c.from.ensures, append_assoc) refl
+returns-clause-text g c = c.answer_search.ensures.text ∙ rw (c.write_reading.ensures.text, c.from.ensures, append_assoc) refl

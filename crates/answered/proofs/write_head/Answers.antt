@@ -12,7 +12,7 @@ write_lists-requires g c =
 pub returns-in-Err : goal.returns-in-Err
 returns-in-Err g c =
     let back = sheet-refused c.read_new.ensures c.in-Err.is (omega arith) (omega arith) (omega arith) (omega arith) in
-    record { head = rw (back) c.write_refused.ensures.text; few = omega arith; readings = rw (back) (none-held _) }
+    record { head = rw (back) c.write_refused.ensures.text; room = omega arith; few = omega arith; readings = rw (back) (none-held _) }
 
 pub returns-in-Ok : goal.returns-in-Ok
 returns-in-Ok g c =
@@ -21,6 +21,7 @@ returns-in-Ok g c =
     let read = sheet-says p i in
     record {
       head = rw (read, ← all_there p i) c.write_lists.ensures.text;
+      room = c.write_lists.ensures.few;
       few = few p i;
       readings = rw (read) (record { many = sym (how-many p i); numbers = numbers-there p i });
     }

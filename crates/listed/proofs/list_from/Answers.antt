@@ -11,7 +11,7 @@ returns g c =
     let p = c.read_full-n.ensures in
     let s = take c.read_full-n.result c.read_full-n.new.bytes in
     let bytes : c.as_slice.result.now ≡ listing s =
-    c.as_slice.ensures ∙ c.list_taken.ensures s (taken-itself _ c.read_full-n.result p.bound) ∙ ap (λ (t : List ℕ). t ++ listing s) c.new-text.ensures in (
+    c.as_slice.ensures ∙ (c.list_taken.ensures s (taken-itself _ c.read_full-n.result p.bound)).0 ∙ ap (λ (t : List ℕ). t ++ listing s) c.new-text.ensures in (
       s,
       p.consumes,
       subst (λ l. OnOk c.write_all.result (Appends (g.W.Write.contents c.args.to.now) (g.W.Write.contents c.write_all.new.self) l)) bytes c.write_all.ensures.bytes,

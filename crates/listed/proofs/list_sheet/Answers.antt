@@ -9,11 +9,11 @@ pub write_lists-requires : goal.write_lists-requires
 write_lists-requires g c =
     let p = c.read_sheet in (search rules, (subst GoodLists (sym (all_there p.ensures c.in-Ok.is)) (all-good p.ensures c.in-Ok.is), omega arith))
 
-pub returns-in-Err : goal.returns-in-Err
+pub returns-in-Err-clause-text : goal.returns-in-Err-clause-text
 unfolding listing
-returns-in-Err g c =
+returns-in-Err-clause-text g c =
     let p = c.read_sheet in rw (sheet-refused p.ensures c.in-Err.is (omega arith) (omega arith) (omega arith)) c.write_refused.ensures.text
 
-pub returns-in-Ok : goal.returns-in-Ok
+pub returns-in-Ok-clause-text : goal.returns-in-Ok-clause-text
 unfolding listing
-returns-in-Ok g c = let p = c.read_sheet in rw (sheet-says p.ensures c.in-Ok.is, ← all_there p.ensures c.in-Ok.is) c.write_lists.ensures.text
+returns-in-Ok-clause-text g c = let p = c.read_sheet in rw (sheet-says p.ensures c.in-Ok.is, ← all_there p.ensures c.in-Ok.is) c.write_lists.ensures.text

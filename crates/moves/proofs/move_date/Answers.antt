@@ -8,7 +8,7 @@ use Rattle.moves.specs.Moves.{way_of}
 use Rattle.moves.specs.declared.Way.TheVariants.{On, Back}
 use Rattle.moves.proofs.Landing.{moved-refused, arrives}
 use Rattle.moves.proofs.move_date.Goals as goal
-use Rattle.moves.proofs.move_date.Goals.{In_ok-day, After-from}
+use Rattle.moves.proofs.move_date.Goals.{In_ok-day, After-way_of}
 
 -- the date's own reason, handed on
 pub returns-in_err-day : goal.returns-in_err-day
@@ -21,22 +21,22 @@ in-range c =
     (found-date s.year s.number s.leap s.day_of_month c.in_ok-day.day (sym c.in_ok-day.ensures)).0
 
 -- the number's way, read through its bits
-way : (c : After-from) → c.from.result ≡ way_of c.args.days
-way c = c.from.ensures ∙ ap way_of (to_z-of_z w64 c.args.days c.ranges.days)
+way : (c : After-way_of) → c.way_of.result ≡ way_of c.args.days
+way c = c.way_of.ensures ∙ ap way_of (to_z-of_z w64 c.args.days c.ranges.days)
 
 pub returns-in-On : goal.returns-in-On
 returns-in-On c =
     let a = c.args in
     let at = goal.at.returns-in-On c in
     c.on.ensures
-    ∙ arrives a.year a.number a.leap a.day_of_month a.days c.in_ok-day.day (On c.in-On.n) (sym c.in_ok-day.ensures) (sym (way at.After-from) ∙ c.in-On.is)
+    ∙ arrives a.year a.number a.leap a.day_of_month a.days c.in_ok-day.day (On c.in-On.n) (sym c.in_ok-day.ensures) (sym (way at.After-way_of) ∙ c.in-On.is)
 
 pub returns-in-Back : goal.returns-in-Back
 returns-in-Back c =
     let a = c.args in
     let at = goal.at.returns-in-Back c in
     c.back.ensures
-    ∙ arrives a.year a.number a.leap a.day_of_month a.days c.in_ok-day.day (Back c.in-Back.n) (sym c.in_ok-day.ensures) (sym (way at.After-from) ∙ c.in-Back.is)
+    ∙ arrives a.year a.number a.leap a.day_of_month a.days c.in_ok-day.day (Back c.in-Back.n) (sym c.in_ok-day.ensures) (sym (way at.After-way_of) ∙ c.in-Back.is)
 
 pub on-requires : goal.on-requires
 on-requires c = in-range (goal.at.on-requires c).In_ok-day

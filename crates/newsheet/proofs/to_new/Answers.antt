@@ -1,7 +1,8 @@
 -- `newsheet::to_new` meets its contract. Assumes nothing.
 use native.Mathlib.Omega.{arith}
-use mathlib.Core.Path.{sym}
+use mathlib.Core.Path.{sym, ◌∙◌}
 use Rattle.std.proofs.lemmas.Result.{err_from_is_err_and}
+use Rattle.rule.proofs.Stores.{from_front}
 use Rattle.rule.specs.declared.Reason.TheVariants.{LentTooShort}
 use Rattle.newsheet.proofs.Calls.{to-new-refused, to-new-bad, to-new-short, to-new-copied}
 use Rattle.newsheet.proofs.to_new.Goals as goal
@@ -17,4 +18,5 @@ returns-in_err-check_sheet c =
 
 pub returns : goal.returns
 returns c =
-    rw (c.copy_from_slice.ensures.after) (to-new-copied _ c.args.out.now _ (sym c.in_ok-check_sheet.ensures) (omega (arith, c.if-out-n.false)))
+    rw (c.copy_bytes.ensures ∙ from_front c.args.bytes.now c.args.out.now (omega (arith, c.if-out-n.false)))
+    (to-new-copied _ c.args.out.now _ (sym c.in_ok-check_sheet.ensures) (omega (arith, c.if-out-n.false)))

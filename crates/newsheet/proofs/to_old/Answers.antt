@@ -1,7 +1,11 @@
 -- `newsheet::to_old` meets its contract. Assumes nothing.
+use Prim.Native.Nat.{◌-◌}
 use native.Mathlib.Omega.{arith}
-use mathlib.Core.Path.{sym}
+use mathlib.Core.Path.{◌≡◌, sym, ◌∙◌}
+use lib.ListN.{length, take}
+use lib.Seq.{length-take-le}
 use Rattle.std.proofs.lemmas.Result.{err_from_is_err_and}
+use Rattle.rule.proofs.Stores.{from_front}
 use Rattle.rule.specs.declared.Reason.TheVariants.{LentTooShort, ReadingsPresent}
 use Rattle.newsheet.proofs.Calls.{to-old-refused, to-old-bad, two-at-least, to-old-present, to-old-short, to-old-copied}
 use Rattle.newsheet.proofs.to_old.Goals as goal
@@ -25,4 +29,8 @@ returns-in_err-c c =
 
 pub returns : goal.returns
 returns c =
-    rw (c.copy_from_slice.ensures.after) (to-old-copied _ c.args.out.now c.in_ok-c.c (sym c.in_ok-c.ensures) (omega (arith, c.if-c-gt0.false)) c.if-out-n.false)
+    let s = c.args.bytes.now in
+    let n = length s - 2 in
+    let e : length (take n s) ≡ n = length-take-le n s (omega arith) in
+    rw (c.copy_bytes.ensures ∙ from_front (take n s) c.args.out.now (omega (arith, e, c.if-out-n.false)), e)
+    (to-old-copied _ c.args.out.now c.in_ok-c.c (sym c.in_ok-c.ensures) (omega (arith, c.if-c-gt0.false)) c.if-out-n.false)

@@ -4,7 +4,7 @@ use mathlib.Core.Path.{ap, ◌∙◌}
 use Rattle.rule.specs.Reasons.{refused, reason_number, is}
 use Rattle.rule.proofs.Answers.{handed_on}
 use Rattle.planets.specs.Planets.{numbers_of}
-use Rattle.planets.proofs.Made.{named, good, some-years, with_count, next-no-planet, next-no-day, small, next-none, next_one}
+use Rattle.planets.proofs.Made.{named, good, its-years, with_count, next-no-planet, next-no-day, small, next-none, next_one}
 use Rattle.planets.proofs.next_conjunction.Goals as goal
 
 pub returns-in_err-try_from : goal.returns-in_err-try_from
@@ -21,7 +21,7 @@ returns-then-day-gt14989859 c =
 pub next_count-k-requires : goal.next_count-k-requires
 next_count-k-requires c =
     let at = c.in_ok-try_from in
-    (some-years c.args.planet (named _ at.ensures) (c.numbers-numbers.ensures ∙ ap numbers_of at.ensures), c.if-day-gt14989859.false)
+    (its-years c.args.planet (named _ at.ensures) (c.numbers-numbers.ensures ∙ ap numbers_of at.ensures), c.if-day-gt14989859.false)
 
 pub conjunction_day-requires : goal.conjunction_day-requires
 conjunction_day-requires c =

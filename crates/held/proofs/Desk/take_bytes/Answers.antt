@@ -8,7 +8,7 @@ pub loop-b-init : goal.loop-b-init
 loop-b-init g c = no_byte c.args.bytes.now _ _ (search rules)
 
 pub loop-b-preserved : goal.loop-b-preserved
-loop-b-preserved g c = next-byte c.args.bytes.now _ _ {i = c.loop-b.b-index} (omega arith) c.loop-b.invariant c.take_byte.ensures.becomes
+loop-b-preserved g c = next-byte c.args.bytes.now _ _ {i = c.loop-b.b-index} (omega arith) c.loop-b.invariant c.take_byte-held.ensures.becomes
 
 pub returns : goal.returns
 returns g c = all-bytes c.args.bytes.now _ _ {i = c.loop-b.b-index} (omega arith) c.loop-b.invariant

@@ -5,4 +5,4 @@ use Rattle.held.proofs.Desk.take_bytes.Given as goal
 
 abbrev pub invariant-loop-b : goal.invariant-loop-b
 invariant-loop-b g l =
-    Becomes (λ x. line_after_all x (take l.b-index l.bytes)) l.initial.self.line.bytes l.initial.self.line.held l.self.line.bytes l.self.line.held
+    Becomes (λ x. line_after_all x (take l.b-index l.bytes)) l.initial.self.line.bytes l.initial.self.line.held l.self.line.bytes l.held
